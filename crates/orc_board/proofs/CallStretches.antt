@@ -12,7 +12,7 @@ use Rattle.orc_history.specs.QueueHistory.{agent_of_entry, entry_of_dequeue}
 use Rattle.orc_history.specs.SetHistory.{agent_of_set_entry}
 use Rattle.orc_board.specs.Stretches.{View, Kind, Stretch, Did, Licensed, of_queue, of_set, refusal, is_own_move}
 use Rattle.orc_board.specs.Table.{EndsWith, took_of}
-use Rattle.orc_board.proofs.Chains.{Stretch-trans, licensed_from}
+use Rattle.orc_board.proofs.Shares.{Stretch-trans, licensed_from}
 use Rattle.orc_board.proofs.ListFacts.{eq-false}
 
 abbrev pub is_move : QueueEntry → Bool

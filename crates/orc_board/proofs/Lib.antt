@@ -1,5 +1,5 @@
 pub mod ListFacts
-pub mod Chains
+pub mod Shares
 pub mod CallStretches
 pub mod Rows
 pub mod Workers

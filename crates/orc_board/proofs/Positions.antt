@@ -12,11 +12,11 @@ use Rattle.orc_jobs.specs.declared.line.Line.TheVariants as line
 use Rattle.orc_board.specs.declared.replies.PostReply.{PostReply}
 use Rattle.orc_board.specs.declared.replies.PostWord.{PostWord}
 use Rattle.orc_board.specs.declared.replies.PostWord.TheVariants as word
-use Rattle.orc_board.specs.Stretches.{View, Row, Share, Licensed, Chain, of_queue}
+use Rattle.orc_board.specs.Stretches.{View, Row, Share, Licensed, DidAll, of_queue}
 use Rattle.orc_board.specs.Table.{PostRow}
 use Rattle.orc_board.specs.Follows.{Pointwise, PosterRow}
 use Rattle.orc_board.proofs.PairLists.{puts_of}
-use Rattle.orc_board.proofs.Chains.{chain_stretch}
+use Rattle.orc_board.proofs.Shares.{DidAll-stretch}
 
 pub puts_counted : (es : List QueueEntry) → puts_in es ≡ length (puts_of es)
 puts_counted [] = refl
@@ -37,16 +37,16 @@ no_place {A} q many agent why j k h e =
     let told : Licensed q agent (Some queue_refused.Positions) j k = subst (λ (w : Option QueueRefused). Licensed q agent w j k) e h in
     many agent k told.0 told.1 told.5
 
-pub chain_places : {A : Type 0} (q : View A QueueEntry QueueRefused) (rush : Bool) → ManyPuts q
+pub DidAll-places : {A : Type 0} (q : View A QueueEntry QueueRefused) (rush : Bool) → ManyPuts q
     → (agent : ℕ) (rows : List Row) (j k : List A)
-    → Chain of_queue q agent (λ (row : Row). row.queues rush) rows j k → AllByRecursion (NoPlace rush (puts_in (q.history k))) rows
-chain_places q rush many agent [] j k c = tt
-chain_places q rush many agent (row ∷ rows) j k (i, one, c) =
-    let rest = chain_stretch of_queue q agent (λ (r : Row). r.queues rush) rows i k c in (
+    → DidAll of_queue q agent (λ (row : Row). row.queues rush) rows j k → AllByRecursion (NoPlace rush (puts_in (q.history k))) rows
+DidAll-places q rush many agent [] j k c = tt
+DidAll-places q rush many agent (row ∷ rows) j k (i, one, c) =
+    let rest = DidAll-stretch of_queue q agent (λ (r : Row). r.queues rush) rows i k c in (
       (λ e.
           let here : 2 ^ 62 ≤ puts_in (q.history i) = no_place q many agent (row.queues rush).refused j i one.licence e in
           omega (arith, here, ap puts_in rest.is, puts_in-append (q.history i) rest.part)),
-      chain_places q rush many agent rows i k c,
+      DidAll-places q rush many agent rows i k c,
     )
 
 -- which queue refused

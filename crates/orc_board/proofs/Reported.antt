@@ -23,7 +23,7 @@ use Rattle.orc_board.proofs.ListFacts.{AllByRecursion-append, AllByRecursion-map
 use Rattle.orc_board.proofs.Wholes.{queue_of_rows, Works-queue}
 use Rattle.orc_board.proofs.PairLists.{puts_of, tooks_of, legal_lists, legal_positions, rows_pairs, took_pairs, claims_of, lines_exist}
 use Rattle.orc_board.proofs.WorkerCases.{own_whole, worker_cases}
-use Rattle.orc_board.proofs.Positions.{ManyPuts, puts_counted, chain_places, no_positions}
+use Rattle.orc_board.proofs.Positions.{ManyPuts, puts_counted, DidAll-places, no_positions}
 use Rattle.orc_board.proofs.Orders.{posters_in_range, no_posts, above_zero, posted_once, lines_rise}
 use Rattle.orc_board.proofs.Keyed.{same_by_keys, by_key_below}
 
@@ -376,5 +376,5 @@ no_positions_all qs s lines posters takers posts takes k n many short few f =
           let high : p ≤ posters = omega arith in
           let w = f.posting p g high in
           no_positions lines p puts low (posts_of p posts) w.rows w.table
-          (λ rush. chain_places (beside (qs rush) C) rush (many rush) p w.rows [] (k rush) (w.works.queues rush))
+          (λ rush. DidAll-places (beside (qs rush) C) rush (many rush) p w.rows [] (k rush) (w.works.queues rush))
     ]))

@@ -16,7 +16,7 @@ use Rattle.orc_board.specs.declared.replies.PostWord.{PostWord}
 use Rattle.orc_board.specs.declared.replies.TakeReply.{TakeReply}
 use Rattle.orc_board.specs.Stretches.{View, of_queue, of_set, Stretch, Share, Did, just, nothing, refusal, Replied}
 use Rattle.orc_board.specs.Table.{IsJob, IsNoJob, IsSkip, AreSkips, Closes, TakenRow, EndsWith, TakeEnds, TookLast, taken_of, Next, Opened, Dropped, JobPart, JobRow, DropPart, DropRow, PostRow, IsWordOf, IsPlacedAt, answer_of, took_of, in_its}
-use Rattle.orc_board.proofs.Chains.{Stretch-trans, Stretch-refl, Did-just, Did-nothing}
+use Rattle.orc_board.proofs.Shares.{Stretch-trans, Stretch-refl, Did-just, Did-nothing}
 use Rattle.orc_board.proofs.CallStretches.{ends_later}
 use Rattle.orc_board.proofs.ListFacts.{AllByRecursion-append}
 

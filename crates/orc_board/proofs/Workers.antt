@@ -14,7 +14,7 @@ use Rattle.orc_board.specs.declared.replies.TakeReply.{TakeReply}
 use Rattle.orc_board.specs.Stretches.{View, Row, Replied, empty_row, of_queue}
 use Rattle.orc_board.specs.Table.{PostRow, TakenRow, EndsWith, TakeEnds}
 use Rattle.orc_board.specs.Follows.{Pointwise, Posting, Taking, TakingRest, PosterRow, TakerRow, own_records}
-use Rattle.orc_board.proofs.Chains.{Works-none, Works-row, Stands-empty, chain_stretch, own_of_rows}
+use Rattle.orc_board.proofs.Shares.{Works-none, Works-row, Stands-empty, DidAll-stretch, own_of_rows}
 use Rattle.orc_board.proofs.CallStretches.{ends_later}
 use Rattle.orc_board.proofs.ListFacts.{eq-yes, eq-no}
 
@@ -138,5 +138,5 @@ pub taking_last : {A B : Type 0} (qs : Bool → View A QueueEntry QueueRefused) 
     → Taking qs s lines taker agent replies j m k n → now ≡ agent → TakeEnds qs now None k k2 → TakeEnds qs agent None j k2
 taking_last qs s lines taker agent now replies j k k2 m n p e ends = λ x.
     ends_later (qs x) agent (Empty agent) (own_of_rows (λ (row : Row). row.queues x) p.rows) (j x) (k x) (k2 x)
-    (chain_stretch of_queue (qs x) agent (λ (row : Row). row.queues x) p.rows (j x) (k x) (p.works.queues x))
+    (DidAll-stretch of_queue (qs x) agent (λ (row : Row). row.queues x) p.rows (j x) (k x) (p.works.queues x))
     (subst (λ (a : ℕ). EndsWith (qs x) a (Empty a) (k x) (k2 x)) e (ends x))

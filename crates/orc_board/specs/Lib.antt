@@ -4,5 +4,5 @@ pub mod Table
 pub mod Follows
 pub mod Reportable
 pub mod Runs
-pub mod Reserved
+pub mod ListWithRoom
 pub mod DeskCalls

@@ -98,9 +98,9 @@ pub record Did {A E W : Type 0} (kind : Kind E) (x : View A E W) (worker : ℕ) 
   pub licence : Licensed x worker share.refused j k
 
 -- of these rows the shares of one container stand one after another in its journal, and then the worker does nothing there
-abbrev pub Chain : {A E W X : Type 0} → Kind E → View A E W → ℕ → (X → Share E W) → List X → List A → List A → Type 0
-Chain kind x worker share [] j k = Did kind x worker nothing j k
-Chain {A} kind x worker share (row ∷ rows) j k = (i : List A) × Did kind x worker (share row) j i × Chain kind x worker share rows i k
+abbrev pub DidAll : {A E W X : Type 0} → Kind E → View A E W → ℕ → (X → Share E W) → List X → List A → List A → Type 0
+DidAll kind x worker share [] j k = Did kind x worker nothing j k
+DidAll {A} kind x worker share (row ∷ rows) j k = (i : List A) × Did kind x worker (share row) j i × DidAll kind x worker share rows i k
 
 -- what one reply says of the queue, at false, of the rush queue, at true, and of the set
 pub record Row : Type 0 where
@@ -140,5 +140,5 @@ pub record Replied {A B : Type 0} (qs : Bool → View A QueueEntry QueueRefused)
 -- these rows are all that the worker did
 pub record Works {A B : Type 0} (qs : Bool → View A QueueEntry QueueRefused) (s : View B SetEntry ListRefused) (worker : ℕ) (rows : List Row)
     (j : Bool → List A) (m : List B) (k : Bool → List A) (n : List B) : Type 0 where
-  pub queues : (rush : Bool) → Chain of_queue (qs rush) worker (λ (row : Row). row.queues rush) rows (j rush) (k rush)
-  pub set : Chain of_set s worker (λ (row : Row). row.set) rows m n
+  pub queues : (rush : Bool) → DidAll of_queue (qs rush) worker (λ (row : Row). row.queues rush) rows (j rush) (k rush)
+  pub set : DidAll of_set s worker (λ (row : Row). row.set) rows m n

@@ -1,18 +1,24 @@
 //! Calls that are made again until they are answered.
-ghost use Rattle.std.specs.Prelude.{◌≢◌, [], ◌∷◌, IfOk, IfErr, Ok, Err};
+ghost use Rattle.std.specs.Prelude.{◌≡◌, ◌≢◌, [], ◌∷◌, IfOk, IfErr, Ok, Err};
 ghost use Rattle.orc_history.specs.declared.queue.QueueEntry.{QueueEntry};
 ghost use Rattle.orc_history.specs.declared.queue.QueueRefused.{QueueRefused};
 ghost use Rattle.orc_history.specs.declared.set.SetEntry.{SetEntry};
 ghost use Rattle.orc_history.specs.declared.set.ListRefused.{ListRefused};
 ghost use Rattle.orc_history.specs.QueueHistory.{entry_of_dequeue};
 ghost use Rattle.orc_board.specs.DeskCalls.{KeepsQueueAgent, KeepsSetAgent, QueueCall, QueueEndsWith, QueueRefuses, SetCall, SetRefuses};
+ghost use Rattle.orc_board.specs.Stretches.{turns};
 ghost use Rattle.orc_board.specs.Table.{took_of};
 
 use orc_history::{ListRefused, QueueRefused, SharedQueue, SharedSet};
 use std::sync::Wait;
 
-// How many turns each call of a container has.
-const TURNS: u64 = 64;
+/// How many turns each call of a container has.
+pub const TURNS: u64 = 64;
+
+/// A law, with nothing to run: a call has as many turns as the refusals are licensed for.
+pub fn calls_have_their_turns()
+    ensures { TURNS ≡ turns }
+{}
 
 // Inserts the key.
 pub(crate) fn insert_key<R: Wait, S: SharedSet>(

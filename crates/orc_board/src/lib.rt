@@ -8,7 +8,7 @@ mod lists;
 mod loops;
 mod replies;
 
-pub use again::{put_job, take_job};
+pub use again::{TURNS, calls_have_their_turns, put_job, take_job};
 pub use desk::{Desk, drop_line, post_line, take_one};
 pub use gate::{Gate, OpenGate};
 pub use lists::{PostList, ReplyList, TakeList};

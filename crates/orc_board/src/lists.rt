@@ -22,9 +22,9 @@ pub type TakeList = ReplyList<TakeReply>;
 impl<T> Model for ReplyList<T> {
     ghost use Rattle.std.specs.Prelude.{◌+◌, ◌≤◌, vec_len};
     ghost use Rattle.std.specs.Vec.{vec_capacity};
-    ghost use Rattle.orc_board.specs.Reserved.{Reserved};
+    ghost use Rattle.orc_board.specs.ListWithRoom.{ListWithRoom};
 
-    ghost Value = { Reserved T };
+    ghost Value = { ListWithRoom T };
 
     ghost view = { λ l. record { items = l.items.items; spare = l.spare } };
 

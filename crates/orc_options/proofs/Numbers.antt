@@ -9,43 +9,44 @@ use Rattle.clap.specs.Values.{IsUnsignedIn}
 use Rattle.clap.specs.ValueTests.{is_unsigned_in}
 use Rattle.clap.proofs.ValueTestLemmas.{Accepts-accepts, accepts-Accepts}
 use Rattle.clap.specs.declared.builder.value_parser.ValueParser.TheVariants as vp
+use Rattle.orc_options.specs.Ranges.{Range}
 use Rattle.orc_options.specs.Settings.{number_in}
 
 -- a number in the range is that of its text
 pub number_found : {E : Type 0} (G : List ℕ → Result ℕ E → Type 0) → ((t : List ℕ) (r : Result ℕ E) → G t r → ParsesUnsigned 32 10 t r)
-    → (low high default n : ℕ) (o : Option (List ℕ)) (r : Option ℕ) → r ≡ Some n → low ≤ n → n ≤ high → n < 2 ^ 32
-    → (o ≡ None → r ≡ None) → ((t : List ℕ) → o ≡ Some t → ReadsOne G t r) → n ≡ number_in low high default o
-number_found G parses low high default n None r e lo hi small none some = let bad : ◌≡◌ {A = Option ℕ} None (Some n) = sym (none refl) ∙ e in cc bad
-number_found G parses low high default n (Some t) r e lo hi small none some =
+    → (range : Range) (n : ℕ) (o : Option (List ℕ)) (r : Option ℕ) → r ≡ Some n → range.low ≤ n → n ≤ range.high → n < 2 ^ 32
+    → (o ≡ None → r ≡ None) → ((t : List ℕ) → o ≡ Some t → ReadsOne G t r) → n ≡ number_in range o
+number_found G parses range n None r e lo hi small none some = let bad : ◌≡◌ {A = Option ℕ} None (Some n) = sym (none refl) ∙ e in cc bad
+number_found G parses range n (Some t) r e lo hi small none some =
     let p = parses t (Ok n) (rw e at (some t refl)) in
-    let fits : IsUnsignedIn low high t = (p.0.0, rw (← p.1) (omega arith), rw (← p.1) lo, rw (← p.1) hi) in
-    let passes : is_unsigned_in low high t ≡ true = Accepts-accepts false (vp.Unsigned low high) t fits in
+    let fits : IsUnsignedIn range.low range.high t = (p.0.0, rw (← p.1) (omega arith), rw (← p.1) lo, rw (← p.1) hi) in
+    let passes : is_unsigned_in range.low range.high t ≡ true = Accepts-accepts false (vp.Unsigned range.low range.high) t fits in
     rw passes p.1
 
--- a number out of the range, and none, leave the default
+-- a number out of the range, and none, leave the least
 pub number_missed : {E : Type 0} (G : List ℕ → Result ℕ E → Type 0) → ((t : List ℕ) (r : Result ℕ E) → G t r → ParsesUnsigned 32 10 t r)
-    → (low high default n : ℕ) (o : Option (List ℕ)) (r : Option ℕ) → r ≡ Some n → ((low ≤ n) → (n ≤ high) → ⊥)
-    → (o ≡ None → r ≡ None) → ((t : List ℕ) → o ≡ Some t → ReadsOne G t r) → default ≡ number_in low high default o
-number_missed G parses low high default n None r e out none some = refl
-number_missed G parses low high default n (Some t) r e out none some =
+    → (range : Range) (n : ℕ) (o : Option (List ℕ)) (r : Option ℕ) → r ≡ Some n → ((range.low ≤ n) → (n ≤ range.high) → ⊥)
+    → (o ≡ None → r ≡ None) → ((t : List ℕ) → o ≡ Some t → ReadsOne G t r) → range.low ≡ number_in range o
+number_missed G parses range n None r e out none some = refl
+number_missed G parses range n (Some t) r e out none some =
     let p = parses t (Ok n) (rw e at (some t refl)) in
-    elim (cases_Bool (is_unsigned_in low high t)) [
+    elim (cases_Bool (is_unsigned_in range.low range.high t)) [
       | inl passes ↦
-          let fits = accepts-Accepts false (vp.Unsigned low high) t passes in
+          let fits = accepts-Accepts false (vp.Unsigned range.low range.high) t passes in
           absurd (out (rw p.1 fits.2) (rw p.1 fits.3))
       | inr fails ↦ rw fails refl
     ]
 
 pub number_none : {E : Type 0} (G : List ℕ → Result ℕ E → Type 0) → ((t : List ℕ) (r : Result ℕ E) → G t r → ParsesUnsigned 32 10 t r)
-    → (low high default : ℕ) (o : Option (List ℕ)) (r : Option ℕ) → r ≡ None → high < 2 ^ 32
-    → ((t : List ℕ) → o ≡ Some t → ReadsOne G t r) → default ≡ number_in low high default o
-number_none G parses low high default None r e small some = refl
-number_none G parses low high default (Some t) r e small some =
+    → (range : Range) (o : Option (List ℕ)) (r : Option ℕ) → r ≡ None → range.high < 2 ^ 32
+    → ((t : List ℕ) → o ≡ Some t → ReadsOne G t r) → range.low ≡ number_in range o
+number_none G parses range None r e small some = refl
+number_none G parses range (Some t) r e small some =
     let got = rw e at (some t refl) in
     let p = parses t (Err got.0) got.1 in
-    elim (cases_Bool (is_unsigned_in low high t)) [
+    elim (cases_Bool (is_unsigned_in range.low range.high t)) [
       | inl passes ↦
-          let fits = accepts-Accepts false (vp.Unsigned low high) t passes in
+          let fits = accepts-Accepts false (vp.Unsigned range.low range.high) t passes in
           absurd (p (fits.0, omega (arith, fits.3)))
       | inr fails ↦ rw fails refl
     ]

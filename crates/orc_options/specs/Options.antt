@@ -1,15 +1,17 @@
 -- The one command, as `clap` sees it.
-use Rattle.std.specs.Prelude.{◌≡◌, ◌∷◌, [], List, Some, codes, map, pos, true, ℕ}
+use Rattle.std.specs.Prelude.{◌≡◌, ◌∷◌, [], List, Some, codes, map, pos, true}
 use Rattle.std.specs.Borrow.{Bor}
 use Rattle.clap.specs.Words.{App, Rule, Text, new_app, new_rule, with_rule}
 use Rattle.clap.specs.declared.builder.value_parser.ValueParser.TheVariants as vp
+use Rattle.orc_options.specs.Ranges.{Range}
+use Rattle.orc_options.specs.Ranges as ranges
 
--- an option with a number from low to high
-abbrev pub number_rule : Text → Text → ℕ → ℕ → Rule
-number_rule id default low high = record (new_rule id) {
+-- an option with a number in a range
+abbrev pub number_rule : Text → Range → Rule
+number_rule id range = record (new_rule id) {
   long = Some id;
-  parser = Some (vp.Signed (pos low) (pos high));
-  defaults = default ∷ [];
+  parser = Some (vp.Signed (pos range.low) (pos range.high));
+  defaults = range.default ∷ [];
 }
 
 -- an option with one of these words
@@ -33,13 +35,13 @@ command_app modes answers sets =
     (choice_rule (codes "mode") (codes "run") modes))
     (choice_rule (codes "rest") (codes "no") answers))
     (choice_rule (codes "set") (codes "list") sets))
-    (number_rule (codes "posters") (codes "1") 1 8))
-    (number_rule (codes "takers") (codes "0") 0 7))
-    (number_rule (codes "stages") (codes "2") 1 6))
-    (number_rule (codes "rows") (codes "65535") 8 65535))
-    (number_rule (codes "buckets") (codes "16") 1 256))
-    (number_rule (codes "seed") (codes "1") 1 4294967295))
-    (number_rule (codes "lines") (codes "20000") 1 60000)
+    (number_rule (codes "posters") ranges.posters))
+    (number_rule (codes "takers") ranges.takers))
+    (number_rule (codes "stages") ranges.stages))
+    (number_rule (codes "rows") ranges.rows))
+    (number_rule (codes "buckets") ranges.buckets))
+    (number_rule (codes "seed") ranges.seed))
+    (number_rule (codes "lines") ranges.lines)
 
 -- the one simple command, with its options
 pub record IsCommand (a : App) : Type 0 where

@@ -6,17 +6,19 @@ use Rattle.clap.specs.ValueTests.{is_unsigned_in}
 use Rattle.clap.specs.Words.{App, Row, Text, first_of, matches_of, one_of}
 use Rattle.clap.specs.Faults.{fault_of}
 use Rattle.orc_options.specs.Options.{IsCommand}
+use Rattle.orc_options.specs.Ranges.{Range}
+use Rattle.orc_options.specs.Ranges as ranges
 use Rattle.orc_options.specs.declared.settings.Mode.{Mode}
 use Rattle.orc_options.specs.declared.settings.Mode.TheVariants as mode
 use Rattle.orc_options.specs.declared.settings.SetKind.{SetKind}
 use Rattle.orc_options.specs.declared.settings.SetKind.TheVariants as kind
 use Rattle.orc_options.specs.declared.settings.Settings.{Settings}
 
--- the number that an option's text is, from low to high, or the default
-abbrev pub number_in : ℕ → ℕ → ℕ → Option Text → ℕ
-number_in low high default None = default
-number_in low high default (Some text) =
-    if is_unsigned_in low high text then digits_value 10 (without_leading_plus text) else default
+-- the number that an option's text is, which is one of the range; the least of them, where it were none
+abbrev pub number_in : Range → Option Text → ℕ
+number_in range None = range.low
+number_in range (Some text) =
+    if is_unsigned_in range.low range.high text then digits_value 10 (without_leading_plus text) else range.low
 
 -- the mode that the option's word names
 abbrev pub mode_in : Option Text → Mode
@@ -42,31 +44,31 @@ yes_in (Some text) = bytes_eq text (codes "yes")
 abbrev pub settings_in : List Row → Settings
 settings_in rows = record {
   mode = mode_in (first_of (codes "mode") rows);
-  posters = number_in 1 8 1 (one_of (codes "posters") rows);
-  takers = number_in 0 7 0 (one_of (codes "takers") rows);
-  stages = number_in 1 6 2 (one_of (codes "stages") rows);
-  rows = number_in 8 65535 65535 (one_of (codes "rows") rows);
+  posters = number_in ranges.posters (one_of (codes "posters") rows);
+  takers = number_in ranges.takers (one_of (codes "takers") rows);
+  stages = number_in ranges.stages (one_of (codes "stages") rows);
+  rows = number_in ranges.rows (one_of (codes "rows") rows);
   set = set_in (first_of (codes "set") rows);
-  buckets = number_in 1 256 16 (one_of (codes "buckets") rows);
+  buckets = number_in ranges.buckets (one_of (codes "buckets") rows);
   rest = yes_in (first_of (codes "rest") rows);
-  seed = number_in 1 4294967295 1 (one_of (codes "seed") rows);
-  lines = number_in 1 60000 20000 (one_of (codes "lines") rows);
+  seed = number_in ranges.seed (one_of (codes "seed") rows);
+  lines = number_in ranges.lines (one_of (codes "lines") rows);
 }
 
 -- each number lies in the range of its option
 pub record AreInRange (s : Settings) : Type 0 where
-  pub some_posters : 1 ≤ s.posters
-  pub few_posters : s.posters ≤ 8
-  pub few_takers : s.takers ≤ 7
-  pub some_stages : 1 ≤ s.stages
-  pub few_stages : s.stages ≤ 6
-  pub some_rows : 8 ≤ s.rows
-  pub few_rows : s.rows ≤ 65535
-  pub some_buckets : 1 ≤ s.buckets
-  pub few_buckets : s.buckets ≤ 256
-  pub some_seed : 1 ≤ s.seed
-  pub some_lines : 1 ≤ s.lines
-  pub few_lines : s.lines ≤ 60000
+  pub some_posters : ranges.posters.low ≤ s.posters
+  pub few_posters : s.posters ≤ ranges.posters.high
+  pub few_takers : s.takers ≤ ranges.takers.high
+  pub some_stages : ranges.stages.low ≤ s.stages
+  pub few_stages : s.stages ≤ ranges.stages.high
+  pub some_rows : ranges.rows.low ≤ s.rows
+  pub few_rows : s.rows ≤ ranges.rows.high
+  pub some_buckets : ranges.buckets.low ≤ s.buckets
+  pub few_buckets : s.buckets ≤ ranges.buckets.high
+  pub some_seed : ranges.seed.low ≤ s.seed
+  pub some_lines : ranges.lines.low ≤ s.lines
+  pub few_lines : s.lines ≤ ranges.lines.high
 
 -- `clap` takes the words, and its matches give these settings
 pub record Gives (words : List Text) (s : Settings) : Type 0 where

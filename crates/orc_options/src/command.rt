@@ -3,7 +3,9 @@
 ghost use Rattle.std.specs.Prelude.{◌≡◌, ◌∷◌, [], codes, map, false, IfOk};
 ghost use Rattle.clap.specs.Words.{app_of, rule_of};
 ghost use Rattle.orc_options.specs.Options.{IsCommand, choice_rule, number_rule};
+ghost use Rattle.orc_options.specs.Ranges.{range_of};
 
+use crate::ranges::{BUCKETS, LINES, NumberRange, POSTERS, ROWS, SEED, STAGES, TAKERS};
 use clap::builder::ValueParser;
 use clap::{Arg, Command};
 use std::alloc::{AllocError, Global};
@@ -36,14 +38,14 @@ fn answer_words<'a>() -> &'a [&'a str]
 }
 
 // An option with a number in a range.
-fn number_option<'a>(alloc: Global, id: &'a str, default: &'a str, low: u32, high: u32) -> Arg<'a>
-    ensures rule { rule_of result ≡ number_rule id.entry.now default.entry.now low high }
+fn number_option<'a>(alloc: Global, id: &'a str, range: NumberRange) -> Arg<'a>
+    ensures rule { rule_of result ≡ number_rule id.entry.now (range_of range) }
     ensures local { result.global ≡ false }
 {
     Arg::new(alloc, id)
         .long(id)
-        .value_parser(ValueParser::Signed(low as i64, high as i64))
-        .default_value(default)
+        .value_parser(ValueParser::Signed(range.low as i64, range.high as i64))
+        .default_value(range.default)
 }
 
 // An option with one of several words.
@@ -65,11 +67,11 @@ pub(crate) fn command<'a>(alloc: Global) -> Result<Command<'a>, AllocError>
     let command = command.arg(choice_option(alloc, "mode", "run", mode_words()))?;
     let command = command.arg(choice_option(alloc, "rest", "no", answer_words()))?;
     let command = command.arg(choice_option(alloc, "set", "list", set_words()))?;
-    let command = command.arg(number_option(alloc, "posters", "1", 1, 8))?;
-    let command = command.arg(number_option(alloc, "takers", "0", 0, 7))?;
-    let command = command.arg(number_option(alloc, "stages", "2", 1, 6))?;
-    let command = command.arg(number_option(alloc, "rows", "65535", 8, 65535))?;
-    let command = command.arg(number_option(alloc, "buckets", "16", 1, 256))?;
-    let command = command.arg(number_option(alloc, "seed", "1", 1, 4294967295))?;
-    command.arg(number_option(alloc, "lines", "20000", 1, 60000))
+    let command = command.arg(number_option(alloc, "posters", POSTERS))?;
+    let command = command.arg(number_option(alloc, "takers", TAKERS))?;
+    let command = command.arg(number_option(alloc, "stages", STAGES))?;
+    let command = command.arg(number_option(alloc, "rows", ROWS))?;
+    let command = command.arg(number_option(alloc, "buckets", BUCKETS))?;
+    let command = command.arg(number_option(alloc, "seed", SEED))?;
+    command.arg(number_option(alloc, "lines", LINES))
 }

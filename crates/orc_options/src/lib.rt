@@ -2,6 +2,7 @@
 #![tactic(auto)]
 
 mod command;
+mod ranges;
 mod settings;
 mod words;
 

@@ -3,11 +3,13 @@
 ghost use Rattle.std.specs.Prelude.{◌≡◌, ◌≢◌, ◌≤◌, IfErr, IfOk, List, ℕ, option_map};
 ghost use Rattle.clap.specs.Words.{found_of, one_text, rows_of};
 ghost use Rattle.orc_options.specs.declared.settings.Settings.{Settings};
+ghost use Rattle.orc_options.specs.Ranges.{range_of};
 ghost use Rattle.orc_options.specs.Settings.{AreInRange, Gives, Refuses, mode_in, number_in, set_in, yes_in};
 ghost use Rattle.orc_options.specs.Settings.{settings_in as read_settings};
 
 use crate::CommandWords;
 use crate::command::command;
+use crate::ranges::{BUCKETS, LINES, NumberRange, POSTERS, ROWS, SEED, STAGES, TAKERS};
 use clap::ArgMatches;
 use clap::error::ErrorKind;
 use std::alloc::Global;
@@ -40,28 +42,28 @@ pub enum SetKind {
     Split,
 }
 
-/// What the options say.
+/// What the options say. The table of ranges has the numbers that each takes, and what stands where it isn't given.
 #[derive(Clone, Copy, Debug, PartialEq, Eq, Drop)]
 pub struct Settings {
     /// `--mode`; run, where it isn't given.
     pub mode: Mode,
-    /// `--posters`, 1 to 8: how many posters, or workers of a watch; 1, where it isn't given.
+    /// `--posters`: how many posters, or workers of a watch.
     pub posters: u32,
-    /// `--takers`, 0 to 7: how many takers; 0, where it isn't given.
+    /// `--takers`: how many takers.
     pub takers: u32,
-    /// `--stages`, 1 to 6: how many stages a pipeline has; 2, where it isn't given.
+    /// `--stages`: how many stages a pipeline has.
     pub stages: u32,
-    /// `--rows`, 8 to 65,535: how many rows each container has; 65,535, where it isn't given.
+    /// `--rows`: how many rows each container has.
     pub rows: u32,
     /// `--set`: which set a run has; lists, where it isn't given.
     pub set: SetKind,
-    /// `--buckets`, 1 to 256: how many buckets a set of lists has; 16, where it isn't given.
+    /// `--buckets`: how many buckets a set of lists has.
     pub buckets: u32,
     /// `--rest`: whether the report ends with what is at rest; no, where it isn't given.
     pub rest: bool,
-    /// `--seed`, 1 to 4,294,967,295: what the lines are generated from; 1, where it isn't given.
+    /// `--seed`: what the lines are generated from.
     pub seed: u32,
-    /// `--lines`, 1 to 60,000: how many lines are generated; 20,000, where it isn't given.
+    /// `--lines`: how many lines are generated.
     pub lines: u32,
 }
 
@@ -75,19 +77,19 @@ pub enum Refused {
 }
 
 // The number of an option.
-fn number_of(matches: &ArgMatches<'_>, id: &str, low: u32, high: u32, default: u32) -> u32
-    ensures says { result ≡ number_in low high default (one_text (found_of matches.now) id.now) }
-    ensures in_range { low ≤ default → default ≤ high → (low ≤ result) × (result ≤ high) }
+fn number_of(matches: &ArgMatches<'_>, id: &str, range: NumberRange) -> u32
+    ensures says { result ≡ number_in (range_of range) (one_text (found_of matches.now) id.now) }
+    ensures in_range { range.low ≤ range.high → (range.low ≤ result) × (result ≤ range.high) }
 {
     match matches.get_one::<u32>(id) {
         Some(number) => {
-            if low <= number && number <= high {
+            if range.low <= number && number <= range.high {
                 number
             } else {
-                default
+                range.low
             }
         }
-        None => default,
+        None => range.low,
     }
 }
 
@@ -164,15 +166,15 @@ fn settings_in(matches: &ArgMatches<'_>) -> Settings
 {
     Settings {
         mode: mode_of(matches.get_str("mode")),
-        posters: number_of(matches, "posters", 1, 8, 1),
-        takers: number_of(matches, "takers", 0, 7, 0),
-        stages: number_of(matches, "stages", 1, 6, 2),
-        rows: number_of(matches, "rows", 8, 65535, 65535),
+        posters: number_of(matches, "posters", POSTERS),
+        takers: number_of(matches, "takers", TAKERS),
+        stages: number_of(matches, "stages", STAGES),
+        rows: number_of(matches, "rows", ROWS),
         set: set_of(matches.get_str("set")),
-        buckets: number_of(matches, "buckets", 1, 256, 16),
+        buckets: number_of(matches, "buckets", BUCKETS),
         rest: says_yes(matches.get_str("rest")),
-        seed: number_of(matches, "seed", 1, 4294967295, 1),
-        lines: number_of(matches, "lines", 1, 60000, 20000),
+        seed: number_of(matches, "seed", SEED),
+        lines: number_of(matches, "lines", LINES),
     }
 }
 

@@ -4,7 +4,12 @@ use Rattle.std.proofs.lemmas.Result.{IfOk-weaker}
 use Rattle.orc_program.specs.declared.answer.Answer.{Answer}
 use Rattle.orc_program.specs.declared.ended.Ended.{Ended}
 use Rattle.orc_program.specs.Answers.{AnswersFile}
-use Rattle.orc_program.specs.Ended.{IsNew}
+use Rattle.orc_program.specs.Ended.{NothingEnded}
+use Rattle.orc_program.specs.Refusals.{RefusesJobs, input_too_large, malformed_line}
+use Rattle.orc_jobs.specs.JobGrammar.{IsFileOf, Refuses}
+use Rattle.orc_jobs.specs.declared.cause.JobsFault.{JobsFault}
+use Rattle.orc_jobs.specs.declared.cause.JobsFault.TheVariants as fault
+use Rattle.orc_jobs.specs.declared.line.Line.{Line}
 
 module _ {L C : Type 0} (is_file : List L → Type 0) (is_bad : ℕ → C → Type 0) (line : ℕ → C → List ℕ) (has_told : List L → List ℕ → Type 0) (ended : Ended)
   where
@@ -17,7 +22,7 @@ module _ {L C : Type 0} (is_file : List L → Type 0) (is_bad : ℕ → C → Ty
     is_told other r lines file h =
         IfOk-weaker r (λ (a : Answer). (a.status ≡ 0) × has_told lines a.text) (IsTheAnswer other) (λ a done. inl (inl (done.0, (lines, file, done.1)))) h
 
-    pub is_refused : {E : Type 0} (other : Answer → Type 0) (r : Result Answer E) (place : ℕ) (why : C) → is_bad place why → IsNew ended
+    pub is_refused : {E : Type 0} (other : Answer → Type 0) (r : Result Answer E) (place : ℕ) (why : C) → is_bad place why → NothingEnded ended
         → IfOk r (λ (a : Answer). (a.status ≡ 3) × (a.text ≡ line place why)) → IfOk r (IsTheAnswer other)
     is_refused other r place why bad new h =
         IfOk-weaker r (λ (a : Answer). (a.status ≡ 3) × (a.text ≡ line place why)) (IsTheAnswer other)
@@ -40,3 +45,14 @@ module _ {L C : Type 0} (is_file : List L → Type 0) (is_bad : ℕ → C → Ty
           → AnswersFile is_file is_bad line has_told ended status text → ⊥
       not_many many few none is (inl (zero, (lines, file, told))) = few lines file is
       not_many many few none is (inr (three, new, named)) = none named.place named.why named.refused is
+
+-- a job file that is refused is answered, or has too many records
+pub jobs_refused : {E : Type 0} (bytes : List ℕ) (has_told : List Line → List ℕ → Type 0) (ended : Ended) (why : JobsFault) (r : Result Answer E)
+    → Refuses bytes why → NothingEnded ended → IfOk r (λ (a : Answer). RefusesJobs why a.status a.text)
+    → IfOk r (IsTheAnswer (λ lines. IsFileOf lines bytes) (λ place cause. Refuses bytes (fault.Malformed place cause)) malformed_line has_told ended
+    (λ a. (a.status ≡ 6) × NothingEnded ended × Refuses bytes fault.TooMany × (a.text ≡ input_too_large)))
+jobs_refused bytes has_told ended (fault.Malformed place cause) r bad none h =
+    is_refused (λ lines. IsFileOf lines bytes) (λ p w. Refuses bytes (fault.Malformed p w)) malformed_line has_told ended _ r place cause bad none h
+jobs_refused bytes has_told ended fault.TooMany r many none h =
+    IfOk-weaker r (λ (a : Answer). (a.status ≡ 6) × (a.text ≡ input_too_large)) _ (λ a said. inr (said.0, none, many, said.1)) h
+jobs_refused bytes has_told ended fault.NoMemory r bad none h = IfOk-weaker r (λ (a : Answer). ⊥) _ (λ a said. absurd said) h

@@ -23,7 +23,8 @@ use Rattle.orc_program.specs.declared.trace_mode.Told.{Told}
 use Rattle.orc_program.specs.declared.trace_mode.Told.TheVariants as told
 use Rattle.orc_program.specs.Answers.{Answers, AnswersTrace, HasTooMany, IsTooLarge, ModeAnswers, made_text}
 use Rattle.orc_program.specs.Ended.{HasReported, HasStaged, HasWatched}
-use Rattle.orc_program.specs.Refusals.{input_limit, input_too_large, malformed_line, malformed_watch}
+use Rattle.orc_jobs.specs.declared.lines.TheConstants.{MOST_BYTES}
+use Rattle.orc_program.specs.Refusals.{input_too_large, malformed_line, malformed_watch}
 use Rattle.orc_program.proofs.Files.{not_many as no_answer, of_file, of_record}
 use Rattle.orc_watch.proofs.GrammarLaws.{not-few as watch_not-few, not-read as watch_not-read, refused-bad as watch_refused-bad}
 use Rattle.orc_watch.specs.WatchGrammar.{IsFileOf as IsWatchFile, Refuses as RefusesWatch}
@@ -75,7 +76,7 @@ no_failure n (inr (inr (inr is))) = (λ e. omega (arith, is, e), λ e. omega (ar
 
 module _ (s : Settings) (bytes : List ℕ) (e : Ended) (status : ℕ) (text : List ℕ) where
   -- bytes that are not too large are answered by the mode
-  in_mode : (m : Mode) → Answers s bytes e status text → s.mode ≡ m → length bytes ≤ input_limit → (HasTooMany m bytes → ⊥)
+  in_mode : (m : Mode) → Answers s bytes e status text → s.mode ≡ m → length bytes ≤ MOST_BYTES → (HasTooMany m bytes → ⊥)
       → ModeAnswers m s bytes e status text
   in_mode m (inr answer) is few single = subst (λ (n : Mode). ModeAnswers n s bytes e status text) is answer.1
   in_mode m (inl large) is few single = elim large.2 [
@@ -89,36 +90,36 @@ module _ (s : Settings) (bytes : List ℕ) (e : Ended) (status : ℕ) (text : Li
   abbrev IsWatchBad : ℕ → WatchCause → Type 0
   IsWatchBad place why = RefusesWatch bytes (watch.Malformed place why)
 
-  pub file : Answers s bytes e status text → s.mode ≡ mode.Run → length bytes ≤ input_limit → (lines : List Line) → IsFileOf lines bytes → status ≡ 0
+  pub file : Answers s bytes e status text → s.mode ≡ mode.Run → length bytes ≤ MOST_BYTES → (lines : List Line) → IsFileOf lines bytes → status ≡ 0
   file a run few lines is =
       of_file (λ ls. IsFileOf ls bytes) IsBad malformed_line (λ ls t. HasReported ls s e t) e (not-read bytes) status text lines is
       (in_mode mode.Run a run few (λ many. not-few bytes lines many is))
 
-  pub refused : Answers s bytes e status text → s.mode ≡ mode.Run → length bytes ≤ input_limit → (place : ℕ) (why : Cause)
+  pub refused : Answers s bytes e status text → s.mode ≡ mode.Run → length bytes ≤ MOST_BYTES → (place : ℕ) (why : Cause)
       → Refuses bytes (fault.Malformed place why) → (status ≡ 3) × (text ≡ malformed_line place why)
   refused a run few place why bad =
       of_record (λ ls. IsFileOf ls bytes) IsBad malformed_line (λ ls t. HasReported ls s e t) e (not-read bytes) status text (one_line bytes) place why bad
       (in_mode mode.Run a run few (λ many. not_many bytes place why bad many))
 
-  pub watch_file : Answers s bytes e status text → s.mode ≡ mode.Watch → length bytes ≤ input_limit → (lines : List WatchLine) → IsWatchFile lines bytes
+  pub watch_file : Answers s bytes e status text → s.mode ≡ mode.Watch → length bytes ≤ MOST_BYTES → (lines : List WatchLine) → IsWatchFile lines bytes
       → status ≡ 0
   watch_file a asks few lines is =
       of_file (λ ls. IsWatchFile ls bytes) IsWatchBad malformed_watch (λ ls t. HasWatched ls s e t) e (watch_not-read bytes) status text lines is
       (in_mode mode.Watch a asks few (λ many. watch_not-few bytes lines many is))
 
-  pub watch_refused : Answers s bytes e status text → s.mode ≡ mode.Watch → length bytes ≤ input_limit → (place : ℕ) (why : WatchCause)
+  pub watch_refused : Answers s bytes e status text → s.mode ≡ mode.Watch → length bytes ≤ MOST_BYTES → (place : ℕ) (why : WatchCause)
       → RefusesWatch bytes (watch.Malformed place why) → (status ≡ 3) × (text ≡ malformed_watch place why)
   watch_refused a asks few place why bad =
       of_record (λ ls. IsWatchFile ls bytes) IsWatchBad malformed_watch (λ ls t. HasWatched ls s e t) e (watch_not-read bytes) status text
       (one_watch_line bytes) place why bad (in_mode mode.Watch a asks few (λ many. not_many_watched bytes place why bad many))
 
-  pub stages_file : Answers s bytes e status text → s.mode ≡ mode.Stages → length bytes ≤ input_limit → (lines : List Line) → IsFileOf lines bytes
+  pub stages_file : Answers s bytes e status text → s.mode ≡ mode.Stages → length bytes ≤ MOST_BYTES → (lines : List Line) → IsFileOf lines bytes
       → status ≡ 0
   stages_file a asks few lines is =
       of_file (λ ls. IsFileOf ls bytes) IsBad malformed_line (λ ls t. HasStaged ls s e t) e (not-read bytes) status text lines is
       (in_mode mode.Stages a asks few (λ many. not-few bytes lines many is))
 
-  pub stages_refused : Answers s bytes e status text → s.mode ≡ mode.Stages → length bytes ≤ input_limit → (place : ℕ) (why : Cause)
+  pub stages_refused : Answers s bytes e status text → s.mode ≡ mode.Stages → length bytes ≤ MOST_BYTES → (place : ℕ) (why : Cause)
       → Refuses bytes (fault.Malformed place why) → (status ≡ 3) × (text ≡ malformed_line place why)
   stages_refused a asks few place why bad =
       of_record (λ ls. IsFileOf ls bytes) IsBad malformed_line (λ ls t. HasStaged ls s e t) e (not-read bytes) status text (one_line bytes) place why bad
@@ -167,7 +168,7 @@ module _ (s : Settings) (bytes : List ℕ) (e : Ended) (status : ℕ) (text : Li
   of_trace played is (inl (zero, (other, also, says))) = (zero, says ∙ ap replay_line (replay-unique bytes other played also is))
   of_trace played is (inr (eight, named)) = absurd (replay-not_refused bytes played named.why named.some is named.refused)
 
-  pub replay : Answers s bytes e status text → s.mode ≡ mode.Replay → length bytes ≤ input_limit → (played : Replayed) → IsReplay bytes played
+  pub replay : Answers s bytes e status text → s.mode ≡ mode.Replay → length bytes ≤ MOST_BYTES → (played : Replayed) → IsReplay bytes played
       → (status ≡ 0) × (text ≡ replay_line played)
   replay a asks few played is = of_trace played is (in_mode mode.Replay a asks few (λ many. many)).1
 
@@ -175,7 +176,7 @@ module _ (s : Settings) (bytes : List ℕ) (e : Ended) (status : ℕ) (text : Li
   of_audit audit is (inl (zero, (other, also, says))) = (zero, says ∙ ap audit_lines (only-audit bytes (Ok other) also tt audit is))
   of_audit audit is (inr (eight, named)) = absurd (only-refusal bytes (Ok audit) is tt named.why named.some named.refused)
 
-  pub audit : Answers s bytes e status text → s.mode ≡ mode.Audit → length bytes ≤ input_limit → (audit : Audit) → IsAudit bytes audit
+  pub audit : Answers s bytes e status text → s.mode ≡ mode.Audit → length bytes ≤ MOST_BYTES → (audit : Audit) → IsAudit bytes audit
       → (status ≡ 0) × (text ≡ audit_lines audit)
   audit a asks few told_audit is = of_audit told_audit is (in_mode mode.Audit a asks few (λ many. many)).1
 
@@ -186,7 +187,7 @@ module _ (s : Settings) (bytes : List ℕ) (e : Ended) (status : ℕ) (text : Li
   named_fault why other bad what (inr (eight, named)) =
       (eight, named.says ∙ ap fault_line (refusal-unique bytes named.why why named.some other named.refused bad))
 
-  pub fault_named : Answers s bytes e status text → (s.mode ≡ mode.Replay) ⊎ (s.mode ≡ mode.Audit) → length bytes ≤ input_limit → (why : TraceFault)
+  pub fault_named : Answers s bytes e status text → (s.mode ≡ mode.Replay) ⊎ (s.mode ≡ mode.Audit) → length bytes ≤ MOST_BYTES → (why : TraceFault)
       → why ≢ trace.NoMemory → RefusesTrace bytes why → (status ≡ 8) × (text ≡ fault_line why)
   fault_named a (inl asks) few why other bad = named_fault why other bad told.Census (in_mode mode.Replay a asks few (λ many. many)).1
   fault_named a (inr asks) few why other bad = named_fault why other bad told.Audit (in_mode mode.Audit a asks few (λ many. many)).1

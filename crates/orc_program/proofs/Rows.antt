@@ -34,7 +34,7 @@ use Rattle.orc_run.specs.declared.set.SetRest.TheVariants as at_rest
 use Rattle.orc_run.specs.declared.run.Finished.{Finished}
 use Rattle.orc_program.specs.declared.ended.Ended.{Ended}
 use Rattle.orc_program.specs.Answers.{Answers, AnswersJobs, AnswersStages, AnswersWatch, ModeAnswers}
-use Rattle.orc_program.specs.Ended.{EndsSafely, IsNew, Keeps, KeepsCell, KeepsSet, KeepsStages, generated_lines}
+use Rattle.orc_program.specs.Ended.{EndsSafely, NothingEnded, RunEnded, WatchEnded, SetEnded, StagesEnded, generated_lines}
 use Rattle.orc_program.specs.Headline.{WorkedThrough, set_of}
 
 module _ {A : Type 0} (P : A → Type 0) where
@@ -49,11 +49,11 @@ none_left : (ended : Ended) → ended.queue ≡ None → ended.rush ≡ None →
 none_left ended queue rush false = queue
 none_left ended queue rush true = rush
 
-kept_left : (f : Finished) (ended : Ended) → Keeps f ended → (rush : Bool) → pick ended.queue ended.rush rush ≡ Some (pick f.queue f.rush rush)
+kept_left : (f : Finished) (ended : Ended) → RunEnded f ended → (rush : Bool) → pick ended.queue ended.rush rush ≡ Some (pick f.queue f.rush rush)
 kept_left f ended kept false = kept.queue
 kept_left f ended kept true = kept.rush
 
-pub of_none : (ended : Ended) → IsNew ended → EndsSafely ended
+pub of_none : (ended : Ended) → NothingEnded ended → EndsSafely ended
 of_none ended new = record {
   queues_reuse = λ rush. where-none _ (pick ended.queue ended.rush rush) (none_left ended new.queue new.rush rush);
   set_reuse = where-none _ ended.set new.set;
@@ -75,7 +75,7 @@ record SetEndsSafely (ended : Ended) : Type 0 where
   split_rest : IfSome ended.split (λ r. EndsWithoutLeak (domain_bounds (rest_domain r)) r)
 
 of_set : (which : SetChoice) (b : Bounds) (rest : SetRest) (ended : Ended) → HasSetJournal which b rest → SetReusesSafely b rest → SetLeaksNothing b rest
-    → KeepsSet rest ended → SetEndsSafely ended
+    → SetEnded rest ended → SetEndsSafely ended
 of_set (choice.Lists buckets) b (at_rest.Lists r) ended journal reuse leak kept = record {
   set_reuse = where-some _ ended.set r kept.0 (subst (λ (c : Bounds). ReusesRowsSafely c r) (sym journal.sizes) reuse);
   split_reuse = where-none _ ended.split kept.1;
@@ -91,7 +91,7 @@ of_set choice.Split b (at_rest.Split r) ended journal reuse leak kept = record {
   split_rest = where-some _ ended.split r kept.1 (subst (λ (c : Bounds). EndsWithoutLeak c r) (sym journal.sizes) leak);
 }
 
-of_run : (lines : List Line) (s : Settings) (f : Finished) (ended : Ended) → WorkedThrough lines s f → Keeps f ended → EndsSafely ended
+of_run : (lines : List Line) (s : Settings) (f : Finished) (ended : Ended) → WorkedThrough lines s f → RunEnded f ended → EndsSafely ended
 of_run lines s f ended run kept =
     let set = of_set (set_of s) (set_bounds s.posters s.takers s.rows (set_of s)) f.set ended run.set_journal run.set_reuse run.set_rest kept.set in
     record {
@@ -109,7 +109,7 @@ of_run lines s f ended run kept =
       stages_rest = where-none _ ended.stages kept.stages;
     }
 
-of_watch : (lines : List WatchLine) (s : Settings) (f : WatchFinished) (ended : Ended) → WatchedThrough lines s.posters s.rows f → KeepsCell f ended
+of_watch : (lines : List WatchLine) (s : Settings) (f : WatchFinished) (ended : Ended) → WatchedThrough lines s.posters s.rows f → WatchEnded f ended
     → EndsSafely ended
 of_watch lines s f ended run kept = record {
   queues_reuse = λ rush. where-none _ (pick ended.queue ended.rush rush) (none_left ended kept.queue kept.rush rush);
@@ -134,7 +134,7 @@ module _ {d : discipline.Ghosts Fifo FifoNote}
     each_by_domain P b (r ∷ rs) journals h =
         (subst (λ (c : Bounds). P c r) (sym journals.0.sizes) h.0, each_by_domain P b rs journals.1 h.1)
 
-of_stages : (lines : List Line) (s : Settings) (f : StagesFinished) (ended : Ended) → WentThrough lines s.posters s.stages s.rows f → KeepsStages f ended
+of_stages : (lines : List Line) (s : Settings) (f : StagesFinished) (ended : Ended) → WentThrough lines s.posters s.stages s.rows f → StagesEnded f ended
     → EndsSafely ended
 of_stages lines s f ended run kept = record {
   queues_reuse = λ rush. where-none _ (pick ended.queue ended.rush rush) (none_left ended kept.queue kept.rush rush);

@@ -8,7 +8,7 @@ use Rattle.orc_options.specs.declared.settings.Mode.TheVariants as mode
 use Rattle.orc_options.specs.declared.settings.Settings.{Settings}
 use Rattle.orc_program.specs.declared.ended.Ended.{Ended}
 use Rattle.orc_program.specs.Answers.{Answers, AnswersWords, IsInput, reads}
-use Rattle.orc_program.specs.Refusals.{input_limit}
+use Rattle.orc_jobs.specs.declared.lines.TheConstants.{MOST_BYTES}
 use Rattle.orc_program.proofs.Inputs.{whole}
 use Rattle.orc_program.proofs.OneAnswer.{file}
 
@@ -36,7 +36,7 @@ module _ (words : List (List ℕ)) (left after : Option (List ℕ)) (ended : End
     to_words = inr (s, bytes, h.gives, h.input, h.answers)
 
     -- a file of lines that is told is reported
-    pub reported : (told : List ℕ) → left ≡ Some told → AskFor words mode.Run → length told ≤ input_limit → (lines : List Line) → IsFileOf lines told
+    pub reported : (told : List ℕ) → left ≡ Some told → AskFor words mode.Run → length told ≤ MOST_BYTES → (lines : List Line) → IsFileOf lines told
         → status ≡ 0
     reported told is asks few lines is_file =
         let run : s.mode ≡ mode.Run = ap (λ (t : Settings). t.mode) (one_settings words s asks.0 h.gives asks.1) ∙ asks.2 in
@@ -44,5 +44,5 @@ module _ (words : List (List ℕ)) (left after : Option (List ℕ)) (ended : End
         let input : IsInput true (Some told) after bytes =
         subst (λ (l : Option (List ℕ)). IsInput true l after bytes) is (subst (λ (b : Bool). IsInput b left after bytes) reading h.input) in
         let same : bytes ≡ told = (whole told bytes after input few).0 in
-        file s bytes ended status text h.answers run (subst (λ (b : List ℕ). length b ≤ input_limit) (sym same) few) lines
+        file s bytes ended status text h.answers run (subst (λ (b : List ℕ). length b ≤ MOST_BYTES) (sym same) few) lines
         (subst (IsFileOf lines) (sym same) is_file)

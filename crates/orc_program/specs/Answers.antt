@@ -20,8 +20,9 @@ use Rattle.orc_options.specs.declared.settings.Settings.{Settings}
 use Rattle.orc_program.specs.declared.ended.Ended.{Ended}
 use Rattle.orc_program.specs.declared.trace_mode.Told.{Told}
 use Rattle.orc_program.specs.declared.trace_mode.Told.TheVariants as told
-use Rattle.orc_program.specs.Ended.{HasReported, HasStaged, HasSummed, HasWatched, IsNew, generated_lines}
-use Rattle.orc_program.specs.Refusals.{input_limit, input_too_large, malformed_line, malformed_watch, words_refused}
+use Rattle.orc_program.specs.Ended.{HasReported, HasStaged, HasSummed, HasWatched, NothingEnded, generated_lines}
+use Rattle.orc_jobs.specs.declared.lines.TheConstants.{MOST_BYTES}
+use Rattle.orc_program.specs.Refusals.{input_too_large, malformed_line, malformed_watch, words_refused}
 
 -- the text is the line of the first record that is outside the grammar, with its cause
 pub record NamesRecord {C : Type 0} (is_bad : ℕ → C → Type 0) (line : ℕ → C → List ℕ) (text : List ℕ) : Type 0 where
@@ -50,7 +51,7 @@ Tells told.Audit bytes text = (audit : Audit) × IsAudit bytes audit × (text �
 abbrev pub AnswersFile : {L C : Type 0} → (List L → Type 0) → (ℕ → C → Type 0) → (ℕ → C → List ℕ) → (List L → List ℕ → Type 0) → Ended → ℕ → List ℕ → Type 0
 AnswersFile {L} is_file is_bad line has_told ended status text =
     ((status ≡ 0) × ((lines : List L) × is_file lines × has_told lines text))
-    ⊎ ((status ≡ 3) × IsNew ended × NamesRecord is_bad line text)
+    ⊎ ((status ≡ 3) × NothingEnded ended × NamesRecord is_bad line text)
 
 -- of a job file, which is reported, and of a watch file
 abbrev pub AnswersJobs : Settings → List ℕ → Ended → ℕ → List ℕ → Type 0
@@ -73,10 +74,10 @@ AnswersTrace what bytes status text = ((status ≡ 0) × Tells what bytes text) 
 -- what each mode answers to bytes that are not too large
 abbrev pub ModeAnswers : Mode → Settings → List ℕ → Ended → ℕ → List ℕ → Type 0
 ModeAnswers mode.Run settings bytes ended status text = AnswersJobs settings bytes ended status text
-ModeAnswers mode.Make settings bytes ended status text = (status ≡ 0) × IsNew ended × (text ≡ made_text settings)
+ModeAnswers mode.Make settings bytes ended status text = (status ≡ 0) × NothingEnded ended × (text ≡ made_text settings)
 ModeAnswers mode.Trial settings bytes ended status text = (status ≡ 0) × HasSummed settings ended text
-ModeAnswers mode.Replay settings bytes ended status text = IsNew ended × AnswersTrace told.Census bytes status text
-ModeAnswers mode.Audit settings bytes ended status text = IsNew ended × AnswersTrace told.Audit bytes status text
+ModeAnswers mode.Replay settings bytes ended status text = NothingEnded ended × AnswersTrace told.Census bytes status text
+ModeAnswers mode.Audit settings bytes ended status text = NothingEnded ended × AnswersTrace told.Audit bytes status text
 ModeAnswers mode.Watch settings bytes ended status text = AnswersWatch settings bytes ended status text
 ModeAnswers mode.Stages settings bytes ended status text = AnswersStages settings bytes ended status text
 
@@ -89,13 +90,13 @@ HasTooMany m bytes = ⊥
 
 -- more bytes than an input may have, or, in mode run, watch or stages, more records than its file may have
 abbrev pub IsTooLarge : Mode → List ℕ → Type 0
-IsTooLarge m bytes = (input_limit < length bytes) ⊎ HasTooMany m bytes
+IsTooLarge m bytes = (MOST_BYTES < length bytes) ⊎ HasTooMany m bytes
 
 -- what the program answers in these settings to these bytes: that they are too large, or what the mode answers
 abbrev pub Answers : Settings → List ℕ → Ended → ℕ → List ℕ → Type 0
 Answers settings bytes ended status text =
-    ((status ≡ 6) × IsNew ended × IsTooLarge settings.mode bytes × (text ≡ input_too_large))
-    ⊎ ((length bytes ≤ input_limit) × ModeAnswers settings.mode settings bytes ended status text)
+    ((status ≡ 6) × NothingEnded ended × IsTooLarge settings.mode bytes × (text ≡ input_too_large))
+    ⊎ ((length bytes ≤ MOST_BYTES) × ModeAnswers settings.mode settings bytes ended status text)
 
 -- the mode reads an input
 abbrev pub reads : Mode → Bool
@@ -110,14 +111,14 @@ reads mode.Stages = true
 -- the bytes that are answered, by what was left before and after: where the mode reads, those that were taken from the front, all of
 -- them or more than an input may have; else none, and nothing was taken
 abbrev pub IsInput : Bool → Option (List ℕ) → Option (List ℕ) → List ℕ → Type 0
-IsInput true left after bytes = Consumes left after bytes × (length bytes ≤ input_limit → IsAtEnd after)
+IsInput true left after bytes = Consumes left after bytes × (length bytes ≤ MOST_BYTES → IsAtEnd after)
 IsInput false left after bytes = (after ≡ left) × (bytes ≡ [])
 
 -- what the program answers to these words and to what was left of its input: that it refuses the words, or what it answers to the
 -- bytes that it reads in the settings that the words give
 abbrev pub AnswersWords : List (List ℕ) → Option (List ℕ) → Option (List ℕ) → Ended → ℕ → List ℕ → Type 0
 AnswersWords words left after ended status text =
-    (RefusesWords words × IsNew ended × (status ≡ 2) × (text ≡ words_refused))
+    (RefusesWords words × NothingEnded ended × (status ≡ 2) × (text ≡ words_refused))
     ⊎ ((settings : Settings) × (bytes : List ℕ) × Gives words settings × IsInput (reads settings.mode) left after bytes
     × Answers settings bytes ended status text)
 

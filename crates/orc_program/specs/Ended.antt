@@ -30,8 +30,8 @@ use Rattle.orc_program.specs.declared.ended.Ended.{Ended}
 use Rattle.orc_options.specs.declared.settings.Settings.{Settings}
 use Rattle.orc_program.specs.Headline.{Headline, WorkedThrough}
 
--- nothing is there yet
-pub record IsNew (ended : Ended) : Type 0 where
+-- nothing has ended yet
+pub record NothingEnded (ended : Ended) : Type 0 where
   pub queue : ended.queue ≡ None
   pub rush : ended.rush ≡ None
   pub set : ended.set ≡ None
@@ -41,21 +41,21 @@ pub record IsNew (ended : Ended) : Type 0 where
   pub stages : ended.stages ≡ None
 
 -- the set's domain is there, in the place of its kind alone
-abbrev pub KeepsSet : SetRest → Ended → Type 0
-KeepsSet (at_rest.Lists r) ended = (ended.set ≡ Some r) × (ended.split ≡ None)
-KeepsSet (at_rest.Split r) ended = (ended.set ≡ None) × (ended.split ≡ Some r)
+abbrev pub SetEnded : SetRest → Ended → Type 0
+SetEnded (at_rest.Lists r) ended = (ended.set ≡ Some r) × (ended.split ≡ None)
+SetEnded (at_rest.Split r) ended = (ended.set ≡ None) × (ended.split ≡ Some r)
 
 -- what a run has left is there
-pub record Keeps (finished : Finished) (ended : Ended) : Type 0 where
+pub record RunEnded (finished : Finished) (ended : Ended) : Type 0 where
   pub queue : ended.queue ≡ Some finished.queue
   pub rush : ended.rush ≡ Some finished.rush
-  pub set : KeepsSet finished.set ended
+  pub set : SetEnded finished.set ended
   pub replies : ended.replies ≡ Some finished.replies
   pub cell : ended.cell ≡ None
   pub stages : ended.stages ≡ None
 
 -- what a watch has left is there
-pub record KeepsCell (finished : WatchFinished) (ended : Ended) : Type 0 where
+pub record WatchEnded (finished : WatchFinished) (ended : Ended) : Type 0 where
   pub queue : ended.queue ≡ None
   pub rush : ended.rush ≡ None
   pub set : ended.set ≡ None
@@ -65,7 +65,7 @@ pub record KeepsCell (finished : WatchFinished) (ended : Ended) : Type 0 where
   pub stages : ended.stages ≡ None
 
 -- what a run of the pipeline has left is there
-pub record KeepsStages (finished : StagesFinished) (ended : Ended) : Type 0 where
+pub record StagesEnded (finished : StagesFinished) (ended : Ended) : Type 0 where
   pub queue : ended.queue ≡ None
   pub rush : ended.rush ≡ None
   pub set : ended.set ≡ None
@@ -91,7 +91,7 @@ pub record EndsSafely (ended : Ended) : Type 0 where
 -- these lines were worked through as the settings say, and the headline holds of what has ended
 pub record HasReported (lines : List Line) (settings : Settings) (ended : Ended) (text : List ℕ) : Type 0 where
   pub finished : Finished
-  pub kept : Keeps finished ended
+  pub kept : RunEnded finished ended
   pub headline : Headline lines settings finished text
 
 -- the lines that are generated from the settings' seed
@@ -101,7 +101,7 @@ generated_lines settings = generated settings.seed settings.lines
 -- the generated lines were worked through as the settings say, and the text is the summary of the replies that have ended
 pub record HasSummed (settings : Settings) (ended : Ended) (text : List ℕ) : Type 0 where
   pub finished : Finished
-  pub kept : Keeps finished ended
+  pub kept : RunEnded finished ended
   pub run : WorkedThrough (generated_lines settings) settings finished
   pub summary : text ≡ summary_of (done_jobs (generated_lines settings) finished.replies.takes.items)
   -- where no reply is NoNode, Spent or Void, every job is done, and the text is a function of the lines alone
@@ -124,7 +124,7 @@ cell_numbers f = record {
 -- text tells the replies and both parts at last, with what is at rest where it was asked for
 pub record HasWatched (lines : List WatchLine) (settings : Settings) (ended : Ended) (text : List ℕ) : Type 0 where
   pub finished : WatchFinished
-  pub kept : KeepsCell finished ended
+  pub kept : WatchEnded finished ended
   pub run : WatchedThrough lines settings.posters settings.rows finished
   pub told : text ≡ text_of finished.replies.items finished.now_left finished.now_right (if settings.rest then Some (cell_numbers finished) else None)
 
@@ -132,6 +132,6 @@ pub record HasWatched (lines : List WatchLine) (settings : Settings) (ended : En
 -- the text tells all replies and what came out
 pub record HasStaged (lines : List Line) (settings : Settings) (ended : Ended) (text : List ℕ) : Type 0 where
   pub finished : StagesFinished
-  pub kept : KeepsStages finished ended
+  pub kept : StagesEnded finished ended
   pub run : WentThrough lines settings.posters settings.stages settings.rows finished
   pub told : text ≡ stages_text_of finished.done.posts.items finished.done.moves.items finished.done.outs.items

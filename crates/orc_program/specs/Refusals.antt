@@ -1,14 +1,12 @@
--- The most bytes of an input, and the lines that are written where words or an input are refused.
-use Rattle.std.specs.Prelude.{◌++◌, List, ℕ, codes}
+-- The lines that are written where words or an input are refused.
+use Rattle.std.specs.Prelude.{◌++◌, ◌≡◌, List, ℕ, codes}
 use Rattle.std.specs.Fmt.{decimal}
 use Rattle.orc_jobs.specs.declared.cause.Cause.{Cause}
 use Rattle.orc_jobs.specs.declared.cause.Cause.TheVariants as cause
+use Rattle.orc_jobs.specs.declared.cause.JobsFault.{JobsFault}
+use Rattle.orc_jobs.specs.declared.cause.JobsFault.TheVariants as fault
 use Rattle.orc_watch.specs.declared.fault.WatchCause.{WatchCause}
 use Rattle.orc_watch.specs.declared.fault.WatchCause.TheVariants as watch
-
--- the most bytes that an input may have
-abbrev pub input_limit : ℕ
-input_limit = 16777216
 
 abbrev pub words_refused : List ℕ
 words_refused = codes "words refused\n"
@@ -40,3 +38,9 @@ malformed_line place why = record_line place (cause_word why)
 
 abbrev pub malformed_watch : ℕ → WatchCause → List ℕ
 malformed_watch place why = record_line place (watch_word why)
+
+-- how a job file with this fault is refused: by the line of its record, or for its many records; for want of memory it has no answer
+abbrev pub RefusesJobs : JobsFault → ℕ → List ℕ → Type 0
+RefusesJobs (fault.Malformed place why) status text = (status ≡ 3) × (text ≡ malformed_line place why)
+RefusesJobs fault.TooMany status text = (status ≡ 6) × (text ≡ input_too_large)
+RefusesJobs fault.NoMemory status text = ⊥

@@ -2,20 +2,19 @@
 ghost use Rattle.std.specs.Prelude.{◌≡◌, IfOk, OnErr};
 ghost use Rattle.orc_options.specs.Settings.{AreInRange};
 ghost use Rattle.orc_program.specs.Answers.{Answers};
-ghost use Rattle.orc_program.specs.Ended.{IsNew};
-ghost use Rattle.orc_program.specs.Refusals.{input_too_large, record_line};
+ghost use Rattle.orc_program.specs.Ended.{NothingEnded};
+ghost use Rattle.orc_program.specs.Refusals.{RefusesJobs, cause_word, input_too_large, record_line};
 
 use crate::Ended;
 use crate::jobs_mode::answer_jobs;
 use crate::make_mode::answer_make;
-use crate::reading::INPUT_LIMIT;
 use crate::stages_mode::answer_stages;
 use crate::trace_mode::{Told, answer_trace};
 use crate::trial_mode::answer_trial;
 use crate::watch_mode::answer_watch;
 use orc_board::Gate;
 use orc_fault::NoMemory;
-use orc_jobs::Text;
+use orc_jobs::{Cause, JobsFault, MOST_BYTES, Text};
 use orc_options::{Mode, Settings};
 use std::alloc::Global;
 use std::sync::Wait;
@@ -39,11 +38,11 @@ pub(crate) fn answer_of<R: Threads + Wait + Sync, G: Gate + Sync>(
     ended: &mut Ended,
 ) -> Result<Answer, NoMemory>
     requires ranges { AreInRange settings }
-    requires new { IsNew ended.old }
+    requires new { NothingEnded ended.old }
     ensures answers { IfOk result (λ a. Answers settings bytes.now ended.new a.status a.text) }
-    ensures nothing { OnErr result (IsNew ended.new) }
+    ensures nothing { OnErr result (NothingEnded ended.new) }
 {
-    if bytes.len() as u64 > INPUT_LIMIT {
+    if bytes.len() > MOST_BYTES {
         return too_large(alloc);
     }
     match settings.mode {
@@ -63,6 +62,31 @@ pub(crate) fn too_large(alloc: Global) -> Result<Answer, NoMemory>
 {
     let text = Text::from_slice(alloc, b"input too large\n")?;
     Ok(Answer { status: 6, text })
+}
+
+// Why a job file isn't worked through.
+pub(crate) fn refuse_jobs(alloc: Global, fault: JobsFault) -> Result<Answer, NoMemory>
+    ensures { IfOk result (λ a. RefusesJobs fault a.status a.text) }
+{
+    match fault {
+        JobsFault::Malformed { line, cause } => refuse_record(alloc, line, word_of(cause)),
+        JobsFault::TooMany => too_large(alloc),
+        JobsFault::NoMemory => Err(NoMemory),
+    }
+}
+
+// The word of a cause.
+fn word_of(cause: Cause) -> &'static str
+    ensures { result.now ≡ cause_word cause }
+{
+    match cause {
+        Cause::Fields => "fields",
+        Cause::Utf8 => "utf8",
+        Cause::Verb => "verb",
+        Cause::Id => "id",
+        Cause::Op => "op",
+        Cause::Sum => "sum",
+    }
 }
 
 // The line that names a record, and by a word what is wrong with it.

@@ -1,11 +1,11 @@
 //! What a run leaves for its caller.
-ghost use Rattle.orc_program.specs.Ended.{IsNew, Keeps, KeepsCell, KeepsStages};
+ghost use Rattle.orc_program.specs.Ended.{NothingEnded, RunEnded, WatchEnded, StagesEnded};
 
 use orc_board::Replies;
 use orc_chain_rule::Chain;
+use orc_domain::OrcRest;
 use orc_fifo_rule::Fifo;
 use orc_pairs_rule::Pairs;
-use orc_domain::OrcRest;
 use orc_run::{Finished, SetRest};
 use orc_split_rule::Split;
 use orc_stages_run::{RestList, StagesFinished};
@@ -28,7 +28,7 @@ pub struct Ended {
 impl Ended {
     /// Nothing yet.
     pub fn new() -> Ended
-        ensures { IsNew result }
+        ensures { NothingEnded result }
     {
         Ended {
             queue: None,
@@ -43,8 +43,8 @@ impl Ended {
 
     // Keeps what a run has left.
     pub(crate) fn keep(&mut self, finished: Finished)
-        requires { IsNew self.old }
-        ensures { Keeps finished self.new }
+        requires { NothingEnded self.old }
+        ensures { RunEnded finished self.new }
     {
         let Finished {
             queue,
@@ -63,8 +63,8 @@ impl Ended {
 
     // Keeps what a watch has left.
     pub(crate) fn keep_cell(&mut self, finished: WatchFinished)
-        requires { IsNew self.old }
-        ensures { KeepsCell finished self.new }
+        requires { NothingEnded self.old }
+        ensures { WatchEnded finished self.new }
     {
         let WatchFinished { cell, .. } = finished;
         self.cell = Some(cell);
@@ -72,8 +72,8 @@ impl Ended {
 
     // Keeps what a run of the pipeline has left.
     pub(crate) fn keep_stages(&mut self, finished: StagesFinished)
-        requires { IsNew self.old }
-        ensures { KeepsStages finished self.new }
+        requires { NothingEnded self.old }
+        ensures { StagesEnded finished self.new }
     {
         let StagesFinished { queues, .. } = finished;
         self.stages = Some(queues);

@@ -2,19 +2,18 @@
 ghost use Rattle.std.specs.Prelude.{◌≡◌, ◌≤◌, ◌⊎◌, if◌then◌else◌, IfOk, None, OnErr, Some, length};
 ghost use Rattle.orc_jobs.specs.GoodLines.{AreGood};
 ghost use Rattle.orc_jobs.specs.JobGrammar.{Refuses};
-ghost use Rattle.orc_jobs.specs.declared.cause.Cause.{Cause};
 ghost use Rattle.orc_options.specs.Settings.{AreInRange};
 ghost use Rattle.orc_program.specs.Answers.{AnswersJobs};
-ghost use Rattle.orc_program.specs.Ended.{HasReported, IsNew};
+ghost use Rattle.orc_program.specs.Ended.{HasReported, NothingEnded};
 ghost use Rattle.orc_program.specs.Headline.{numbers_of_rest};
-ghost use Rattle.orc_program.specs.Refusals.{cause_word, input_limit, input_too_large};
+ghost use Rattle.orc_program.specs.Refusals.{input_too_large};
 
 use crate::Ended;
-use crate::answer::{Answer, refuse_record, too_large};
+use crate::answer::{Answer, refuse_jobs};
 use crate::working::run_as_asked;
 use orc_board::Gate;
 use orc_fault::NoMemory;
-use orc_jobs::{Cause, JobsFault, Lines, read_jobs};
+use orc_jobs::{JobsFault, Lines, MOST_BYTES, read_jobs};
 use orc_options::Settings;
 use orc_report::{RestNumbers, report_text};
 use orc_run::Finished;
@@ -32,17 +31,15 @@ pub(crate) fn answer_jobs<R: Threads + Wait + Sync, G: Gate + Sync>(
     ended: &mut Ended,
 ) -> Result<Answer, NoMemory>
     requires ranges { AreInRange settings }
-    requires few { length bytes.now ≤ input_limit }
-    requires new { IsNew ended.old }
+    requires few { length bytes.now ≤ MOST_BYTES }
+    requires new { NothingEnded ended.old }
     ensures answers { IfOk result (λ a. AnswersJobs settings bytes.now ended.new a.status a.text
-        ⊎ ((a.status ≡ 6) × IsNew ended.new × Refuses bytes.now JobsFault.TooMany × (a.text ≡ input_too_large))) }
-    ensures nothing { OnErr result (IsNew ended.new) }
+        ⊎ ((a.status ≡ 6) × NothingEnded ended.new × Refuses bytes.now JobsFault.TooMany × (a.text ≡ input_too_large))) }
+    ensures nothing { OnErr result (NothingEnded ended.new) }
 {
     match read_jobs(alloc, bytes) {
         Ok(lines) => report(rt, alloc, settings, &lines, gate, ended),
-        Err(JobsFault::Malformed { line, cause }) => refuse_record(alloc, line, word_of(cause)),
-        Err(JobsFault::TooMany) => too_large(alloc),
-        Err(JobsFault::NoMemory) => Err(NoMemory),
+        Err(fault) => refuse_jobs(alloc, fault),
     }
 }
 
@@ -57,9 +54,9 @@ fn report<R: Threads + Wait + Sync, G: Gate + Sync>(
 ) -> Result<Answer, NoMemory>
     requires ranges { AreInRange settings }
     requires good { AreGood lines.now }
-    requires new { IsNew ended.old }
+    requires new { NothingEnded ended.old }
     ensures reported { IfOk result (λ a. (a.status ≡ 0) × HasReported lines.now settings ended.new a.text) }
-    ensures nothing { OnErr result (IsNew ended.new) }
+    ensures nothing { OnErr result (NothingEnded ended.new) }
 {
     let finished = run_as_asked(rt, alloc, settings, lines, gate)?;
     let numbers = numbers_at_rest(settings.rest, &finished);
@@ -86,18 +83,4 @@ fn numbers_at_rest(asked: bool, finished: &Finished) -> Option<RestNumbers>
         set_reused: finished.set.reused(),
         set_linked: finished.set.linked(),
     })
-}
-
-// The word of a cause.
-pub(crate) fn word_of(cause: Cause) -> &'static str
-    ensures { result.now ≡ cause_word cause }
-{
-    match cause {
-        Cause::Fields => "fields",
-        Cause::Utf8 => "utf8",
-        Cause::Verb => "verb",
-        Cause::Id => "id",
-        Cause::Op => "op",
-        Cause::Sum => "sum",
-    }
 }

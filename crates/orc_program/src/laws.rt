@@ -14,10 +14,10 @@ ghost use Rattle.orc_trace.specs.declared.answers.Replayed.{Replayed};
 ghost use Rattle.orc_trace.specs.declared.answers.TraceFault.{TraceFault};
 ghost use Rattle.orc_options.specs.declared.settings.Settings.{Settings};
 ghost use Rattle.orc_program.specs.Answers.{Answers, IsInput, IsTooLarge, made_text};
-ghost use Rattle.orc_program.specs.Refusals.{input_limit, input_too_large, malformed_line, malformed_watch};
+ghost use Rattle.orc_program.specs.Refusals.{input_too_large, malformed_line, malformed_watch};
 ghost use Rattle.orc_program.specs.declared.ended.Ended.{Ended};
 
-use orc_jobs::JobsFault;
+use orc_jobs::{JobsFault, MOST_BYTES};
 use orc_options::Mode;
 use orc_trace::TraceFault;
 use orc_watch::WatchFault;
@@ -28,38 +28,38 @@ pub fn inputs_have_one_answer()
     ensures large { (s : Settings) (bytes : List ℕ) (e : Ended) (status : ℕ) (text : List ℕ) → Answers s bytes e status text
         → IsTooLarge s.mode bytes → (status ≡ 6) × (text ≡ input_too_large) }
     ensures file { (s : Settings) (bytes : List ℕ) (e : Ended) (status : ℕ) (text : List ℕ) → Answers s bytes e status text
-        → s.mode ≡ Mode.Run → length bytes ≤ input_limit → (lines : List Line) → IsFileOf lines bytes → status ≡ 0 }
+        → s.mode ≡ Mode.Run → length bytes ≤ MOST_BYTES → (lines : List Line) → IsFileOf lines bytes → status ≡ 0 }
     ensures record { (s : Settings) (bytes : List ℕ) (e : Ended) (status : ℕ) (text : List ℕ) → Answers s bytes e status text
-        → s.mode ≡ Mode.Run → length bytes ≤ input_limit → (place : ℕ) (why : Cause) → Refuses bytes (JobsFault.Malformed place why)
+        → s.mode ≡ Mode.Run → length bytes ≤ MOST_BYTES → (place : ℕ) (why : Cause) → Refuses bytes (JobsFault.Malformed place why)
         → (status ≡ 3) × (text ≡ malformed_line place why) }
     ensures make { (s : Settings) (e : Ended) (status : ℕ) (text : List ℕ) → Answers s [] e status text
         → s.mode ≡ Mode.Make → (status ≡ 0) × (text ≡ made_text s) }
     ensures trial { (s : Settings) (e : Ended) (status : ℕ) (text : List ℕ) → Answers s [] e status text → s.mode ≡ Mode.Trial → status ≡ 0 }
     ensures replay { (s : Settings) (bytes : List ℕ) (e : Ended) (status : ℕ) (text : List ℕ) → Answers s bytes e status text
-        → s.mode ≡ Mode.Replay → length bytes ≤ input_limit → (played : Replayed) → IsReplay bytes played
+        → s.mode ≡ Mode.Replay → length bytes ≤ MOST_BYTES → (played : Replayed) → IsReplay bytes played
         → (status ≡ 0) × (text ≡ replay_line played) }
     ensures audit { (s : Settings) (bytes : List ℕ) (e : Ended) (status : ℕ) (text : List ℕ) → Answers s bytes e status text
-        → s.mode ≡ Mode.Audit → length bytes ≤ input_limit → (audit : Audit) → IsAudit bytes audit
+        → s.mode ≡ Mode.Audit → length bytes ≤ MOST_BYTES → (audit : Audit) → IsAudit bytes audit
         → (status ≡ 0) × (text ≡ audit_lines audit) }
     ensures fault { (s : Settings) (bytes : List ℕ) (e : Ended) (status : ℕ) (text : List ℕ) → Answers s bytes e status text
-        → (s.mode ≡ Mode.Replay) ⊎ (s.mode ≡ Mode.Audit) → length bytes ≤ input_limit → (why : TraceFault) → why ≢ TraceFault.NoMemory
+        → (s.mode ≡ Mode.Replay) ⊎ (s.mode ≡ Mode.Audit) → length bytes ≤ MOST_BYTES → (why : TraceFault) → why ≢ TraceFault.NoMemory
         → RefusesTrace bytes why → (status ≡ 8) × (text ≡ fault_line why) }
     ensures watch { (s : Settings) (bytes : List ℕ) (e : Ended) (status : ℕ) (text : List ℕ) → Answers s bytes e status text
-        → s.mode ≡ Mode.Watch → length bytes ≤ input_limit → (lines : List WatchLine) → IsWatchFile lines bytes → status ≡ 0 }
+        → s.mode ≡ Mode.Watch → length bytes ≤ MOST_BYTES → (lines : List WatchLine) → IsWatchFile lines bytes → status ≡ 0 }
     ensures watch_record { (s : Settings) (bytes : List ℕ) (e : Ended) (status : ℕ) (text : List ℕ) → Answers s bytes e status text
-        → s.mode ≡ Mode.Watch → length bytes ≤ input_limit → (place : ℕ) (why : WatchCause) → RefusesWatch bytes (WatchFault.Malformed place why)
+        → s.mode ≡ Mode.Watch → length bytes ≤ MOST_BYTES → (place : ℕ) (why : WatchCause) → RefusesWatch bytes (WatchFault.Malformed place why)
         → (status ≡ 3) × (text ≡ malformed_watch place why) }
     ensures stages { (s : Settings) (bytes : List ℕ) (e : Ended) (status : ℕ) (text : List ℕ) → Answers s bytes e status text
-        → s.mode ≡ Mode.Stages → length bytes ≤ input_limit → (lines : List Line) → IsFileOf lines bytes → status ≡ 0 }
+        → s.mode ≡ Mode.Stages → length bytes ≤ MOST_BYTES → (lines : List Line) → IsFileOf lines bytes → status ≡ 0 }
     ensures stages_record { (s : Settings) (bytes : List ℕ) (e : Ended) (status : ℕ) (text : List ℕ) → Answers s bytes e status text
-        → s.mode ≡ Mode.Stages → length bytes ≤ input_limit → (place : ℕ) (why : Cause) → Refuses bytes (JobsFault.Malformed place why)
+        → s.mode ≡ Mode.Stages → length bytes ≤ MOST_BYTES → (place : ℕ) (why : Cause) → Refuses bytes (JobsFault.Malformed place why)
         → (status ≡ 3) × (text ≡ malformed_line place why) }
 {}
 
 /// A law, with nothing to run: of an input that is told, the bytes that are answered are all, or more than an input may have.
 pub fn inputs_are_read_whole()
-    ensures whole { (told bytes : List ℕ) (after : Option (List ℕ)) → IsInput true (Some told) after bytes → length told ≤ input_limit
+    ensures whole { (told bytes : List ℕ) (after : Option (List ℕ)) → IsInput true (Some told) after bytes → length told ≤ MOST_BYTES
         → (bytes ≡ told) × (after ≡ Some []) }
-    ensures more { (told bytes : List ℕ) (after : Option (List ℕ)) → IsInput true (Some told) after bytes → input_limit < length told
-        → input_limit < length bytes }
+    ensures more { (told bytes : List ℕ) (after : Option (List ℕ)) → IsInput true (Some told) after bytes → MOST_BYTES < length told
+        → MOST_BYTES < length bytes }
 {}

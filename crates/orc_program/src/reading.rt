@@ -3,14 +3,11 @@ ghost use Rattle.std.specs.Prelude.{◌≡◌, ◌≢◌, ◌+◌, IfErr, IfOk, 
 ghost use Rattle.orc_feed.specs.Faults.{Rose};
 ghost use Rattle.orc_feed.specs.Whole.{TakesAtMost};
 ghost use Rattle.orc_program.specs.Answers.{IsInput, reads};
-ghost use Rattle.orc_program.specs.Refusals.{input_limit};
 
 use orc_feed::{ReadAll, Source, read_all};
+use orc_jobs::MOST_BYTES;
 use orc_options::Mode;
 use std::alloc::Global;
-
-/// The most bytes that an input may have.
-pub(crate) const INPUT_LIMIT: u64 = 16777216;
 
 // The bytes of the input, or one more than it may have; none in a mode that reads nothing.
 pub(crate) fn read_input<S: Source>(
@@ -19,7 +16,7 @@ pub(crate) fn read_input<S: Source>(
     source: &mut S,
 ) -> Result<Vec<u8>, ReadAll>
     ensures input { IfOk result (λ v. IsInput (reads mode) (S.left source.old) (S.left source.new) v.items) }
-    ensures most { TakesAtMost (input_limit + 1) (S.left source.old) (S.left source.new) }
+    ensures most { TakesAtMost (MOST_BYTES + 1) (S.left source.old) (S.left source.new) }
     ensures nothing { reads mode ≢ true → (S.left source.new ≡ S.left source.old) × (S.faults source.new ≡ S.faults source.old) }
     ensures answered { OnOk result (S.faults source.new ≡ S.faults source.old) }
     ensures memory { IfErr result (λ e. e ≡ ReadAll.NoMemory → S.faults source.new ≡ S.faults source.old) }
@@ -28,7 +25,7 @@ pub(crate) fn read_input<S: Source>(
     match mode {
         Mode::Make | Mode::Trial => Ok(Vec::new(alloc)),
         Mode::Run | Mode::Replay | Mode::Audit | Mode::Watch | Mode::Stages => {
-            read_all(alloc, source, INPUT_LIMIT)
+            read_all(alloc, source, MOST_BYTES as u64)
         }
     }
 }

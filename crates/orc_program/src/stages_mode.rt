@@ -4,15 +4,14 @@ ghost use Rattle.orc_jobs.specs.GoodLines.{AreGood};
 ghost use Rattle.orc_jobs.specs.JobGrammar.{Refuses};
 ghost use Rattle.orc_options.specs.Settings.{AreInRange};
 ghost use Rattle.orc_program.specs.Answers.{AnswersStages};
-ghost use Rattle.orc_program.specs.Ended.{HasStaged, IsNew};
-ghost use Rattle.orc_program.specs.Refusals.{input_limit, input_too_large};
+ghost use Rattle.orc_program.specs.Ended.{HasStaged, NothingEnded};
+ghost use Rattle.orc_program.specs.Refusals.{input_too_large};
 
 use crate::Ended;
-use crate::answer::{Answer, refuse_record, too_large};
-use crate::jobs_mode::word_of;
+use crate::answer::{Answer, refuse_jobs};
 use orc_board::Gate;
 use orc_fault::NoMemory;
-use orc_jobs::{JobsFault, Lines, read_jobs};
+use orc_jobs::{JobsFault, Lines, MOST_BYTES, read_jobs};
 use orc_options::Settings;
 use orc_stages_run::run_pipeline;
 use orc_stages_text::stages_text;
@@ -30,17 +29,15 @@ pub(crate) fn answer_stages<R: Threads + Wait + Sync, G: Gate + Sync>(
     ended: &mut Ended,
 ) -> Result<Answer, NoMemory>
     requires ranges { AreInRange settings }
-    requires few { length bytes.now ≤ input_limit }
-    requires new { IsNew ended.old }
+    requires few { length bytes.now ≤ MOST_BYTES }
+    requires new { NothingEnded ended.old }
     ensures answers { IfOk result (λ a. AnswersStages settings bytes.now ended.new a.status a.text
-        ⊎ ((a.status ≡ 6) × IsNew ended.new × Refuses bytes.now JobsFault.TooMany × (a.text ≡ input_too_large))) }
-    ensures nothing { OnErr result (IsNew ended.new) }
+        ⊎ ((a.status ≡ 6) × NothingEnded ended.new × Refuses bytes.now JobsFault.TooMany × (a.text ≡ input_too_large))) }
+    ensures nothing { OnErr result (NothingEnded ended.new) }
 {
     match read_jobs(alloc, bytes) {
         Ok(lines) => send_through(rt, alloc, settings, &lines, gate, ended),
-        Err(JobsFault::Malformed { line, cause }) => refuse_record(alloc, line, word_of(cause)),
-        Err(JobsFault::TooMany) => too_large(alloc),
-        Err(JobsFault::NoMemory) => Err(NoMemory),
+        Err(fault) => refuse_jobs(alloc, fault),
     }
 }
 
@@ -55,9 +52,9 @@ fn send_through<R: Threads + Wait + Sync, G: Gate + Sync>(
 ) -> Result<Answer, NoMemory>
     requires ranges { AreInRange settings }
     requires good { AreGood lines.now }
-    requires new { IsNew ended.old }
+    requires new { NothingEnded ended.old }
     ensures told { IfOk result (λ a. (a.status ≡ 0) × HasStaged lines.now settings ended.new a.text) }
-    ensures nothing { OnErr result (IsNew ended.new) }
+    ensures nothing { OnErr result (NothingEnded ended.new) }
 {
     let Settings {
         posters,

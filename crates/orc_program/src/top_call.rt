@@ -7,8 +7,7 @@ ghost use Rattle.orc_jobs.specs.JobGrammar.{IsFileOf};
 ghost use Rattle.orc_jobs.specs.declared.line.Line.{Line};
 ghost use Rattle.orc_options.specs.Settings.{AskFor};
 ghost use Rattle.orc_program.specs.Answers.{AnswersWords, AskToRead};
-ghost use Rattle.orc_program.specs.Ended.{EndsSafely, IsNew};
-ghost use Rattle.orc_program.specs.Refusals.{input_limit};
+ghost use Rattle.orc_program.specs.Ended.{EndsSafely, NothingEnded};
 
 use crate::answer::answer_of;
 use crate::reading::read_input;
@@ -17,6 +16,7 @@ use crate::{CommandWords, Ended};
 use orc_board::Gate;
 use orc_fault::NoMemory;
 use orc_feed::{ReadAll, Sink, Source};
+use orc_jobs::MOST_BYTES;
 use orc_options::{Mode, Refused, settings_of};
 use std::alloc::Global;
 use std::sync::Wait;
@@ -51,7 +51,7 @@ pub fn orc_main<R: Threads + Wait + Sync, S: Source, K: Sink, G: Gate + Sync>(
     gate: &G,
     ended: &mut Ended,
 ) -> u8
-    requires { IsNew ended.old }
+    requires { NothingEnded ended.old }
     ensures statuses { (result ≡ 0) ⊎ (result ≡ 2) ⊎ (result ≡ 3) ⊎ (result ≡ 4) ⊎ (result ≡ 5) ⊎ (result ≡ 6) ⊎ (result ≡ 7) ⊎ (result ≡ 8) }
 
     // The answer to the words and the input is written: all of its text with its own status, or a front of it with 5.
@@ -61,11 +61,11 @@ pub fn orc_main<R: Threads + Wait + Sync, S: Source, K: Sink, G: Gate + Sync>(
     ensures cut_short { result ≡ 5 → (status : ℕ) × (text : List ℕ)
         × AnswersWords words.now (S.left source.old) (S.left source.new) ended.new status text
         × AppendsPrefix (K.written sink.old) (K.written sink.new) text }
-    ensures unanswered { (result ≡ 4) ⊎ (result ≡ 7) → IsNew ended.new × Keeps (K.written sink.old) (K.written sink.new) }
+    ensures unanswered { (result ≡ 4) ⊎ (result ≡ 7) → NothingEnded ended.new × Keeps (K.written sink.old) (K.written sink.new) }
 
     // So a file of lines is worked through and reported, unless a read or a write failed or memory was refused.
     ensures complete { (bytes : List ℕ) (lines : List Line) → S.left source.old ≡ Some bytes → AskFor words.now Mode.Run
-        → length bytes ≤ input_limit → IsFileOf lines bytes
+        → length bytes ≤ MOST_BYTES → IsFileOf lines bytes
         → ¬ Rose (S.faults source.old) (S.faults source.new) → ¬ Rose (K.faults sink.old) (K.faults sink.new)
         → (result ≡ 0) ⊎ (result ≡ 7) }
 
@@ -74,7 +74,7 @@ pub fn orc_main<R: Threads + Wait + Sync, S: Source, K: Sink, G: Gate + Sync>(
 
     // What is read: nothing unless the words ask for a mode that reads, and no more than one byte past the limit.
     ensures nothing_read { ¬ AskToRead words.now → (S.left source.new ≡ S.left source.old) × (S.faults source.new ≡ S.faults source.old) }
-    ensures most_read { TakesAtMost (input_limit + 1) (S.left source.old) (S.left source.new) }
+    ensures most_read { TakesAtMost (MOST_BYTES + 1) (S.left source.old) (S.left source.new) }
 
     // Which faults there were.
     ensures read_fault { result ≡ 4 → AskToRead words.now × Rose (S.faults source.old) (S.faults source.new) }

@@ -1,7 +1,7 @@
 //! Mode trial: generated work is worked through and summed up.
 ghost use Rattle.std.specs.Prelude.{◌≡◌, IfOk, OnErr};
 ghost use Rattle.orc_options.specs.Settings.{AreInRange};
-ghost use Rattle.orc_program.specs.Ended.{HasSummed, IsNew};
+ghost use Rattle.orc_program.specs.Ended.{HasSummed, NothingEnded};
 
 use crate::Ended;
 use crate::answer::Answer;
@@ -24,9 +24,9 @@ pub(crate) fn answer_trial<R: Threads + Wait + Sync, G: Gate + Sync>(
     ended: &mut Ended,
 ) -> Result<Answer, NoMemory>
     requires ranges { AreInRange settings }
-    requires new { IsNew ended.old }
+    requires new { NothingEnded ended.old }
     ensures summed { IfOk result (λ a. (a.status ≡ 0) × HasSummed settings ended.new a.text) }
-    ensures nothing { OnErr result (IsNew ended.new) }
+    ensures nothing { OnErr result (NothingEnded ended.new) }
 {
     let made = make_lines(alloc, settings.seed, settings.lines)?;
     let finished = run_as_asked(rt, alloc, settings, &made, gate)?;

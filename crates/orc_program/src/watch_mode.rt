@@ -2,8 +2,8 @@
 ghost use Rattle.std.specs.Prelude.{◌≡◌, ◌≤◌, ◌⊎◌, if◌then◌else◌, IfOk, None, OnErr, Some, length};
 ghost use Rattle.orc_options.specs.Settings.{AreInRange};
 ghost use Rattle.orc_program.specs.Answers.{AnswersWatch};
-ghost use Rattle.orc_program.specs.Ended.{HasWatched, IsNew, cell_numbers};
-ghost use Rattle.orc_program.specs.Refusals.{input_limit, input_too_large, watch_word};
+ghost use Rattle.orc_program.specs.Ended.{HasWatched, NothingEnded, cell_numbers};
+ghost use Rattle.orc_program.specs.Refusals.{input_too_large, watch_word};
 ghost use Rattle.orc_watch.specs.WatchGrammar.{Refuses};
 
 use crate::Ended;
@@ -27,11 +27,10 @@ pub(crate) fn answer_watch<R: Threads + Wait + Sync, G: Gate + Sync>(
     ended: &mut Ended,
 ) -> Result<Answer, NoMemory>
     requires ranges { AreInRange settings }
-    requires few { length bytes.now ≤ input_limit }
-    requires new { IsNew ended.old }
+    requires new { NothingEnded ended.old }
     ensures answers { IfOk result (λ a. AnswersWatch settings bytes.now ended.new a.status a.text
-        ⊎ ((a.status ≡ 6) × IsNew ended.new × Refuses bytes.now WatchFault.TooMany × (a.text ≡ input_too_large))) }
-    ensures nothing { OnErr result (IsNew ended.new) }
+        ⊎ ((a.status ≡ 6) × NothingEnded ended.new × Refuses bytes.now WatchFault.TooMany × (a.text ≡ input_too_large))) }
+    ensures nothing { OnErr result (NothingEnded ended.new) }
 {
     match read_watch(alloc, bytes) {
         Ok(lines) => watch(rt, alloc, settings, &lines, gate, ended),
@@ -52,9 +51,9 @@ fn watch<R: Threads + Wait + Sync, G: Gate + Sync>(
 ) -> Result<Answer, NoMemory>
     requires ranges { AreInRange settings }
     requires few { length lines.now ≤ 65535 }
-    requires new { IsNew ended.old }
+    requires new { NothingEnded ended.old }
     ensures watched { IfOk result (λ a. (a.status ≡ 0) × HasWatched lines.now settings ended.new a.text) }
-    ensures nothing { OnErr result (IsNew ended.new) }
+    ensures nothing { OnErr result (NothingEnded ended.new) }
 {
     let finished = watch_new_cell(rt, alloc, lines, settings.posters, settings.rows, gate)?;
     let numbers = numbers_at_rest(settings.rest, &finished);

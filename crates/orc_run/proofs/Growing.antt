@@ -13,7 +13,7 @@ use Rattle.orc_board.specs.declared.replies.TakeReply.{TakeReply}
 use Rattle.orc_board.specs.Follows.{LastIsEmpty, ZeroLast, none}
 use Rattle.orc_board.specs.Runs.{Ran}
 use Rattle.orc_board.specs.Stretches.{Did, Kind, Row, View, Works, all_beside, beside, nothing, of_queue, of_set}
-use Rattle.orc_board.proofs.Chains.{Did-just, chain_more}
+use Rattle.orc_board.proofs.Shares.{Did-just, DidAll-more}
 
 -- from the journal j to k the history doesn't grow
 pub record Silent {A E : Type 0} (history : List A → List E) (j k : List A) : Type 0 where
@@ -38,9 +38,9 @@ module _ {A B : Type 0} (qs : Bool → View A QueueEntry QueueRefused) (s : View
         → Works (all_beside qs crowd) (beside s crowd) worker rows none [] l o
     works_more crowd worker rows w = record {
       queues = λ rush.
-          chain_more of_queue (beside (qs rush) crowd) worker (λ (row : Row). row.queues rush) rows [] (k rush) (l rush) (w.queues rush)
+          DidAll-more of_queue (beside (qs rush) crowd) worker (λ (row : Row). row.queues rush) rows [] (k rush) (l rush) (w.queues rush)
           (did_nothing of_queue (beside (qs rush) crowd) worker (k rush) (l rush) (record { later = (a rush).later; same = (a rush).same }));
-      set = chain_more of_set (beside s crowd) worker (λ (row : Row). row.set) rows [] n o w.set
+      set = DidAll-more of_set (beside s crowd) worker (λ (row : Row). row.set) rows [] n o w.set
           (did_nothing of_set (beside s crowd) worker n o (record { later = b.later; same = b.same }));
     }
 

@@ -1,28 +1,9 @@
 -- Desks that get the passes of one queue more.
-use Rattle.std.proofs.Common.{◌≡◌, ℕ, zero, suc, ◌+◌, ◌<◌, List, [], ◌∷◌, ◌++◌, length, refl, ap, sym, ◌∙◌, subst, arith, slice_index_or}
-use Rattle.std.specs.List.{remove}
+use Rattle.std.proofs.Common.{◌≡◌, ℕ, zero, suc, ◌+◌, ◌<◌, List, [], ◌∷◌, ◌++◌, length, refl, sym, ◌∙◌, subst, arith, slice_index_or}
 use Rattle.orc_history.specs.declared.queue.SharedQueue.{Ghosts as QueueOf}
 use Rattle.orc_stages.specs.declared.replies.StageDesk.{StageDesk}
 use Rattle.orc_stages.specs.Desks.{ArePasses}
 use Rattle.orc_stages.specs.Run.{AreFresh, IsFresh, IsNew, StandAhead}
-
-none_ahead : {P : Type 0} (ps : List P) (ds : List (StageDesk P)) → length ps ≡ length ds → length ds ≡ 0 → StandAhead ps ds ds
-none_ahead [] [] e f = tt
-none_ahead [] (d ∷ ds) e f = absurd (omega (arith, f))
-none_ahead (p ∷ ps) [] e f = absurd (omega (arith, e))
-none_ahead (p ∷ ps) (d ∷ ds) e f = absurd (omega (arith, f))
-
-pub ahead_none : {P : Type 0} (ps : List P) (ds es : List (StageDesk P)) → length ps ≡ length ds → length ds ≡ 0 → es ≡ ds → StandAhead ps ds es
-ahead_none {P} ps ds es e f same = subst (λ (xs : List (StageDesk P)). StandAhead ps ds xs) (sym same) (none_ahead ps ds e f)
-
-pub ahead_more : {P : Type 0} (all rest : List P) (p : P) (old ds es : List (StageDesk P)) (d e : StageDesk P)
-    → length all ≡ length old → p ≡ slice_index_or all 0 p → rest ≡ remove all 0 → old ≡ d ∷ ds → e.passes.items ≡ p ∷ d.passes.items → StandAhead rest ds es
-    → StandAhead all old (e ∷ es)
-ahead_more [] rest p old ds es d e many value is a b h = absurd (omega (arith, many, ap length a))
-ahead_more {P} (x ∷ xs) rest p old ds es d e many value is a b h =
-    let both : StandAhead (x ∷ xs) (d ∷ ds) (e ∷ es) =
-    (b ∙ ap (λ (y : P). y ∷ d.passes.items) value, subst (λ (ys : List P). StandAhead ys ds es) is h) in
-    subst (λ (zs : List (StageDesk P)). StandAhead (x ∷ xs) zs (e ∷ es)) (sym a) both
 
 new_ahead : {Q P A : Type 0} (q : QueueOf Q P A) (queue : Q) (queues : List Q) (p : P) (ps : List P) → q.history queue (q.journal p) ≡ [] → IsNew q queues ps
     → IsNew q (queue ∷ queues) (p ∷ ps)

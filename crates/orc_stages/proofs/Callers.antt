@@ -3,12 +3,12 @@ use Rattle.std.proofs.Common.{◌≡◌, ◌≢◌, ℕ, zero, suc, ◌+◌, ◌
 use Rattle.orc_history.specs.declared.queue.QueueEntry.TheVariants.{Empty}
 use Rattle.orc_history.specs.declared.queue.SharedQueue.{Ghosts as QueueOf}
 use Rattle.orc_jobs.specs.declared.line.Line.{Line}
-use Rattle.orc_board.specs.Reserved.{Reserved}
+use Rattle.orc_board.specs.ListWithRoom.{ListWithRoom}
 use Rattle.orc_board.specs.Stretches.{queue_view}
 use Rattle.orc_board.specs.Table.{EndsWith}
 use Rattle.orc_stages.specs.declared.replies.StageReply.{StageReply}
 use Rattle.orc_stages.specs.declared.team.Worker.{Worker}
-use Rattle.orc_stages.specs.Stage.{QueueShare, ShareChain, StageRow, froms, tos, MoveTable, Moving, Taking}
+use Rattle.orc_stages.specs.Stage.{QueueShare, DidShares, StageRow, froms, tos, MoveTable, Moving, Taking}
 use Rattle.orc_stages.specs.Calls.{MovesMore}
 use Rattle.orc_stages.specs.Desks.{ArePasses, view_at, seen_at}
 use Rattle.orc_stages.specs.Caller.{spare_at, CallerMoved, MovedBetween}
@@ -17,7 +17,7 @@ use Rattle.orc_stages.proofs.Counts.{no_items}
 use Rattle.orc_stages.proofs.Desks.{ahead, nowhere}
 
 pub between : {Q P A : Type 0} (q : QueueOf Q P A) (queue next : Q) (queues more : List Q) (lines : List Line) (stage agent : ℕ) (p r p2 r2 : P)
-    (ps old : List P) (before after : Reserved StageReply)
+    (ps old : List P) (before after : ListWithRoom StageReply)
     → more ≡ next ∷ queues → old ≡ r ∷ ps → q.agent_of queue p ≡ agent
     → MovesMore q queue next lines stage p r p2 r2 before.items after.items
     → length after.items + after.spare ≡ length before.items + before.spare
@@ -40,15 +40,15 @@ between q queue next queues more lines stage agent p r p2 r2 ps old before after
       last = last;
     })
 
-out_chains : {Q P A : Type 0} (q : QueueOf Q P A) (queue : Q) (queues : List Q) (agent : ℕ) (p p2 : P) (ps : List P) (shares : List QueueShare)
-    → ShareChain (queue_view q queue) agent shares (q.journal p) (q.journal p2) → (i : ℕ)
-    → ShareChain (view_at q (queue ∷ queues) i) agent (nowhere i ++ ahead shares nowhere i) (seen_at q (p ∷ ps) i) (seen_at q (p2 ∷ ps) i)
-out_chains q queue queues agent p p2 ps shares c zero = c
-out_chains q queue queues agent p p2 ps shares c (suc i) = shares_none (view_at q queues i) agent (seen_at q ps i)
+out_acted : {Q P A : Type 0} (q : QueueOf Q P A) (queue : Q) (queues : List Q) (agent : ℕ) (p p2 : P) (ps : List P) (shares : List QueueShare)
+    → DidShares (queue_view q queue) agent shares (q.journal p) (q.journal p2) → (i : ℕ)
+    → DidShares (view_at q (queue ∷ queues) i) agent (nowhere i ++ ahead shares nowhere i) (seen_at q (p ∷ ps) i) (seen_at q (p2 ∷ ps) i)
+out_acted q queue queues agent p p2 ps shares c zero = c
+out_acted q queue queues agent p p2 ps shares c (suc i) = shares_none (view_at q queues i) agent (seen_at q ps i)
 
 -- no stage is left
 pub caller_last : {Q P A : Type 0} (q : QueueOf Q P A) (queue : Q) (queues all : List Q) (lines : List Line) (stage agent now : ℕ) (p p2 : P) (ps old : List P)
-    (ws vs : List (Worker P)) (outs : Reserved ℕ)
+    (ws vs : List (Worker P)) (outs : ListWithRoom ℕ)
     → all ≡ queue ∷ queues → old ≡ p ∷ ps → length ws ≡ 0 → vs ≡ ws → now ≡ agent
     → Taking (queue_view q queue) now outs.items (q.journal p) (q.journal p2)
     → (outs.spare ≢ 0 → EndsWith (queue_view q queue) now (Empty now) (q.journal p) (q.journal p2))
@@ -73,7 +73,7 @@ caller_last q queue queues all lines stage agent now p p2 ps old ws vs outs a b 
         tooks = t.tooks;
         puts = t.puts;
       };
-      chains = out_chains q queue queues agent p p2 ps t.shares t.chain;
+      acted = out_acted q queue queues agent p p2 ps t.shares t.did;
       ended = λ i low. absurd (omega (arith, low));
       outs_ended = last;
     })
@@ -89,7 +89,7 @@ less_of i n low = omega (arith, low)
 
 -- one stage, and then the others
 module _ {Q P A : Type 0} (q : QueueOf Q P A) (queue : Q) (more : List Q) (lines : List Line) (stage agent : ℕ) (p p2 : P) (rest mid new : List P)
-    (w v : Worker P) (ws vs : List (Worker P)) (outs : Reserved ℕ) (kept : v ≡ record { agent = w.agent; desk = w.desk; posts = w.posts; moves = v.moves })
+    (w v : Worker P) (ws vs : List (Worker P)) (outs : ListWithRoom ℕ) (kept : v ≡ record { agent = w.agent; desk = w.desk; posts = w.posts; moves = v.moves })
     (one : MovedBetween q queue more lines stage agent p rest p2 mid w.moves v.moves)
     (tail : CallerMoved q more lines (stage + 1) agent mid new ws vs outs) where
   abbrev all_gave : ℕ → List QueueShare
@@ -98,16 +98,16 @@ module _ {Q P A : Type 0} (q : QueueOf Q P A) (queue : Q) (more : List Q) (lines
   abbrev all_took : ℕ → List QueueShare
   all_took = ahead (froms one.rows) tail.took
 
-  step_chains : (i : ℕ) → ShareChain (view_at q (queue ∷ more) i) agent (all_gave i ++ all_took i) (seen_at q (p ∷ rest) i) (seen_at q (p2 ∷ new) i)
-  step_chains zero = one.from
-  step_chains (suc zero) =
-      let then : ShareChain (view_at q more 0) agent (tail.took 0) (seen_at q mid 0) (seen_at q new 0) =
-      subst (λ (z : List QueueShare). ShareChain (view_at q more 0) agent (z ++ tail.took 0) (seen_at q mid 0) (seen_at q new 0)) tail.acts.none_first
-      (tail.chains 0) in
+  step_acted : (i : ℕ) → DidShares (view_at q (queue ∷ more) i) agent (all_gave i ++ all_took i) (seen_at q (p ∷ rest) i) (seen_at q (p2 ∷ new) i)
+  step_acted zero = one.from
+  step_acted (suc zero) =
+      let then : DidShares (view_at q more 0) agent (tail.took 0) (seen_at q mid 0) (seen_at q new 0) =
+      subst (λ (z : List QueueShare). DidShares (view_at q more 0) agent (z ++ tail.took 0) (seen_at q mid 0) (seen_at q new 0)) tail.acts.none_first
+      (tail.acted 0) in
       shares_append (view_at q more 0) agent (tos one.rows) (tail.took 0) (seen_at q rest 0) (seen_at q mid 0) (seen_at q new 0) one.to then
-  step_chains (suc (suc i)) =
-      subst (λ (j : List A). ShareChain (view_at q more (suc i)) agent (tail.gave (suc i) ++ tail.took (suc i)) j (seen_at q new (suc i))) (one.others i)
-      (tail.chains (suc i))
+  step_acted (suc (suc i)) =
+      subst (λ (j : List A). DidShares (view_at q more (suc i)) agent (tail.gave (suc i) ++ tail.took (suc i)) j (seen_at q new (suc i))) (one.others i)
+      (tail.acted (suc i))
 
   -- what comes last behind the first stage
   later_last : (i : ℕ) → EndsWith (view_at q more i) agent (Empty agent) (seen_at q mid i) (seen_at q new i)
@@ -161,13 +161,13 @@ module _ {Q P A : Type 0} (q : QueueOf Q P A) (queue : Q) (more : List Q) (lines
       tooks = tail.acts.tooks;
       puts = tail.acts.puts;
     };
-    chains = step_chains;
+    acted = step_acted;
     ended = step_ended;
     outs_ended = λ room. later_last (length ws) (tail.outs_ended room);
   }
 
 pub caller_of : {Q P A : Type 0} (q : QueueOf Q P A) (queue : Q) (more queues : List Q) (lines : List Line) (stage agent : ℕ) (p p2 : P)
-    (rest mid new old : List P) (w v : Worker P) (ws vs olds : List (Worker P)) (outs : Reserved ℕ)
+    (rest mid new old : List P) (w v : Worker P) (ws vs olds : List (Worker P)) (outs : ListWithRoom ℕ)
     → queues ≡ queue ∷ more → old ≡ p ∷ rest → olds ≡ w ∷ ws → v ≡ record { agent = w.agent; desk = w.desk; posts = w.posts; moves = v.moves }
     → MovedBetween q queue more lines stage agent p rest p2 mid w.moves v.moves
     → CallerMoved q more lines (stage + 1) agent mid new ws vs outs

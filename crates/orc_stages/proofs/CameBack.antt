@@ -9,12 +9,12 @@ use Rattle.orc_history.specs.declared.queue.QueueEntry.TheVariants.{Empty}
 use Rattle.orc_history.specs.declared.queue.QueueRefused.{QueueRefused}
 use Rattle.orc_history.specs.declared.queue.SharedQueue.{Ghosts as QueueOf}
 use Rattle.orc_jobs.specs.declared.line.Line.{Line}
-use Rattle.orc_board.specs.Reserved.{Reserved}
+use Rattle.orc_board.specs.ListWithRoom.{ListWithRoom}
 use Rattle.orc_board.specs.declared.replies.PostReply.{PostReply}
 use Rattle.orc_board.specs.Stretches.{View}
 use Rattle.orc_board.specs.Table.{EndsWith}
 use Rattle.orc_board.specs.Follows.{Pointwise, LastIsEmpty, IsWorker}
-use Rattle.orc_board.proofs.Chains.{prefix_trans}
+use Rattle.orc_board.proofs.Shares.{prefix_trans}
 use Rattle.orc_board.proofs.ListFacts.{AllByRecursion-map}
 use Rattle.orc_workers.specs.Learning.{IsWhole}
 use Rattle.orc_workers.proofs.CameBack.{none_at_start, all_below, crowd_in_run}
@@ -91,7 +91,7 @@ module _ {Q P A : Type 0} (q : QueueOf Q P A) (queues : List Q) (lines : List Li
     has_room : (w v : Worker P) → SameWorker w v → HasRoom posters lines w → HasRoom posters lines v
     has_room w v s room = λ high.
         let before : length lines ≤ length w.moves.items + w.moves.spare = room (omega (arith, high, s.agent_is)) in
-        omega (arith, before, ap (λ (r : Reserved StageReply). length r.items + r.spare) s.moves_are)
+        omega (arith, before, ap (λ (r : ListWithRoom StageReply). length r.items + r.spare) s.moves_are)
 
     others_then : (k : ℕ → List A) → AllBelow q queues posters stages k → (w v : Worker P) → Learnt q queues k w v → (i : ℕ)
         → OthersDid (V i) (IsWorker posters stages) w.agent (seen_at q w.desk.passes.items i) (k i)
@@ -106,9 +106,9 @@ module _ {Q P A : Type 0} (q : QueueOf Q P A) (queues : List Q) (lines : List Li
         let a : Told X lines posters v.agent w.posts.items w.moves.items unseen k =
         subst (λ (x : ℕ). Told X lines posters x w.posts.items w.moves.items unseen k) (sym l.same.agent_is) now in
         let b : Told X lines posters v.agent v.posts.items w.moves.items unseen k =
-        subst (λ (x : Reserved PostReply). Told X lines posters v.agent x.items w.moves.items unseen k) (sym l.same.posts_are) a in
+        subst (λ (x : ListWithRoom PostReply). Told X lines posters v.agent x.items w.moves.items unseen k) (sym l.same.posts_are) a in
         record {
-          told = subst (λ (x : Reserved StageReply). Told X lines posters v.agent v.posts.items x.items unseen k) (sym l.same.moves_are) b;
+          told = subst (λ (x : ListWithRoom StageReply). Told X lines posters v.agent v.posts.items x.items unseen k) (sym l.same.moves_are) b;
           room = has_room w v l.same t.room;
           seen = λ i. (l.whole i).is;
         }
@@ -140,7 +140,7 @@ module _ {Q P A : Type 0} (q : QueueOf Q P A) (queues : List Q) (lines : List Li
 
     -- the caller's passes d0 at first, d1 after they learned, d2 after it moved what was left, and d3 after they learned again; the
     -- workers ws at first, vs after their work, us after the caller learned, ts after it moved, and zs after it learned again
-    module _ (d0 d1 d2 d3 : List P) (outs : Reserved ℕ) (ws vs us ts zs : List (Worker P)) (below1 : AllBelow q queues posters stages (seen_at q d1))
+    module _ (d0 d1 d2 d3 : List P) (outs : ListWithRoom ℕ) (ws vs us ts zs : List (Worker P)) (below1 : AllBelow q queues posters stages (seen_at q d1))
         (below3 : AllBelow q queues posters stages (seen_at q d3)) (new : IsNew q queues d0) (num : AreNumbered 1 ws) (many : length ws ≡ posters + stages)
         (fresh : AllByRecursion (λ (w : Worker P). IsNew q queues w.desk.passes.items) ws) (room : AllByRecursion (HasRoom posters lines) ws)
         (none : AllByRecursion (λ (w : Worker P). w.moves.items ≡ []) ws) (did : Pointwise (DidWork q queues lines posters) ws vs)
@@ -216,7 +216,7 @@ module _ {Q P A : Type 0} (q : QueueOf Q P A) (queues : List Q) (lines : List Li
           subst (λ (x : ℕ). own_of agent_of_entry x ((V i).history (seen_at q d3 i)) ≡ own_of agent_of_entry x ((V i).history (seen_at q d1 i))) is (w.holds.own i)
 
       caller_later : (i : ℕ) → IsPrefix (seen_at q d1 i) (seen_at q d2 i)
-      caller_later i = (shares_stretch (V i) 0 (m.gave i ++ m.took i) (seen_at q d1 i) (seen_at q d2 i) (m.chains i)).later
+      caller_later i = (shares_stretch (V i) 0 (m.gave i ++ m.took i) (seen_at q d1 i) (seen_at q d2 i) (m.acted i)).later
 
       all_later : (i : ℕ) → IsPrefix (seen_at q d1 i) (seen_at q d3 i)
       all_later i = prefix_trans (seen_at q d1 i) (seen_at q d2 i) (seen_at q d3 i) (caller_later i) (learn3 i).grows
@@ -228,8 +228,8 @@ module _ {Q P A : Type 0} (q : QueueOf Q P A) (queues : List Q) (lines : List Li
           let w = find (IsTold q queues lines posters stages (seen_at q d1)) 1 i us num_us told (omega (arith, low, long_us)) in
           let is : w.worker.agent ≡ suc i = w.agent_is ∙ omega arith in
           let posts : posts_at zs i ≡ w.worker.posts.items =
-          nth_next (λ (x : Worker P). x.posts.items) SameWorker ts zs (λ x y s. ap (λ (r : Reserved PostReply). r.items) s.posts_are) same3 i
-          ∙ (nth_next (λ (x : Worker P). x.posts.items) SameDesk us ts (λ x y s. ap (λ (r : Reserved PostReply). r.items) s.posts_are) moves.desks i ∙ w.posts_are) in
+          nth_next (λ (x : Worker P). x.posts.items) SameWorker ts zs (λ x y s. ap (λ (r : ListWithRoom PostReply). r.items) s.posts_are) same3 i
+          ∙ (nth_next (λ (x : Worker P). x.posts.items) SameDesk us ts (λ x y s. ap (λ (r : ListWithRoom PostReply). r.items) s.posts_are) moves.desks i ∙ w.posts_are) in
           let here : Told X lines posters (suc i) w.worker.posts.items w.worker.moves.items unseen (seen_at q d1) =
           subst (λ (x : ℕ). Told X lines posters x w.worker.posts.items w.worker.moves.items unseen (seen_at q d1)) is w.holds.told in
           let more : Told X lines posters (suc i) w.worker.posts.items w.worker.moves.items unseen (seen_at q d3) =
@@ -238,20 +238,20 @@ module _ {Q P A : Type 0} (q : QueueOf Q P A) (queues : List Q) (lines : List Li
           rw (posts, w.moves_are) more
 
       moves_zs : (i : ℕ) → moves_at zs i ≡ moves_at ts i
-      moves_zs i = nth_next (λ (x : Worker P). x.moves.items) SameWorker ts zs (λ x y s. ap (λ (r : Reserved StageReply). r.items) s.moves_are) same3 i
+      moves_zs i = nth_next (λ (x : Worker P). x.moves.items) SameWorker ts zs (λ x y s. ap (λ (r : ListWithRoom StageReply). r.items) s.moves_are) same3 i
 
       caller_ran : CallerRan (in_run V posters stages) lines stages m.more outs.items (seen_at q d3)
       caller_ran = record {
         gave = m.gave;
         took = m.took;
         acts = subst (λ (n : ℕ). CallerActs lines 1 n 0 m.more outs.items m.gave m.took) before_many m.acts;
-        chains =
+        acted =
             shares_until V C 0 (λ i. m.gave i ++ m.took i) unseen (seen_at q d2) (seen_at q d3) laws
             (λ i. record { later = (learn3 i).grows; own = (learn3 i).own_is; below = below3 i })
             (shares_after V C 0 (λ i. m.gave i ++ m.took i) unseen (seen_at q d1) (seen_at q d2) laws
             (λ i. others_first (V i) C 0 (seen_at q d0 i) (seen_at q d1 i) (laws.none i) (new i)
             (record { later = (learn1 i).grows; own = (learn1 i).own_is; below = below1 i }))
-            (shares_among V C 0 (λ i. m.gave i ++ m.took i) (seen_at q d1) (seen_at q d2) laws m.chains));
+            (shares_among V C 0 (λ i. m.gave i ++ m.took i) (seen_at q d1) (seen_at q d2) laws m.acted));
       }
 
       -- what came last for the caller comes last still
@@ -339,7 +339,7 @@ other_still {P = P} q queues w v o s = record {
 }
 
 pub others_moved : {Q P A : Type 0} (q : QueueOf Q P A) (queues : List Q) (lines : List Line) (posters : ℕ) (old new : List P) (ws vs : List (Worker P))
-    (outs : Reserved ℕ)
+    (outs : ListWithRoom ℕ)
     → CallerMovedFor q queues lines posters old new ws vs outs → AllByRecursion (IsOther q queues 0) ws → AllByRecursion (IsOther q queues 0) vs
 others_moved q queues lines posters old new ws vs outs m o =
     let desks = (moved_for m.moved.more (length m.front) (length m.before) m.front m.before m.after ws vs m.is_before m.is_after refl refl m.moved.moved).desks in

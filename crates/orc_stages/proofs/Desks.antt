@@ -10,7 +10,7 @@ use Rattle.orc_board.specs.Table.{EndsWith}
 use Rattle.orc_board.specs.Follows.{LastIsEmpty, own_records}
 use Rattle.orc_workers.proofs.Resting.{ends_last}
 use Rattle.orc_stages.specs.declared.replies.StageReply.{StageReply}
-use Rattle.orc_stages.specs.Stage.{QueueShare, ShareChain, Posting, Moving, froms, tos}
+use Rattle.orc_stages.specs.Stage.{QueueShare, DidShares, Posting, Moving, froms, tos}
 use Rattle.orc_stages.specs.Desks.{view_at, seen_at, StageActs, PosterDid, StageDid}
 use Rattle.orc_stages.specs.Team.{Told}
 use Rattle.orc_stages.proofs.Shares.{shares_none}
@@ -23,11 +23,11 @@ ahead x f (suc i) = f i
 abbrev pub nowhere : ℕ → List QueueShare
 nowhere i = []
 
-first_chains : {Q P A : Type 0} (q : QueueOf Q P A) (queue : Q) (queues : List Q) (agent : ℕ) (p p2 : P) (ps : List P) (shares : List QueueShare)
-    → ShareChain (queue_view q queue) agent shares (q.journal p) (q.journal p2) → (i : ℕ)
-    → ShareChain (view_at q (queue ∷ queues) i) agent (ahead shares nowhere i) (seen_at q (p ∷ ps) i) (seen_at q (p2 ∷ ps) i)
-first_chains q queue queues agent p p2 ps shares c zero = c
-first_chains q queue queues agent p p2 ps shares c (suc i) = shares_none (view_at q queues i) agent (seen_at q ps i)
+first_acted : {Q P A : Type 0} (q : QueueOf Q P A) (queue : Q) (queues : List Q) (agent : ℕ) (p p2 : P) (ps : List P) (shares : List QueueShare)
+    → DidShares (queue_view q queue) agent shares (q.journal p) (q.journal p2) → (i : ℕ)
+    → DidShares (view_at q (queue ∷ queues) i) agent (ahead shares nowhere i) (seen_at q (p ∷ ps) i) (seen_at q (p2 ∷ ps) i)
+first_acted q queue queues agent p p2 ps shares c zero = c
+first_acted q queue queues agent p p2 ps shares c (suc i) = shares_none (view_at q queues i) agent (seen_at q ps i)
 
 none_behind : (shares : List QueueShare) (i : ℕ) → i ≢ 0 → ahead shares nowhere i ≡ []
 none_behind shares zero other = absurd (other refl)
@@ -40,16 +40,16 @@ pub poster_did : {Q P A : Type 0} (q : QueueOf Q P A) (queue : Q) (queues all : 
     → PosterDid q all lines posters agent old (p2 ∷ ps) posts
 poster_did q queue queues all lines posters agent p p2 ps old posts a b d order = rw (a, b) (record {
   acts = ahead d.shares nowhere;
-  chains = first_chains q queue queues agent p p2 ps d.shares d.chain;
+  acted = first_acted q queue queues agent p p2 ps d.shares d.did;
   wrote = record { table = d.table; others = none_behind d.shares; in_file_order = order };
 })
 
-two_chains : {Q P A : Type 0} (q : QueueOf Q P A) (queue next : Q) (queues : List Q) (agent : ℕ) (p r p2 r2 : P) (ps : List P) (from to : List QueueShare)
-    → ShareChain (queue_view q queue) agent from (q.journal p) (q.journal p2) → ShareChain (queue_view q next) agent to (q.journal r) (q.journal r2) → (i : ℕ)
-    → ShareChain (view_at q (queue ∷ next ∷ queues) i) agent (ahead from (ahead to nowhere) i) (seen_at q (p ∷ r ∷ ps) i) (seen_at q (p2 ∷ r2 ∷ ps) i)
-two_chains q queue next queues agent p r p2 r2 ps from to c d zero = c
-two_chains q queue next queues agent p r p2 r2 ps from to c d (suc zero) = d
-two_chains q queue next queues agent p r p2 r2 ps from to c d (suc (suc i)) = shares_none (view_at q queues i) agent (seen_at q ps i)
+two_acted : {Q P A : Type 0} (q : QueueOf Q P A) (queue next : Q) (queues : List Q) (agent : ℕ) (p r p2 r2 : P) (ps : List P) (from to : List QueueShare)
+    → DidShares (queue_view q queue) agent from (q.journal p) (q.journal p2) → DidShares (queue_view q next) agent to (q.journal r) (q.journal r2) → (i : ℕ)
+    → DidShares (view_at q (queue ∷ next ∷ queues) i) agent (ahead from (ahead to nowhere) i) (seen_at q (p ∷ r ∷ ps) i) (seen_at q (p2 ∷ r2 ∷ ps) i)
+two_acted q queue next queues agent p r p2 r2 ps from to c d zero = c
+two_acted q queue next queues agent p r p2 r2 ps from to c d (suc zero) = d
+two_acted q queue next queues agent p r p2 r2 ps from to c d (suc (suc i)) = shares_none (view_at q queues i) agent (seen_at q ps i)
 
 none_but_two : (from to : List QueueShare) (i : ℕ) → i ≢ 0 → i ≢ 1 → ahead from (ahead to nowhere) i ≡ []
 none_but_two from to zero a b = absurd (a refl)
@@ -71,17 +71,17 @@ stage_first q queue next queues more lines stage agent now p r p2 r2 ps old move
     subst (λ (x : ℕ). EndsWith (queue_view q queue) x (Empty x) (q.journal p) (q.journal p2)) e (last0 less) in
     rw (a, b) (record {
       acts = ahead (froms m.rows) (ahead (tos m.rows) nowhere);
-      chains = two_chains q queue next queues agent p r p2 r2 ps (froms m.rows) (tos m.rows) m.from m.to;
+      acted = two_acted q queue next queues agent p r p2 r2 ps (froms m.rows) (tos m.rows) m.from m.to;
       wrote = record { rows = m.rows; table = m.table; from = refl; to = refl; others = none_but_two (froms m.rows) (tos m.rows) };
       few = few;
       last = last;
     })
 
-behind_chains : {Q P A : Type 0} (q : QueueOf Q P A) (queue : Q) (queues : List Q) (agent : ℕ) (p : P) (ps ps2 : List P) (acts : ℕ → List QueueShare)
-    → ((i : ℕ) → ShareChain (view_at q queues i) agent (acts i) (seen_at q ps i) (seen_at q ps2 i)) → (i : ℕ)
-    → ShareChain (view_at q (queue ∷ queues) i) agent (ahead [] acts i) (seen_at q (p ∷ ps) i) (seen_at q (p ∷ ps2) i)
-behind_chains q queue queues agent p ps ps2 acts c zero = shares_none (queue_view q queue) agent (q.journal p)
-behind_chains q queue queues agent p ps ps2 acts c (suc i) = c i
+behind_acted : {Q P A : Type 0} (q : QueueOf Q P A) (queue : Q) (queues : List Q) (agent : ℕ) (p : P) (ps ps2 : List P) (acts : ℕ → List QueueShare)
+    → ((i : ℕ) → DidShares (view_at q queues i) agent (acts i) (seen_at q ps i) (seen_at q ps2 i)) → (i : ℕ)
+    → DidShares (view_at q (queue ∷ queues) i) agent (ahead [] acts i) (seen_at q (p ∷ ps) i) (seen_at q (p ∷ ps2) i)
+behind_acted q queue queues agent p ps ps2 acts c zero = shares_none (queue_view q queue) agent (q.journal p)
+behind_acted q queue queues agent p ps ps2 acts c (suc i) = c i
 
 none_beside : (place : ℕ) (acts : ℕ → List QueueShare) → ((i : ℕ) → i ≢ place → i ≢ suc place → acts i ≡ []) → (i : ℕ) → i ≢ suc place
     → i ≢ suc (suc place) → ahead [] acts i ≡ []
@@ -95,7 +95,7 @@ pub stage_behind : {Q P A : Type 0} (q : QueueOf Q P A) (queue : Q) (queues all 
     → StageDid q all lines skip stage agent old (p ∷ ps2) moves
 stage_behind q queue queues all lines place skip stage agent p ps ps2 old moves a b at d = rw (a, b, at) (record {
   acts = ahead [] d.acts;
-  chains = behind_chains q queue queues agent p ps ps2 d.acts d.chains;
+  acted = behind_acted q queue queues agent p ps ps2 d.acts d.acted;
   wrote = record {
     rows = d.wrote.rows;
     table = d.wrote.table;
@@ -114,7 +114,7 @@ pub stage_told : {Q P A : Type 0} (q : QueueOf Q P A) (queues : List Q) (lines :
     → Told (view_at q queues) lines posters agent posts moves (seen_at q old) (seen_at q new)
 stage_told q queues lines posters place stage agent old new posts moves d is at none = record {
   acts = d.acts;
-  chains = d.chains;
+  acted = d.acted;
   posted = λ low. absurd (omega (arith, low, at));
   moved = λ other there.
       let same : place ≡ other = omega (arith, at, there) in (

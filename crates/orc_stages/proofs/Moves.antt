@@ -9,9 +9,9 @@ use Rattle.orc_history.specs.QueueHistory.{entry_of_dequeue}
 use Rattle.orc_jobs.specs.declared.line.Line.{Line}
 use Rattle.orc_board.specs.Stretches.{View, Stretch, of_queue, just, nothing}
 use Rattle.orc_board.specs.Table.{EndsWith, took_of}
-use Rattle.orc_board.proofs.Chains.{Did-just, Did-nothing}
+use Rattle.orc_board.proofs.Shares.{Did-just, Did-nothing}
 use Rattle.orc_stages.specs.declared.replies.StageReply.{StageReply}
-use Rattle.orc_stages.specs.Stage.{QueueShare, ShareChain, StageRow, froms, tos, IsItem, IsNoItem, IsStageValue, IsNoPlace, PutInto, MoveTable, Moving}
+use Rattle.orc_stages.specs.Stage.{QueueShare, DidShares, StageRow, froms, tos, IsItem, IsNoItem, IsStageValue, IsNoPlace, PutInto, MoveTable, Moving}
 use Rattle.orc_stages.proofs.Shares.{shares_append, shares_none, shares_one, shares_last, took_now, took_none}
 
 table_append : (lines : List Line) (stage agent : ℕ) (rs ss : List StageReply) (rows more : List StageRow)
@@ -36,9 +36,9 @@ moving_append x y lines stage agent now rs ss j m k n k2 n2 a e b0 =
     record {
       rows = a.rows ++ b.rows;
       table = table_append lines stage agent rs ss a.rows b.rows a.table b.table;
-      from = subst (λ (z : List QueueShare). ShareChain x agent z j k2) (sym (map-append (λ (row : StageRow). row.from) a.rows b.rows))
+      from = subst (λ (z : List QueueShare). DidShares x agent z j k2) (sym (map-append (λ (row : StageRow). row.from) a.rows b.rows))
           (shares_append x agent (froms a.rows) (froms b.rows) j k k2 a.from b.from);
-      to = subst (λ (z : List QueueShare). ShareChain y agent z m n2) (sym (map-append (λ (row : StageRow). row.to) a.rows b.rows))
+      to = subst (λ (z : List QueueShare). DidShares y agent z m n2) (sym (map-append (λ (row : StageRow). row.to) a.rows b.rows))
           (shares_append y agent (tos a.rows) (tos b.rows) m n n2 a.to b.to);
     }
 

@@ -92,7 +92,7 @@ module _ {Q P A : Type 0} (q : QueueOf Q P A) (queues : List Q) (lines : List Li
   poster_at i low =
       let t = c.told i (omega (arith, low, many)) in
       let p = t.posted (omega (arith, low)) in
-      record { ran = record { acts = t.acts; chains = t.chains; wrote = p.0 }; none = c.of_posters i low ∙ p.1 }
+      record { ran = record { acts = t.acts; acted = t.acted; wrote = p.0 }; none = c.of_posters i low ∙ p.1 }
 
   record StageAt (i : ℕ) : Type 0 where
     ran : StageRan X lines i (posters + suc i) (c.work (posters + i)) k
@@ -104,7 +104,7 @@ module _ {Q P A : Type 0} (q : QueueOf Q P A) (queues : List Q) (lines : List Li
       let t : Told X lines posters (posters + suc i) (posts_at ws (posters + i)) (c.work (posters + i)) unseen k =
       subst (λ (a : ℕ). Told X lines posters a (posts_at ws (posters + i)) (c.work (posters + i)) unseen k) at (c.told (posters + i) (omega (arith, low, many))) in
       let p = t.moved i refl in
-      record { ran = record { acts = t.acts; chains = t.chains; wrote = p.0; found_empty = t.found_empty i refl }; none = p.1 }
+      record { ran = record { acts = t.acts; acted = t.acted; wrote = p.0; found_empty = t.found_empty i refl }; none = p.1 }
 
   no_posts_at : (i : ℕ) → posters ≤ i → posts_at ws i ≡ []
   no_posts_at i high = elim (le-cases (length ws) i) as (λ _. posts_at ws i ≡ []) [

@@ -18,7 +18,7 @@ use Rattle.orc_board.proofs.Orders.{each_line}
 use Rattle.orc_board.proofs.WorkerCases.{own_whole}
 use Rattle.orc_workers.proofs.Learned.{zero_ended}
 use Rattle.orc_stages.specs.declared.replies.StageReply.{StageReply}
-use Rattle.orc_stages.specs.Stage.{QueueShare, ShareChain, IsItem, Posting, MoveTable, froms, tos, jobs_of, own_of}
+use Rattle.orc_stages.specs.Stage.{QueueShare, DidShares, IsItem, Posting, MoveTable, froms, tos, jobs_of, own_of}
 use Rattle.orc_stages.specs.Desks.{Acts, PosterActs, StageActs}
 use Rattle.orc_stages.specs.Pipeline.{jobs_by, kept, lines_of, moves_of, Placing, PostersFollow, StageFollows, IsPipeline}
 use Rattle.orc_stages.specs.Ran.{Ran, in_run, unseen}
@@ -67,10 +67,10 @@ moved_puts lines place stage agent moves acts w i other = elim (same_or i place)
 -- shares of two kinds, one after another
 record Halves {A : Type 0} (y : View A QueueEntry QueueRefused) (agent : ℕ) (xs ys : List QueueShare) (j l : List A) : Type 0 where
   until : List A
-  first : ShareChain y agent xs j until
-  then : ShareChain y agent ys until l
+  first : DidShares y agent xs j until
+  then : DidShares y agent ys until l
 
-halves : {A : Type 0} (y : View A QueueEntry QueueRefused) (agent : ℕ) (xs ys : List QueueShare) (j l : List A) → ShareChain y agent (xs ++ ys) j l
+halves : {A : Type 0} (y : View A QueueEntry QueueRefused) (agent : ℕ) (xs ys : List QueueShare) (j l : List A) → DidShares y agent (xs ++ ys) j l
     → Halves y agent xs ys j l
 halves y agent [] ys j l c = record { until = j; first = shares_none y agent j; then = c }
 halves y agent (x ∷ xs) ys j l (i, one, c) =
@@ -118,13 +118,13 @@ module _ {A : Type 0} (x : ℕ → View A QueueEntry QueueRefused) (lines : List
   no_tooks i a zero_not other = elim (which posters stages a zero_not) as (λ _. jobs_by false a (h i) ≡ []) [
     | inl p ↦
         let d = ran.posted a p.0 p.1 in
-        ap (jobs_of false) (own_acts a d.acts d.chains i) ∙ posted_tooks lines posters a (posts_of a posts) d.acts d.wrote i
+        ap (jobs_of false) (own_acts a d.acts d.acted i) ∙ posted_tooks lines posters a (posts_of a posts) d.acts d.wrote i
     | inr more ↦ elim more as (λ _. jobs_by false a (h i) ≡ []) [
       | inl s ↦
           let d = ran.moved s.0 s.2 in
           let not : i ≢ s.0 = λ e. other (s.1 ∙ ap (λ (n : ℕ). posters + suc n) (sym e)) in
           ap (λ (n : ℕ). jobs_by false n (h i)) s.1
-          ∙ (ap (jobs_of false) (own_acts (posters + suc s.0) d.acts d.chains i)
+          ∙ (ap (jobs_of false) (own_acts (posters + suc s.0) d.acts d.acted i)
           ∙ moved_tooks lines s.0 (suc s.0) (posters + suc s.0) (work s.0) d.acts d.wrote i not)
       | inr above ↦ jobs_above false a i above
     ]
@@ -135,14 +135,14 @@ module _ {A : Type 0} (x : ℕ → View A QueueEntry QueueRefused) (lines : List
   no_puts i a zero_not other = elim (which posters stages a zero_not) as (λ _. jobs_by true a (h (suc i)) ≡ []) [
     | inl p ↦
         let d = ran.posted a p.0 p.1 in
-        ap (jobs_of true) (own_acts a d.acts d.chains (suc i))
+        ap (jobs_of true) (own_acts a d.acts d.acted (suc i))
         ∙ posted_puts lines posters a (posts_of a posts) d.acts d.wrote (suc i) (λ e. absurd (omega (arith, e)))
     | inr more ↦ elim more as (λ _. jobs_by true a (h (suc i)) ≡ []) [
       | inl s ↦
           let d = ran.moved s.0 s.2 in
           let not : suc i ≢ suc s.0 = λ e. other (s.1 ∙ ap (λ (n : ℕ). posters + n) (sym e)) in
           ap (λ (n : ℕ). jobs_by true n (h (suc i))) s.1
-          ∙ (ap (jobs_of true) (own_acts (posters + suc s.0) d.acts d.chains (suc i))
+          ∙ (ap (jobs_of true) (own_acts (posters + suc s.0) d.acts d.acted (suc i))
           ∙ moved_puts lines s.0 (suc s.0) (posters + suc s.0) (work s.0) d.acts d.wrote (suc i) not)
       | inr above ↦ jobs_above true a (suc i) above
     ]
@@ -156,7 +156,7 @@ module _ {A : Type 0} (x : ℕ → View A QueueEntry QueueRefused) (lines : List
 
   caller_jobs : (put : Bool) (i : ℕ) → jobs_by put 0 (h i) ≡ jobs_of put (own_of (gave i)) ++ jobs_of put (own_of (took i))
   caller_jobs put i =
-      ap (jobs_of put) (own_acts 0 (λ j. gave j ++ took j) ran.caller.chains i ∙ own_of-append (gave i) (took i))
+      ap (jobs_of put) (own_acts 0 (λ j. gave j ++ took j) ran.caller.acted i ∙ own_of-append (gave i) (took i))
       ∙ jobs_of-append put (own_of (gave i)) (own_of (took i))
 
   caller_table : (i : ℕ) → i < stages → MoveTable lines (suc i) 0 (own i) (ran.caller.acts.rows i)
@@ -208,7 +208,7 @@ module _ {A : Type 0} (x : ℕ → View A QueueEntry QueueRefused) (lines : List
         | inl s ↦
             let d = ran.moved s.0 s.2 in
             ap (λ (n : ℕ). jobs_by true n (h 0)) s.1
-            ∙ (ap (jobs_of true) (own_acts (posters + suc s.0) d.acts d.chains 0)
+            ∙ (ap (jobs_of true) (own_acts (posters + suc s.0) d.acts d.acted 0)
             ∙ moved_puts lines s.0 (suc s.0) (posters + suc s.0) (work s.0) d.acts d.wrote 0 (λ e. absurd (omega (arith, e))))
         | inr above ↦ jobs_above true a 0 above
       ]
@@ -225,7 +225,7 @@ module _ {A : Type 0} (x : ℕ → View A QueueEntry QueueRefused) (lines : List
       let d = ran.moved i low in
       jobs_two true w (h (suc i)) (ran.zero_last (suc i)) (worker_not i) (no_puts i)
       ∙ (ap (λ z. z ++ jobs_by true 0 (h (suc i)))
-      (ap (jobs_of true) (own_acts w d.acts d.chains (suc i) ∙ ap own_of d.wrote.to) ∙ to_jobs lines (suc i) w (work i) d.wrote.rows d.wrote.table true)
+      (ap (jobs_of true) (own_acts w d.acts d.acted (suc i) ∙ ap own_of d.wrote.to) ∙ to_jobs lines (suc i) w (work i) d.wrote.rows d.wrote.table true)
       ∙ (ap (λ z. kept (work i) ++ z) (caller_puts i low) ∙ sym (kept-append (work i) (own i))))
 
   -- all jobs that are put are numbers of lines that post one
@@ -238,7 +238,7 @@ module _ {A : Type 0} (x : ℕ → View A QueueEntry QueueRefused) (lines : List
         | inr low ↦ elim (le-cases a posters) as (λ _. AllByRecursion (IsItem lines) (jobs_by true a (h 0))) [
           | inl high ↦
               let d = ran.posted a low high in
-              subst (AllByRecursion (IsItem lines)) (ap (jobs_of true) (sym (own_acts a d.acts d.chains 0)))
+              subst (AllByRecursion (IsItem lines)) (ap (jobs_of true) (sym (own_acts a d.acts d.acted 0)))
               (posts_say lines a (posts_of a posts) (d.acts 0) d.wrote.table).items
           | inr above ↦ none (λ l high. absurd (omega (arith, high, above)))
         ]
@@ -272,7 +272,7 @@ module _ {A : Type 0} (x : ℕ → View A QueueEntry QueueRefused) (lines : List
       let two = jobs_two false w (h i) (ran.zero_last i) (worker_not i) (no_tooks i) in
       let both : AllByRecursion (IsItem lines) (jobs_by false w (h i) ++ jobs_by false 0 (h i)) = subst (AllByRecursion (IsItem lines)) two (took_items i up) in
       let worker : jobs_by false w (h i) ≡ jobs_of false (own_of (froms d.wrote.rows)) =
-      ap (jobs_of false) (own_acts w d.acts d.chains i ∙ ap own_of d.wrote.from) in
+      ap (jobs_of false) (own_acts w d.acts d.acted i ∙ ap own_of d.wrote.from) in
       let of_worker : AllByRecursion (IsItem lines) (jobs_of false (own_of (froms d.wrote.rows))) =
       subst (AllByRecursion (IsItem lines)) worker (AllByRecursion-left (IsItem lines) (jobs_by false w (h i)) (jobs_by false 0 (h i)) both) in
       let caller : jobs_by false 0 (h i) ≡ jobs_of false (own_of (froms (ran.caller.acts.rows i))) =
@@ -304,7 +304,7 @@ module _ {A : Type 0} (x : ℕ → View A QueueEntry QueueRefused) (lines : List
           | inl high ↦
               let d = ran.posted a low high in
               let s = posts_say lines a (posts_of a posts) (d.acts 0) d.wrote.table in
-              omega (arith, s.few, ap length (ap (jobs_of true) (own_acts a d.acts d.chains 0)))
+              omega (arith, s.few, ap length (ap (jobs_of true) (own_acts a d.acts d.acted 0)))
           | inr above ↦ none (λ l high. absurd (omega (arith, high, above)))
         ]
       ]
@@ -398,7 +398,7 @@ module _ {A : Type 0} (x : ℕ → View A QueueEntry QueueRefused) (lines : List
   posting_of : (p : ℕ) → 1 ≤ p → p ≤ posters → Posting (X 0) lines p (posts_of p posts) [] (k 0)
   posting_of p low high =
       let d = ran.posted p low high in
-      record { shares = d.acts 0; table = d.wrote.table; chain = d.chains 0 }
+      record { shares = d.acts 0; table = d.wrote.table; did = d.acted 0 }
 
   no_posted : (a : ℕ) → a < suc posters → AllByRecursion (λ (r : PostReply). r.what ≢ word.Positions) (posts_of a posts)
   no_posted a low = elim (zero_or a) as (λ _. AllByRecursion (λ (r : PostReply). r.what ≢ word.Positions) (posts_of a posts)) [
@@ -411,7 +411,7 @@ module _ {A : Type 0} (x : ℕ → View A QueueEntry QueueRefused) (lines : List
     | inr one ↦
         let p = posting_of a one (omega (arith, low)) in
         no_positions lines a (posts_of a posts) p.shares p.table
-        (have_positions (X 0) (ran.many 0) a p.shares [] (k 0) p.chain (few_positions 0 (omega arith)))
+        (have_positions (X 0) (ran.many 0) a p.shares [] (k 0) p.did (few_positions 0 (omega arith)))
   ]
 
   posters_follow : PostersFollow (x 0) lines posters stages posts (k 0)
@@ -427,13 +427,13 @@ module _ {A : Type 0} (x : ℕ → View A QueueEntry QueueRefused) (lines : List
   worker_places : (i : ℕ) → (low : i < stages) → Placing (X (suc i)) lines (suc i) (posters + suc i) (work i) [] (k (suc i))
   worker_places i low =
       let d = ran.moved i low in
-      let c : ShareChain (X (suc i)) (posters + suc i) (tos d.wrote.rows) [] (k (suc i)) =
-      subst (λ (s : List QueueShare). ShareChain (X (suc i)) (posters + suc i) s [] (k (suc i))) d.wrote.to (d.chains (suc i)) in
+      let c : DidShares (X (suc i)) (posters + suc i) (tos d.wrote.rows) [] (k (suc i)) =
+      subst (λ (s : List QueueShare). DidShares (X (suc i)) (posters + suc i) s [] (k (suc i))) d.wrote.to (d.acted (suc i)) in
       placing (X (suc i)) lines (suc i) (posters + suc i) (work i) d.wrote.rows [] (k (suc i)) d.wrote.table c
       (have_positions (X (suc i)) (ran.many (suc i)) (posters + suc i) (tos d.wrote.rows) [] (k (suc i)) c (few_positions (suc i) (omega (arith, low))))
 
   caller_halves : (i : ℕ) → i < stages → Halves (X (suc i)) 0 (gave (suc i)) (took (suc i)) [] (k (suc i))
-  caller_halves i low = halves (X (suc i)) 0 (gave (suc i)) (took (suc i)) [] (k (suc i)) (ran.caller.chains (suc i))
+  caller_halves i low = halves (X (suc i)) 0 (gave (suc i)) (took (suc i)) [] (k (suc i)) (ran.caller.acted (suc i))
 
   caller_places : (i : ℕ) → (low : i < stages) → Placing (X (suc i)) lines (suc i) 0 (own i) [] (caller_halves i low).until
   caller_places i low =
@@ -441,8 +441,8 @@ module _ {A : Type 0} (x : ℕ → View A QueueEntry QueueRefused) (lines : List
       let t = shares_stretch (X (suc i)) 0 (took (suc i)) b.until (k (suc i)) b.then in
       let before : puts_in ((x (suc i)).history b.until) ≤ puts_in (h (suc i)) =
       omega (arith, ap puts_in t.is, puts_in-append ((x (suc i)).history b.until) t.part) in
-      let c : ShareChain (X (suc i)) 0 (tos (ran.caller.acts.rows i)) [] b.until =
-      subst (λ (s : List QueueShare). ShareChain (X (suc i)) 0 s [] b.until) (ran.caller.acts.to i low) b.first in
+      let c : DidShares (X (suc i)) 0 (tos (ran.caller.acts.rows i)) [] b.until =
+      subst (λ (s : List QueueShare). DidShares (X (suc i)) 0 s [] b.until) (ran.caller.acts.to i low) b.first in
       placing (X (suc i)) lines (suc i) 0 (own i) (ran.caller.acts.rows i) [] b.until (caller_table i low) c
       (have_positions (X (suc i)) (ran.many (suc i)) 0 (tos (ran.caller.acts.rows i)) [] b.until c
       (omega (arith, before, few_positions (suc i) (omega (arith, low)))))

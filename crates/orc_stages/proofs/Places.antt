@@ -13,10 +13,10 @@ use Rattle.orc_board.specs.declared.replies.PostWord.{PostWord}
 use Rattle.orc_board.specs.declared.replies.PostWord.TheVariants as word
 use Rattle.orc_board.specs.Stretches.{View, Stretch, Did, Licensed, of_queue, refusal, nothing}
 use Rattle.orc_board.specs.Follows.{Pointwise}
-use Rattle.orc_board.proofs.Chains.{chain_before}
+use Rattle.orc_board.proofs.Shares.{DidAll-before}
 use Rattle.orc_board.proofs.Positions.{ManyPuts}
 use Rattle.orc_stages.specs.declared.replies.StageReply.{StageReply}
-use Rattle.orc_stages.specs.Stage.{QueueShare, ShareChain, StageRow, tos, PutOf, PostPart, IsPostShare, MoveTable, own_of}
+use Rattle.orc_stages.specs.Stage.{QueueShare, DidShares, StageRow, tos, PutOf, PostPart, IsPostShare, MoveTable, own_of}
 use Rattle.orc_stages.specs.Pipeline.{PlacePart, Placing}
 use Rattle.orc_stages.proofs.Shares.{self, shares_stretch}
 
@@ -36,7 +36,7 @@ no_refusal {A} y many agent why j k h few e =
     omega (arith, much, few)
 
 pub have_positions : {A : Type 0} (y : View A QueueEntry QueueRefused) → ManyPuts y → (agent : ℕ) (shares : List QueueShare) (j k : List A)
-    → ShareChain y agent shares j k → puts_in (y.history k) < 2 ^ 62 → AllByRecursion HasPosition shares
+    → DidShares y agent shares j k → puts_in (y.history k) < 2 ^ 62 → AllByRecursion HasPosition shares
 have_positions y many agent [] j k c few = tt
 have_positions y many agent (share ∷ shares) j k (i, one, c) few =
     let before : puts_in (y.history i) ≤ puts_in (y.history k) = puts_later y agent (own_of shares) i k (shares_stretch y agent shares i k c) in (
@@ -73,16 +73,16 @@ no_share y agent share j k e d = subst (λ (x : QueueShare). Stretch of_queue y 
 
 -- what a stage put, without the jobs that it passed over
 pub placing : {A : Type 0} (y : View A QueueEntry QueueRefused) (lines : List Line) (stage agent : ℕ) (rs : List StageReply) (rows : List StageRow) (j k : List A)
-    → MoveTable lines stage agent rs rows → ShareChain y agent (tos rows) j k → AllByRecursion HasPosition (tos rows)
+    → MoveTable lines stage agent rs rows → DidShares y agent (tos rows) j k → AllByRecursion HasPosition (tos rows)
     → Placing y lines stage agent rs j k
-placing y lines stage agent rs [] j k t c h = record { shares = []; table = rw t tt; chain = c }
+placing y lines stage agent rs [] j k t c h = record { shares = []; table = rw t tt; did = c }
 placing y lines stage agent rs (row ∷ rows) j k t (i, one, c) h = elim t as (λ _. Placing y lines stage agent rs j k) [
   | inl skip ↦
       let rest = placing y lines stage agent rs rows i k skip.1 c h.1 in
       record {
         shares = rest.shares;
         table = rest.table;
-        chain = chain_before of_queue y agent self rest.shares j i k (no_share y agent row.to j i skip.0.to one) rest.chain;
+        did = DidAll-before of_queue y agent self rest.shares j i k (no_share y agent row.to j i skip.0.to one) rest.did;
       }
   | inr w ↦
       let rest = placing y lines stage agent w.1 rows i k w.4 c h.1 in
@@ -96,6 +96,6 @@ placing y lines stage agent rs (row ∷ rows) j k t (i, one, c) h = elim t as (�
           },
           rest.table,
         );
-        chain = (i, one, rest.chain);
+        did = (i, one, rest.did);
       })
 ]

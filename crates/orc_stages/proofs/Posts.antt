@@ -9,7 +9,7 @@ use Rattle.orc_jobs.specs.Line.{PostsJob}
 use Rattle.orc_board.specs.declared.replies.PostWord.TheVariants as word
 use Rattle.orc_board.specs.declared.replies.PostReply.{PostReply}
 use Rattle.orc_board.specs.Stretches.{View, Stretch, of_queue, just, nothing}
-use Rattle.orc_board.proofs.Chains.{Did-just, Did-nothing, chain_snoc}
+use Rattle.orc_board.proofs.Shares.{Did-just, Did-nothing, DidAll-snoc}
 use Rattle.orc_board.proofs.Workers.{Pointwise-snoc}
 use Rattle.orc_stages.specs.Stage.{PostPart, IsPostShare, Posting}
 use Rattle.orc_stages.specs.Calls.{Posted}
@@ -17,7 +17,7 @@ use Rattle.orc_stages.proofs.Shares.{self, shares_none}
 
 pub posting_none : {A : Type 0} (x : View A QueueEntry QueueRefused) (lines : List Line) (poster : ℕ) (replies : List PostReply) (j : List A)
     → replies ≡ [] → Posting x lines poster replies j j
-posting_none x lines poster replies j e = record { shares = []; table = rw e tt; chain = shares_none x poster j }
+posting_none x lines poster replies j e = record { shares = []; table = rw e tt; did = shares_none x poster j }
 
 pub posting_more : {A : Type 0} (x : View A QueueEntry QueueRefused) (lines : List Line) (poster now index : ℕ) (line : Line) (replies : List PostReply)
     (r : PostReply) (j k l : List A)
@@ -33,7 +33,7 @@ posting_more x lines poster now index line replies r j k l p e poster_is line_is
         is = ap (slice_get lines) line_is ∙ at;
         part = subst (λ (i : ℕ). PostPart poster i line r.what done.share) (sym line_is) done.part;
       });
-      chain = chain_snoc of_queue x poster self p.shares done.share j k l p.chain done.did;
+      did = DidAll-snoc of_queue x poster self p.shares done.share j k l p.did done.did;
     }
 
 -- a line that drops an id

@@ -12,11 +12,11 @@ use Rattle.orc_jobs.specs.declared.line.Line.{Line}
 use Rattle.orc_board.specs.declared.replies.PostReply.{PostReply}
 use Rattle.orc_board.specs.Stretches.{View, Row, Stretch, Did, Stands, of_queue, of_set, nothing, beside, all_beside}
 use Rattle.orc_board.specs.Follows.{IsWorker}
-use Rattle.orc_board.proofs.Chains.{Did-nothing, chain_before, chain_more}
+use Rattle.orc_board.proofs.Shares.{Did-nothing, DidAll-before, DidAll-more}
 use Rattle.orc_board.proofs.Wholes.{Below, Stands-beside}
 use Rattle.orc_workers.proofs.Learned.{Grows, since, none_since, still_last, quiet}
 use Rattle.orc_stages.specs.declared.replies.StageReply.{StageReply}
-use Rattle.orc_stages.specs.Stage.{QueueShare, ShareChain}
+use Rattle.orc_stages.specs.Stage.{QueueShare, DidShares}
 use Rattle.orc_stages.specs.Desks.{Acts}
 use Rattle.orc_stages.specs.Team.{Told}
 use Rattle.orc_stages.specs.Ran.{in_run, unseen}
@@ -39,7 +39,7 @@ did_beside {A} x C few agent share j k d =
     both.queues true
 
 shares_beside : {A : Type 0} (x : View A QueueEntry QueueRefused) (C : ℕ → Type 0) → Below x.crowd C → (agent : ℕ) (shares : List QueueShare) (j k : List A)
-    → ShareChain x agent shares j k → ShareChain (beside x C) agent shares j k
+    → DidShares x agent shares j k → DidShares (beside x C) agent shares j k
 shares_beside x C few agent [] j k c = did_beside x C few agent nothing j k c
 shares_beside x C few agent (share ∷ shares) j k (i, one, c) =
     (i, did_beside x C few agent share j i one, shares_beside x C few agent shares i k c)
@@ -72,14 +72,14 @@ others_did x C agent j k grows o =
 pub shares_first : {A : Type 0} (x : ℕ → View A QueueEntry QueueRefused) (C : ℕ → Type 0) (agent : ℕ) (acts : ℕ → List QueueShare) (j k : ℕ → List A)
     → Laws x C → ((i : ℕ) → (x i).history (j i) ≡ []) → Acts x agent acts j k → Acts (λ i. beside (x i) C) agent acts unseen k
 shares_first x C agent acts j k laws new c = λ i.
-    chain_before of_queue (beside (x i) C) agent self (acts i) [] (j i) (k i) (from_start (beside (x i) C) agent (j i) (laws.none i) (new i))
+    DidAll-before of_queue (beside (x i) C) agent self (acts i) [] (j i) (k i) (from_start (beside (x i) C) agent (j i) (laws.none i) (new i))
     (shares_beside (x i) C (laws.few i) agent (acts i) (j i) (k i) (c i))
 
 -- behind what others did first
 pub shares_after : {A : Type 0} (x : ℕ → View A QueueEntry QueueRefused) (C : ℕ → Type 0) (agent : ℕ) (acts : ℕ → List QueueShare) (j k l : ℕ → List A)
     → Laws x C → ((i : ℕ) → OthersDid (x i) C agent (j i) (k i)) → Acts (λ i. beside (x i) C) agent acts k l → Acts (λ i. beside (x i) C) agent acts j l
 shares_after x C agent acts j k l laws o c = λ i.
-    chain_before of_queue (beside (x i) C) agent self (acts i) (j i) (k i) (l i) (others_did (x i) C agent (j i) (k i) (laws.grows i) (o i)).stretch (c i)
+    DidAll-before of_queue (beside (x i) C) agent self (acts i) (j i) (k i) (l i) (others_did (x i) C agent (j i) (k i) (laws.grows i) (o i)).stretch (c i)
 
 -- beside more agents
 pub shares_among : {A : Type 0} (x : ℕ → View A QueueEntry QueueRefused) (C : ℕ → Type 0) (agent : ℕ) (acts : ℕ → List QueueShare) (j k : ℕ → List A)
@@ -90,7 +90,7 @@ shares_among x C agent acts j k laws c = λ i. shares_beside (x i) C (laws.few i
 pub shares_until : {A : Type 0} (x : ℕ → View A QueueEntry QueueRefused) (C : ℕ → Type 0) (agent : ℕ) (acts : ℕ → List QueueShare) (j k l : ℕ → List A)
     → Laws x C → ((i : ℕ) → OthersDid (x i) C agent (k i) (l i)) → Acts (λ i. beside (x i) C) agent acts j k → Acts (λ i. beside (x i) C) agent acts j l
 shares_until x C agent acts j k l laws o c = λ i.
-    chain_more of_queue (beside (x i) C) agent self (acts i) (j i) (k i) (l i) (c i) (others_did (x i) C agent (k i) (l i) (laws.grows i) (o i))
+    DidAll-more of_queue (beside (x i) C) agent self (acts i) (j i) (k i) (l i) (c i) (others_did (x i) C agent (k i) (l i) (laws.grows i) (o i))
 
 -- from a beginning of histories that are empty to that of all journals
 pub others_first : {A : Type 0} (x : View A QueueEntry QueueRefused) (C : ℕ → Type 0) (agent : ℕ) (j k : List A) → x.history [] ≡ [] → x.history j ≡ []
@@ -108,7 +108,7 @@ pub told_first : {A : Type 0} (x : ℕ → View A QueueEntry QueueRefused) (line
     → Told (in_run x posters stages) lines posters agent posts moves unseen k
 told_first x lines posters stages agent posts moves j k laws new told = record {
   acts = told.acts;
-  chains = shares_first x (IsWorker posters stages) agent told.acts j k laws new told.chains;
+  acted = shares_first x (IsWorker posters stages) agent told.acts j k laws new told.acted;
   posted = told.posted;
   moved = told.moved;
   found_empty = told.found_empty;
@@ -121,7 +121,7 @@ pub told_until : {A : Type 0} (x : ℕ → View A QueueEntry QueueRefused) (line
     → Told (in_run x posters stages) lines posters agent posts moves unseen k → Told (in_run x posters stages) lines posters agent posts moves unseen l
 told_until x lines posters stages agent posts moves k l laws o told = record {
   acts = told.acts;
-  chains = shares_until x (IsWorker posters stages) agent told.acts unseen k l laws o told.chains;
+  acted = shares_until x (IsWorker posters stages) agent told.acts unseen k l laws o told.acted;
   posted = told.posted;
   moved = told.moved;
   found_empty = λ place at less.

@@ -4,12 +4,12 @@ use Rattle.std.proofs.Common.{zero}
 use Rattle.orc_history.specs.declared.queue.QueueEntry.TheVariants.{Empty}
 use Rattle.orc_history.specs.declared.queue.SharedQueue.{Ghosts as QueueOf}
 use Rattle.orc_jobs.specs.declared.line.Line.{Line}
-use Rattle.orc_board.specs.Reserved.{Reserved}
+use Rattle.orc_board.specs.ListWithRoom.{ListWithRoom}
 use Rattle.orc_board.specs.Stretches.{queue_view}
 use Rattle.orc_board.specs.Table.{EndsWith}
 use Rattle.orc_stages.specs.declared.replies.StageReply.{StageReply}
 use Rattle.orc_stages.specs.declared.team.Worker.{Worker}
-use Rattle.orc_stages.specs.Stage.{QueueShare, ShareChain, StageRow, froms, tos, MoveTable, jobs_of, own_of}
+use Rattle.orc_stages.specs.Stage.{QueueShare, DidShares, StageRow, froms, tos, MoveTable, jobs_of, own_of}
 use Rattle.orc_stages.specs.Desks.{Acts, view_at, seen_at}
 
 -- the worker with these replies more, within the room that it had
@@ -48,26 +48,26 @@ pub record CallerActs (lines : List Line) (stage stages agent : ℕ) (more : ℕ
 -- the caller moved what was left for these workers, the stages from this number on, and took what came out; each queue was found
 -- empty unless the room was used up
 pub record CallerMoved {Q P A : Type 0} (q : QueueOf Q P A) (queues : List Q) (lines : List Line) (stage agent : ℕ) (old new : List P)
-    (ws vs : List (Worker P)) (outs : Reserved ℕ) : Type 0 where
+    (ws vs : List (Worker P)) (outs : ListWithRoom ℕ) : Type 0 where
   pub more : ℕ → List StageReply
   pub moved : AllMovedFor more ws vs
   pub gave : ℕ → List QueueShare
   pub took : ℕ → List QueueShare
   pub acts : CallerActs lines stage (length ws) agent more outs.items gave took
-  pub chains : Acts (view_at q queues) agent (λ i. gave i ++ took i) (seen_at q old) (seen_at q new)
+  pub acted : Acts (view_at q queues) agent (λ i. gave i ++ took i) (seen_at q old) (seen_at q new)
   pub ended : (i : ℕ) → i < length ws → spare_at vs i ≢ 0 → EndsWith (view_at q queues i) agent (Empty agent) (seen_at q old i) (seen_at q new i)
   pub outs_ended : outs.spare ≢ 0
       → EndsWith (view_at q queues (length ws)) agent (Empty agent) (seen_at q old (length ws)) (seen_at q new (length ws))
 
 -- the caller moved what was left in the first queue into the next one
 pub record MovedBetween {Q P A : Type 0} (q : QueueOf Q P A) (queue : Q) (more : List Q) (lines : List Line) (stage agent : ℕ) (p : P) (rest : List P)
-    (p2 : P) (rest2 : List P) (before after : Reserved StageReply) : Type 0 where
+    (p2 : P) (rest2 : List P) (before after : ListWithRoom StageReply) : Type 0 where
   pub new : List StageReply
   pub is : after.items ≡ before.items ++ new
   pub spare : length after.items + after.spare ≡ length before.items + before.spare
   pub rows : List StageRow
   pub table : MoveTable lines stage agent new rows
-  pub from : ShareChain (queue_view q queue) agent (froms rows) (q.journal p) (q.journal p2)
-  pub to : ShareChain (view_at q more 0) agent (tos rows) (seen_at q rest 0) (seen_at q rest2 0)
+  pub from : DidShares (queue_view q queue) agent (froms rows) (q.journal p) (q.journal p2)
+  pub to : DidShares (view_at q more 0) agent (tos rows) (seen_at q rest 0) (seen_at q rest2 0)
   pub others : (i : ℕ) → seen_at q rest2 (suc i) ≡ seen_at q rest (suc i)
   pub last : after.spare ≢ 0 → EndsWith (queue_view q queue) agent (Empty agent) (q.journal p) (q.journal p2)

@@ -14,7 +14,7 @@ use Rattle.orc_board.specs.Stretches.{View, queue_view}
 use Rattle.orc_board.specs.Table.{EndsWith}
 use Rattle.orc_board.specs.Follows.{Pointwise, own_records}
 use Rattle.orc_stages.specs.declared.replies.StageReply.{StageReply}
-use Rattle.orc_stages.specs.Stage.{QueueShare, ShareChain, IsPostShare, StageRow, froms, tos, MoveTable}
+use Rattle.orc_stages.specs.Stage.{QueueShare, DidShares, IsPostShare, StageRow, froms, tos, MoveTable}
 
 -- a container of which nothing is known and in which nothing happens
 abbrev pub no_view : {A : Type 0} → View A QueueEntry QueueRefused
@@ -40,7 +40,7 @@ ArePasses q agent (queue ∷ queues) (p ∷ ps) = q.usable queue p × (q.agent_o
 
 -- in each queue an agent did these shares between the journals j and k
 abbrev pub Acts : {A : Type 0} → (ℕ → View A QueueEntry QueueRefused) → ℕ → (ℕ → List QueueShare) → (ℕ → List A) → (ℕ → List A) → Type 0
-Acts x agent acts j k = (i : ℕ) → ShareChain (x i) agent (acts i) (j i) (k i)
+Acts x agent acts j k = (i : ℕ) → DidShares (x i) agent (acts i) (j i) (k i)
 
 -- the shares of a poster in each queue are those of these replies to its records, in file order: all of them in the first queue
 pub record PosterActs (lines : List Line) (posters agent : ℕ) (posts : List PostReply) (acts : ℕ → List QueueShare) : Type 0 where
@@ -60,14 +60,14 @@ pub record StageActs (lines : List Line) (place stage agent : ℕ) (moves : List
 pub record PosterDid {Q P A : Type 0} (q : QueueOf Q P A) (queues : List Q) (lines : List Line) (posters agent : ℕ) (old new : List P)
     (posts : List PostReply) : Type 0 where
   pub acts : ℕ → List QueueShare
-  pub chains : Acts (view_at q queues) agent acts (seen_at q old) (seen_at q new)
+  pub acted : Acts (view_at q queues) agent acts (seen_at q old) (seen_at q new)
   pub wrote : PosterActs lines posters agent posts acts
 
 -- a stage at its desk did what these replies stand for, and found its queue empty if there are fewer of them than jobs
 pub record StageDid {Q P A : Type 0} (q : QueueOf Q P A) (queues : List Q) (lines : List Line) (place stage agent : ℕ) (old new : List P)
     (moves : List StageReply) : Type 0 where
   pub acts : ℕ → List QueueShare
-  pub chains : Acts (view_at q queues) agent acts (seen_at q old) (seen_at q new)
+  pub acted : Acts (view_at q queues) agent acts (seen_at q old) (seen_at q new)
   pub wrote : StageActs lines place stage agent moves acts
   pub few : length moves ≤ jobs_in lines
   pub last : length moves < jobs_in lines → EndsWith (view_at q queues place) agent (Empty agent) (seen_at q old place) (seen_at q new place)

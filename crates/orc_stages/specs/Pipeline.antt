@@ -14,7 +14,7 @@ use Rattle.orc_board.specs.declared.replies.PostWord.TheVariants as word
 use Rattle.orc_board.specs.Stretches.{View, just, refusal, is_own_move, beside}
 use Rattle.orc_board.specs.Follows.{Pointwise, AreInOrder, IsWorker, LastIsEmpty, ZeroLast, by_key, posts_of}
 use Rattle.orc_stages.specs.declared.replies.StageReply.{StageReply}
-use Rattle.orc_stages.specs.Stage.{QueueShare, ShareChain, IsItem, IsStageValue, Posting, jobs_of}
+use Rattle.orc_stages.specs.Stage.{QueueShare, DidShares, IsItem, IsStageValue, Posting, jobs_of}
 
 -- the jobs of an agent's own Puts in a history, at true, or those of its own Tooks, at false
 abbrev pub jobs_by : Bool → ℕ → List QueueEntry → List ℕ
@@ -53,7 +53,7 @@ pub record Placing {A : Type 0} (y : View A QueueEntry QueueRefused) (lines : Li
     : Type 0 where
   pub shares : List QueueShare
   pub table : Pointwise (IsPlaceShare lines stage agent) replies shares
-  pub chain : ShareChain y agent shares j k
+  pub did : DidShares y agent shares j k
 
 -- the posters: one reply to each record, in file order; each poster put what its replies say, beside no agent but those of the run;
 -- and no other agent put anything into the first queue

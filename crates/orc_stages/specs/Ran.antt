@@ -26,14 +26,14 @@ in_run x posters stages i = beside (x i) (IsWorker posters stages)
 pub record PosterRan {A : Type 0} (x : ℕ → View A QueueEntry QueueRefused) (lines : List Line) (posters poster : ℕ) (posts : List PostReply) (k : ℕ → List A)
     : Type 0 where
   pub acts : ℕ → List QueueShare
-  pub chains : Acts x poster acts unseen k
+  pub acted : Acts x poster acts unseen k
   pub wrote : PosterActs lines posters poster posts acts
 
 -- what the worker of the stage at a place did
 pub record StageRan {A : Type 0} (x : ℕ → View A QueueEntry QueueRefused) (lines : List Line) (place agent : ℕ) (moves : List StageReply) (k : ℕ → List A)
     : Type 0 where
   pub acts : ℕ → List QueueShare
-  pub chains : Acts x agent acts unseen k
+  pub acted : Acts x agent acts unseen k
   pub wrote : StageActs lines place (suc place) agent moves acts
   pub found_empty : length moves < jobs_in lines → LastIsEmpty agent ((x place).history (k place))
 
@@ -43,7 +43,7 @@ pub record CallerRan {A : Type 0} (x : ℕ → View A QueueEntry QueueRefused) (
   pub gave : ℕ → List QueueShare
   pub took : ℕ → List QueueShare
   pub acts : CallerActs lines 1 stages 0 own outs gave took
-  pub chains : Acts x 0 (λ i. gave i ++ took i) unseen k
+  pub acted : Acts x 0 (λ i. gave i ++ took i) unseen k
 
 -- all of them, where the queues' histories are legal, positions run out only after 2 ^ 62 Puts, and each queue was found empty or as
 -- many jobs came out of it as there are lines

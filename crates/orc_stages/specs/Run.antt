@@ -4,7 +4,7 @@ use Rattle.std.specs.List.{AllByRecursion}
 use Rattle.orc_history.specs.declared.queue.SharedQueue.{Ghosts as QueueOf}
 use Rattle.orc_history.specs.QueueHistory.{agent_of_entry}
 use Rattle.orc_jobs.specs.declared.line.Line.{Line}
-use Rattle.orc_board.specs.Reserved.{Reserved}
+use Rattle.orc_board.specs.ListWithRoom.{ListWithRoom}
 use Rattle.orc_board.specs.Follows.{LastIsEmpty, ZeroLast}
 use Rattle.orc_workers.proofs.Blocks.{nth_of}
 use Rattle.orc_stages.specs.declared.replies.StageDesk.{StageDesk}
@@ -86,7 +86,7 @@ HasRoom posters lines w = posters < w.agent → length lines ≤ length w.moves.
 
 -- of these workers the caller passed over those of posters, and moved what was left for the others, the stages
 pub record CallerMovedFor {Q P A : Type 0} (q : QueueOf Q P A) (queues : List Q) (lines : List Line) (posters : ℕ) (old new : List P) (ws vs : List (Worker P))
-    (outs : Reserved ℕ) : Type 0 where
+    (outs : ListWithRoom ℕ) : Type 0 where
   pub front : List (Worker P)
   pub before : List (Worker P)
   pub after : List (Worker P)

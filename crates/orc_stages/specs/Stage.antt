@@ -12,7 +12,7 @@ use Rattle.orc_jobs.specs.JobValue.{IsJobValue}
 use Rattle.orc_board.specs.declared.replies.PostReply.{PostReply}
 use Rattle.orc_board.specs.declared.replies.PostWord.{PostWord}
 use Rattle.orc_board.specs.declared.replies.PostWord.TheVariants as word
-use Rattle.orc_board.specs.Stretches.{View, Share, Did, Chain, of_queue, just, nothing, refusal}
+use Rattle.orc_board.specs.Stretches.{View, Share, Did, DidAll, of_queue, just, nothing, refusal}
 use Rattle.orc_board.specs.Follows.{Pointwise}
 use Rattle.orc_stages.specs.declared.replies.StageReply.{StageReply}
 
@@ -21,8 +21,8 @@ abbrev pub QueueShare : Type 0
 QueueShare = Share QueueEntry QueueRefused
 
 -- from the journal j to k these shares of an agent stand one after another
-abbrev pub ShareChain : {A : Type 0} → View A QueueEntry QueueRefused → ℕ → List QueueShare → List A → List A → Type 0
-ShareChain x agent shares j k = Chain of_queue x agent (λ (share : QueueShare). share) shares j k
+abbrev pub DidShares : {A : Type 0} → View A QueueEntry QueueRefused → ℕ → List QueueShare → List A → List A → Type 0
+DidShares x agent shares j k = DidAll of_queue x agent (λ (share : QueueShare). share) shares j k
 
 -- what a line is worth at a stage: its value times the number of the stage
 abbrev pub IsStageValue : Line → ℕ → ℕ → Type 0
@@ -67,7 +67,7 @@ pub record IsPostShare (lines : List Line) (poster : ℕ) (r : PostReply) (share
 pub record Posting {A : Type 0} (x : View A QueueEntry QueueRefused) (lines : List Line) (poster : ℕ) (replies : List PostReply) (j k : List A) : Type 0 where
   pub shares : List QueueShare
   pub table : Pointwise (IsPostShare lines poster) replies shares
-  pub chain : ShareChain x poster shares j k
+  pub did : DidShares x poster shares j k
 
 -- what one step of a stage says of the queue that it takes from, and of the queue that it puts into
 pub record StageRow : Type 0 where
@@ -124,8 +124,8 @@ pub record Moving {A : Type 0} (x y : View A QueueEntry QueueRefused) (lines : L
     (j m k n : List A) : Type 0 where
   pub rows : List StageRow
   pub table : MoveTable lines stage agent replies rows
-  pub from : ShareChain x agent (froms rows) j k
-  pub to : ShareChain y agent (tos rows) m n
+  pub from : DidShares x agent (froms rows) j k
+  pub to : DidShares y agent (tos rows) m n
 
 -- the jobs of the Puts of a history, at true, or those of its Tooks, at false, in order
 abbrev pub jobs_of : Bool → List QueueEntry → List ℕ
@@ -142,6 +142,6 @@ own_of (share ∷ shares) = share.own ++ own_of shares
 -- these jobs were taken between the two journals, and nothing was put
 pub record Taking {A : Type 0} (x : View A QueueEntry QueueRefused) (agent : ℕ) (outs : List ℕ) (j k : List A) : Type 0 where
   pub shares : List QueueShare
-  pub chain : ShareChain x agent shares j k
+  pub did : DidShares x agent shares j k
   pub tooks : jobs_of false (own_of shares) ≡ outs
   pub puts : jobs_of true (own_of shares) ≡ []

@@ -30,7 +30,7 @@ pub record IsReady {Q P A : Type 0} (q : QueueOf Q P A) (queues : List Q) (lines
 pub record Told {A : Type 0} (x : ℕ → View A QueueEntry QueueRefused) (lines : List Line) (posters agent : ℕ) (posts : List PostReply)
     (moves : List StageReply) (j k : ℕ → List A) : Type 0 where
   pub acts : ℕ → List QueueShare
-  pub chains : Acts x agent acts j k
+  pub acted : Acts x agent acts j k
   pub posted : agent ≤ posters → PosterActs lines posters agent posts acts × (moves ≡ [])
   pub moved : (place : ℕ) → agent ≡ posters + suc place → StageActs lines place (suc place) agent moves acts × (posts ≡ [])
   pub found_empty : (place : ℕ) → agent ≡ posters + suc place → length moves < jobs_in lines → LastIsEmpty agent ((x place).history (k place))

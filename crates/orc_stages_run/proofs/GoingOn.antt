@@ -7,16 +7,16 @@ use Rattle.orc_jobs.specs.declared.line.Line.{Line}
 use Rattle.orc_board.specs.declared.replies.PostReply.{PostReply}
 use Rattle.orc_board.specs.Follows.{IsWorker, LastIsEmpty, ZeroLast}
 use Rattle.orc_board.specs.Stretches.{View, beside, of_queue}
-use Rattle.orc_board.proofs.Chains.{chain_more}
+use Rattle.orc_board.proofs.Shares.{DidAll-more}
 use Rattle.orc_stages.specs.declared.replies.StageReply.{StageReply}
-use Rattle.orc_stages.specs.Stage.{QueueShare, ShareChain, jobs_of}
+use Rattle.orc_stages.specs.Stage.{QueueShare, DidShares, jobs_of}
 use Rattle.orc_stages.specs.Pipeline.{IsPipeline, PostersFollow, StageFollows, jobs_by, moves_of}
 use Rattle.orc_run.proofs.Growing.{Silent, did_nothing}
 
 module _ {A : Type 0} where
   shares_more : (x : View A QueueEntry QueueRefused) (agent : ℕ) (shares : List QueueShare) (j k l : List A) → Silent x.history k l
-      → ShareChain x agent shares j k → ShareChain x agent shares j l
-  shares_more x agent shares j k l s c = chain_more of_queue x agent (λ (share : QueueShare). share) shares j k l c (did_nothing of_queue x agent k l s)
+      → DidShares x agent shares j k → DidShares x agent shares j l
+  shares_more x agent shares j k l s c = DidAll-more of_queue x agent (λ (share : QueueShare). share) shares j k l c (did_nothing of_queue x agent k l s)
 
   posters_more : (x : View A QueueEntry QueueRefused) (lines : List Line) (posters stages : ℕ) (posts : List PostReply) (k l : List A) → Silent x.history k l
       → PostersFollow x lines posters stages posts k → PostersFollow x lines posters stages posts l
@@ -26,7 +26,7 @@ module _ {A : Type 0} where
         let one = f.posting p low high in record {
           shares = one.shares;
           table = one.table;
-          chain = shares_more (beside x (IsWorker posters stages)) p one.shares [] k l (record { later = s.later; same = s.same }) one.chain;
+          did = shares_more (beside x (IsWorker posters stages)) p one.shares [] k l (record { later = s.later; same = s.same }) one.did;
         };
     no_positions = f.no_positions;
     no_others = λ a other. ap (jobs_by true a) s.same ∙ f.no_others a other;
@@ -44,7 +44,7 @@ module _ {A : Type 0} where
     worker = record {
       shares = f.worker.shares;
       table = f.worker.table;
-      chain = shares_more (beside y (IsWorker posters stages)) (posters + stage) f.worker.shares [] n o (record { later = t.later; same = t.same }) f.worker.chain;
+      did = shares_more (beside y (IsWorker posters stages)) (posters + stage) f.worker.shares [] n o (record { later = t.later; same = t.same }) f.worker.did;
     };
     until = f.until;
     later = (f.later.0 ++ t.later.0, sym (append_assoc f.until f.later.0 t.later.0) ∙ (ap (λ z. z ++ t.later.0) f.later.1 ∙ t.later.1));

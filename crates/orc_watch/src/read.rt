@@ -17,7 +17,6 @@ const MOST: usize = 65535;
 /// The lines of a watch file. It is refused at its first record that has a cause, or at a record past the first 65,535,
 /// whatever is in it. A byte order mark at the start is passed over.
 pub fn read_watch(alloc: Global, bytes: &[u8]) -> Result<WatchLines, WatchFault>
-    requires { length bytes.now ≤ 16777216 }
     ensures ok { IfOk result (λ lines. IsFileOf lines bytes.now) }
     ensures err { IfErr result (Refuses bytes.now) }
 

@@ -2,7 +2,7 @@
 use Rattle.std.proofs.Common.{List, [], ap, append-nil, refl, subst, sym, ℕ, ◌<◌, ◌∙◌, ◌≡◌}
 use mathlib.Core.List.{IsPrefix}
 use Rattle.orc_at_rest.specs.Journals.{GoesOnQuietly}
-use Rattle.orc_board.proofs.Chains.{Did-just, chain_more}
+use Rattle.orc_board.proofs.Shares.{Did-just, DidAll-more}
 use Rattle.orc_board.specs.Stretches.{Did, View, beside, nothing}
 use Rattle.orc_cell.specs.declared.refused.CellRefused.{CellRefused}
 use Rattle.orc_cell.specs.declared.refused.CellRefused.TheVariants.{Again, NoNode, Spent}
@@ -17,7 +17,7 @@ use Rattle.orc_watch.specs.declared.line.WatchLine.{WatchLine}
 use Rattle.orc_watch.specs.declared.reply.WatchReply.{WatchReply}
 use Rattle.orc_watch_domain.specs.Cells.{LicensesOver, cell_over}
 use Rattle.orc_watch_run.specs.CellView.{of_cell}
-use Rattle.orc_watch_run.specs.Follows.{CellShare, EndsWithRead, IsInRun, RepliesFollow}
+use Rattle.orc_watch_run.specs.Follows.{CellShare, EndsWithRead, IsInRun, WatchRepliesFollow}
 use Rattle.orc_words.specs.Bounds.{Bounds}
 
 -- where a journal goes on without an entry, a worker does nothing
@@ -34,7 +34,7 @@ did_nothing x k l later same worker = Did-just of_cell x worker [] k l record {
 module _ {A : Type 0} (x : View A CellEntry CellRefused) (lines : List WatchLine) (workers : ℕ) (replies : List WatchReply) (left right : ℕ) (k l : List A)
     (later : IsPrefix k l) (same : x.history l ≡ x.history k)
   where
-    follow_more : RepliesFollow x lines workers replies left right k → RepliesFollow x lines workers replies left right l
+    follow_more : WatchRepliesFollow x lines workers replies left right k → WatchRepliesFollow x lines workers replies left right l
     follow_more f = record {
       legal = subst (λ (h : List CellEntry). IsLegalCell h) (sym same) f.legal;
       order = f.order;
@@ -44,7 +44,7 @@ module _ {A : Type 0} (x : View A CellEntry CellRefused) (lines : List WatchLine
           record {
             shares = one.shares;
             table = one.table;
-            chain = chain_more of_cell y w (λ (share : CellShare). share) one.shares [] k l one.chain (did_nothing y k l later same w);
+            did = DidAll-more of_cell y w (λ (share : CellShare). share) one.shares [] k l one.did (did_nothing y k l later same w);
           };
       last = subst (λ (h : List CellEntry). EndsWithRead h left right) (sym same) f.last;
     }
@@ -67,9 +67,9 @@ module _ (x : View (Step PairsNote) CellEntry CellRefused) (b : Bounds) (history
 
     -- replies that follow by that view follow by the sizes, also once the journal went on without an event
     pub follow_at_rest : (c : Bounds) (lines : List WatchLine) (workers : ℕ) (replies : List WatchReply) (left right : ℕ) (k l : List (Step PairsNote))
-        → b ≡ c → GoesOnQuietly b k l → RepliesFollow x lines workers replies left right k
-        → RepliesFollow (cell_over c) lines workers replies left right l
+        → b ≡ c → GoesOnQuietly b k l → WatchRepliesFollow x lines workers replies left right k
+        → WatchRepliesFollow (cell_over c) lines workers replies left right l
     follow_at_rest c lines workers replies left right k l sizes quiet f =
-        subst (λ (d : Bounds). RepliesFollow (cell_over d) lines workers replies left right l) sizes
+        subst (λ (d : Bounds). WatchRepliesFollow (cell_over d) lines workers replies left right l) sizes
         (follow_more (cell_over b) lines workers replies left right k l quiet.later (ap entries_of quiet.quiet)
-        (subst (λ (v : View (Step PairsNote) CellEntry CellRefused). RepliesFollow v lines workers replies left right k) same_view f))
+        (subst (λ (v : View (Step PairsNote) CellEntry CellRefused). WatchRepliesFollow v lines workers replies left right k) same_view f))

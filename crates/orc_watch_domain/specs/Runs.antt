@@ -8,7 +8,7 @@ use Rattle.orc_domain.specs.Rest.{rest_journal}
 use Rattle.orc_watch.specs.declared.line.WatchLine.{WatchLine}
 use Rattle.orc_watch_domain.specs.Cells.{cell_bounds, cell_over}
 use Rattle.orc_watch_domain.specs.declared.watch.WatchFinished.{WatchFinished}
-use Rattle.orc_watch_run.specs.Follows.{RepliesFollow}
+use Rattle.orc_watch_run.specs.Follows.{WatchRepliesFollow}
 use Rattle.orc_words.specs.Bounds.{Bounds}
 
 -- the sizes of the cell's domain in a watch of so many workers, beside whom the caller is an agent, with so many rows
@@ -21,6 +21,6 @@ watch_bounds workers rows = cell_bounds rows (1 + workers)
 -- again while it was linked or held, nor twice; and at the end what was given was freed or is linked.
 pub record WatchedThrough (lines : List WatchLine) (workers rows : ℕ) (f : WatchFinished) : Type 0 where
   pub journal : HasJournal PairsMay (watch_bounds workers rows) Empty f.cell
-  pub replies : RepliesFollow (cell_over (watch_bounds workers rows)) lines workers f.replies.items f.now_left f.now_right (rest_journal f.cell)
+  pub replies : WatchRepliesFollow (cell_over (watch_bounds workers rows)) lines workers f.replies.items f.now_left f.now_right (rest_journal f.cell)
   pub reuse : ReusesSafely (watch_bounds workers rows) (rest_journal f.cell)
   pub rest : LeaksNothing (watch_bounds workers rows) (rest_journal f.cell)

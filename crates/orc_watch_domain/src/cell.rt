@@ -9,10 +9,10 @@ ghost use Rattle.orc_watch_run.specs.Passes.{AreFresh};
 ghost use Rattle.orc_words.specs.Bounds.{bounds_of};
 
 use orc_cell::Cell;
+use orc_domain::{OrcDomain, OrcPass};
 use orc_fault::NoMemory;
 use orc_heap::{Links, Seed};
 use orc_pairs_rule::Pairs;
-use orc_domain::{OrcDomain, OrcPass};
 use orc_watch_run::new_passes_are_fresh;
 use orc_words::Shape;
 use std::alloc::Global;

@@ -2,7 +2,7 @@
 use Rattle.std.proofs.Common.{◌≡◌, ℕ, List, [], ◌∷◌, ◌++◌, Option, Some, None, ap, inl, inr, length, map, refl, subst, sym, ◌∙◌}
 use mathlib.Core.List.{IsPrefix}
 use Rattle.std.specs.List.{AllByRecursion}
-use Rattle.orc_board.proofs.Chains.{Did-just, chain_before, chain_more}
+use Rattle.orc_board.proofs.Shares.{Did-just, DidAll-before, DidAll-more}
 use Rattle.orc_board.proofs.ListFacts.{AllByRecursion-map, AllByRecursion-right}
 use Rattle.orc_board.proofs.Wholes.{Below}
 use Rattle.orc_board.specs.Follows.{own_records}
@@ -15,7 +15,7 @@ use Rattle.orc_watch.specs.declared.line.WatchLine.{WatchLine}
 use Rattle.orc_watch.specs.declared.reply.WatchReply.{WatchReply}
 use Rattle.orc_watch_run.specs.CameBack.{IsTold}
 use Rattle.orc_watch_run.specs.CellView.{of_cell}
-use Rattle.orc_watch_run.specs.Follows.{CellShare, ShareChain, Watching}
+use Rattle.orc_watch_run.specs.Follows.{CellShare, DidShares, Watching}
 use Rattle.orc_workers.proofs.Learned.{Grows, none_since, since}
 
 licensed_beside : {A : Type 0} (x : View A CellEntry CellRefused) (C : ℕ → Type 0) (agent : ℕ) (why : Option CellRefused) (j k : List A)
@@ -38,7 +38,7 @@ did_beside x C f agent share j k d = record {
 }
 
 shares_beside : {A : Type 0} (x : View A CellEntry CellRefused) (C : ℕ → Type 0) → Below x.crowd C → (agent : ℕ) (shares : List CellShare) (j k : List A)
-    → ShareChain x agent shares j k → ShareChain (beside x C) agent shares j k
+    → DidShares x agent shares j k → DidShares (beside x C) agent shares j k
 shares_beside x C f agent [] j k c = did_beside x C f agent nothing j k c
 shares_beside x C f agent (share ∷ shares) j k (i, one, c) = (i, did_beside x C f agent share j i one, shares_beside x C f agent shares i k c)
 
@@ -69,8 +69,8 @@ told_first x C lines workers agent replies j k few none new w order = record {
   watched = record {
     shares = w.shares;
     table = w.table;
-    chain = chain_before of_cell (beside x C) agent (λ (share : CellShare). share) w.shares [] j k (start (beside x C) agent j none new)
-        (shares_beside x C few agent w.shares j k w.chain);
+    did = DidAll-before of_cell (beside x C) agent (λ (share : CellShare). share) w.shares [] j k (start (beside x C) agent j none new)
+        (shares_beside x C few agent w.shares j k w.did);
   };
   in_file_order = order;
 }
@@ -84,7 +84,7 @@ told_more x C lines workers agent replies j k grows later own below t = record {
   watched = record {
     shares = t.watched.shares;
     table = t.watched.table;
-    chain = chain_more of_cell (beside x C) agent (λ (share : CellShare). share) t.watched.shares [] j k t.watched.chain
+    did = DidAll-more of_cell (beside x C) agent (λ (share : CellShare). share) t.watched.shares [] j k t.watched.did
         (Did-just of_cell (beside x C) agent [] j k (learned x C agent j k grows later own below));
   };
   in_file_order = t.in_file_order;

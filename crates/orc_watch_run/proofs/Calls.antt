@@ -2,7 +2,7 @@
 use Rattle.std.proofs.Common.{◌≡◌, ◌≤◌, ◌==◌, ℕ, suc, List, [], ◌∷◌, Bool, true, false, cond, arith, drop, length, subst}
 use mathlib.Core.List.{IsPrefix}
 use Rattle.orc_board.specs.Stretches.{Stretch, View}
-use Rattle.orc_board.proofs.Chains.{Stretch-trans}
+use Rattle.orc_board.proofs.Shares.{Stretch-trans}
 use Rattle.orc_cell.specs.Causes.{WithinPart}
 use Rattle.orc_cell.specs.declared.refused.CellRefused.{CellRefused}
 use Rattle.orc_history.specs.Journals.{Adds, Within}

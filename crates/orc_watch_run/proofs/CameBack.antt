@@ -3,7 +3,7 @@ use Rattle.std.proofs.Common.{◌≡◌, ◌==◌, ◌+◌, ◌<◌, ◌≤◌, 
 use mathlib.Core.List.{IsPrefix}
 use Rattle.std.proofs.lemmas.List.Elements.{filter-append}
 use Rattle.std.specs.List.{AllByRecursion}
-use Rattle.orc_board.proofs.Chains.{prefix_trans}
+use Rattle.orc_board.proofs.Shares.{prefix_trans}
 use Rattle.orc_board.proofs.ListFacts.{AllByRecursion-all, AllByRecursion-map, filter-all, filter-none, le-cases}
 use Rattle.orc_board.proofs.Wholes.{Below}
 use Rattle.orc_board.specs.Follows.{Pointwise, ZeroLast}
@@ -18,7 +18,7 @@ use Rattle.orc_pairs_rule.specs.declared.entry.CellEntry.TheVariants.{Seen}
 use Rattle.orc_pairs_rule.specs.declared.pairs.PairsNote.{PairsNote}
 use Rattle.orc_watch.specs.declared.line.WatchLine.{WatchLine}
 use Rattle.orc_watch.specs.declared.reply.WatchReply.{WatchReply}
-use Rattle.orc_board.specs.Reserved.{Reserved}
+use Rattle.orc_board.specs.ListWithRoom.{ListWithRoom}
 use Rattle.orc_watch_run.specs.CameBack.{AllCameBack, AreNumbered, IsBack, IsNew, IsTold}
 use Rattle.orc_watch_run.specs.CellView.{cell_view, of_cell}
 use Rattle.orc_watch_run.specs.Follows.{EndsWithRead, IsInRun}
@@ -54,7 +54,7 @@ learnt_all x journal k (w ∷ ws) (v ∷ vs) a b = (record { whole = a.0; same =
 abbrev Tells : {P A : Type 0} → View A CellEntry CellRefused → (ℕ → Type 0) → (P → List A) → List WatchLine → ℕ → Worker P → Type 0
 Tells x C journal lines workers w = IsTold (beside x C) lines workers w.agent w.replies.items (journal w.pass)
 
-told_as : {A : Type 0} (y : View A CellEntry CellRefused) (lines : List WatchLine) (workers agent agent2 : ℕ) (replies replies2 : Reserved WatchReply)
+told_as : {A : Type 0} (y : View A CellEntry CellRefused) (lines : List WatchLine) (workers agent agent2 : ℕ) (replies replies2 : ListWithRoom WatchReply)
     (k k2 : List A) → agent2 ≡ agent → replies2 ≡ replies → k2 ≡ k → IsTold y lines workers agent replies.items k
     → IsTold y lines workers agent2 replies2.items k2
 told_as y lines workers agent agent2 replies replies2 k k2 a b c t = rw (a, b, c) t

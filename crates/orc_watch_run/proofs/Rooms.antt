@@ -7,7 +7,7 @@ use Rattle.orc_heap.specs.Domains.{agent}
 use Rattle.orc_board.proofs.ListFacts.{AllByRecursion-append}
 use Rattle.orc_board.proofs.PairLists.{records_fewer}
 use Rattle.orc_board.specs.Follows.{own_records}
-use Rattle.orc_board.specs.Reserved.{Reserved as ReservedList}
+use Rattle.orc_board.specs.ListWithRoom.{ListWithRoom}
 use Rattle.orc_heap.specs.declared.links.Links.{Ghosts as LinksOf}
 use Rattle.orc_pairs_rule.specs.declared.pairs.PairsNote.{PairsNote}
 use Rattle.orc_watch.specs.declared.line.WatchLine.{WatchLine}
@@ -19,7 +19,7 @@ use Rattle.orc_watch_run.specs.Team.{IsReady}
 use Rattle.orc_watch_run.specs.declared.team.Worker.{Worker}
 
 abbrev pub Room : Type 0
-Room = ReservedList WatchReply
+Room = ListWithRoom WatchReply
 
 -- one room more
 pub one_room_more : (lines : ℕ) (rooms : List Room) (room : Room) → AllByRecursion (IsRoom lines) rooms → (room.items ≡ []) → room.spare ≡ lines

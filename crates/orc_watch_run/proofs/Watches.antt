@@ -2,7 +2,7 @@
 use Rattle.std.proofs.Common.{◌≡◌, ℕ, List, [], ◌∷◌, ◌++◌, Option, Some, ap, length, map, refl, slice_get, subst, sym, ◌∙◌}
 use Rattle.std.proofs.lemmas.List.{length-map}
 use Rattle.orc_board.specs.Stretches.{Stretch, View, just, refusal, Did}
-use Rattle.orc_board.proofs.Chains.{Did-just, Did-nothing, chain_snoc}
+use Rattle.orc_board.proofs.Shares.{Did-just, Did-nothing, DidAll-snoc}
 use Rattle.orc_board.proofs.Workers.{Pointwise-snoc}
 use Rattle.orc_fault.specs.declared.Spent.{Spent as SpentRow}
 use Rattle.orc_cell.specs.declared.refused.CellRefused.{CellRefused}
@@ -18,7 +18,7 @@ use Rattle.orc_watch_run.specs.Follows.{Answered, Asks, CellShare, IsReplyShare,
 
 pub watching_none : {A : Type 0} (x : View A CellEntry CellRefused) (lines : List WatchLine) (worker : ℕ) (replies : List WatchReply) (j : List A)
     → replies ≡ [] → Watching x lines worker replies j j
-watching_none x lines worker replies j e = record { shares = []; table = rw e tt; chain = Did-nothing of_cell x worker j }
+watching_none x lines worker replies j e = record { shares = []; table = rw e tt; did = Did-nothing of_cell x worker j }
 
 pub watching_more : {A : Type 0} (x : View A CellEntry CellRefused) (lines : List WatchLine) (worker now index : ℕ) (l : WatchLine)
     (replies : List WatchReply) (r : WatchReply) (i j k : List A)
@@ -30,7 +30,7 @@ watching_more x lines worker now index l replies r i j k w e worker_is line_is a
       shares = w.shares ++ done.share ∷ [];
       table = Pointwise-snoc (IsReplyShare lines worker) replies w.shares r done.share w.table
           (record { worker_is = worker_is; line = l; at = ap (slice_get lines) line_is ∙ at; is = done.is });
-      chain = chain_snoc of_cell x worker (λ (share : CellShare). share) w.shares done.share i j k w.chain done.did;
+      did = DidAll-snoc of_cell x worker (λ (share : CellShare). share) w.shares done.share i j k w.did done.did;
     }
 
 -- as many replies as records

@@ -4,7 +4,7 @@ use Rattle.std.specs.Prelude.{◌≡◌, ◌≢◌, ℕ, suc, ◌≤◌, List, [
 use Rattle.std.specs.List.{AllByRecursion}
 use Rattle.orc_fault.specs.declared.Spent.{Spent as SpentRow}
 use Rattle.orc_board.specs.Follows.{Pointwise, by_key, own_records}
-use Rattle.orc_board.specs.Stretches.{Chain, Did, Share, View, beside, just, refusal}
+use Rattle.orc_board.specs.Stretches.{DidAll, Did, Share, View, beside, just, refusal}
 use Rattle.orc_cell.specs.declared.refused.CellRefused.{CellRefused}
 use Rattle.orc_cell.specs.declared.refused.CellRefused.TheVariants as refused
 use Rattle.orc_pairs_rule.specs.CellHistory.{IsLegalCell, agent_of_entry}
@@ -63,15 +63,15 @@ pub record IsReplyShare (lines : List WatchLine) (worker : ℕ) (r : WatchReply)
   pub is : IsAnswer worker line r.what share
 
 -- from the journal j to k these shares of an agent stand one after another
-abbrev pub ShareChain : {A : Type 0} → View A CellEntry CellRefused → ℕ → List CellShare → List A → List A → Type 0
-ShareChain x agent shares j k = Chain of_cell x agent (λ (share : CellShare). share) shares j k
+abbrev pub DidShares : {A : Type 0} → View A CellEntry CellRefused → ℕ → List CellShare → List A → List A → Type 0
+DidShares x agent shares j k = DidAll of_cell x agent (λ (share : CellShare). share) shares j k
 
 -- what a worker did between these journals is what these replies stand for, in their order
 pub record Watching {A : Type 0} (x : View A CellEntry CellRefused) (lines : List WatchLine) (worker : ℕ) (replies : List WatchReply) (j k : List A)
     : Type 0 where
   pub shares : List CellShare
   pub table : Pointwise (IsReplyShare lines worker) replies shares
-  pub chain : ShareChain x worker shares j k
+  pub did : DidShares x worker shares j k
 
 -- the agents of a run
 abbrev pub IsInRun : ℕ → ℕ → Type 0
@@ -95,7 +95,7 @@ pub record EndsWithRead (history : List CellEntry) (x y : ℕ) : Type 0 where
 
 -- the replies, and the two parts that the caller read at last, follow this journal: each worker did what its replies stand for, beside
 -- no agent but those of the run
-pub record RepliesFollow {A : Type 0} (x : View A CellEntry CellRefused) (lines : List WatchLine) (workers : ℕ) (replies : List WatchReply)
+pub record WatchRepliesFollow {A : Type 0} (x : View A CellEntry CellRefused) (lines : List WatchLine) (workers : ℕ) (replies : List WatchReply)
     (now_left now_right : ℕ) (k : List A) : Type 0 where
   pub legal : IsLegalCell (x.history k)
   pub order : AreInOrder lines workers replies

@@ -8,7 +8,7 @@ use Rattle.orc_pairs_rule.specs.declared.pairs.PairsNote.{PairsNote}
 use Rattle.orc_watch.specs.declared.line.WatchLine.{WatchLine}
 use Rattle.orc_watch.specs.declared.reply.WatchReply.{WatchReply}
 use Rattle.orc_watch_run.specs.CellView.{cell_view}
-use Rattle.orc_watch_run.specs.Follows.{RepliesFollow}
+use Rattle.orc_watch_run.specs.Follows.{WatchRepliesFollow}
 
 module _ {L D P S : Type 0} (members : LinksOf L D P S PairsNote) (links : L) where
   -- a usable pass of this agent
@@ -46,4 +46,4 @@ module _ {L D P S : Type 0} (members : LinksOf L D P S PairsNote) (links : L) wh
 
   -- the replies and the parts that were read at last follow the journal that the first pass has seen
   abbrev pub FollowsPasses : List WatchLine → ℕ → List P → List WatchReply → ℕ → ℕ → Type 0
-  FollowsPasses lines workers ps replies left right = RepliesFollow (cell_view members links) lines workers replies left right (first_seen ps)
+  FollowsPasses lines workers ps replies left right = WatchRepliesFollow (cell_view members links) lines workers replies left right (first_seen ps)

@@ -2,13 +2,13 @@
 use Rattle.std.specs.Prelude.{List, [], length, suc, ℕ, ◌∷◌, ◌≡◌, ◌≤◌}
 use Rattle.std.specs.List.{AllByRecursion}
 use Rattle.std.specs.Vec.{vec_capacity}
-use Rattle.orc_board.specs.Reserved.{Reserved as ReservedList}
+use Rattle.orc_board.specs.ListWithRoom.{ListWithRoom}
 use Rattle.orc_watch.specs.declared.reply.WatchReply.{WatchReply}
 use Rattle.orc_watch_run.specs.declared.reserve.Reserved.{Reserved}
 use Rattle.orc_watch_run.specs.declared.team.Worker.{Worker}
 
 -- an empty list with room for so many replies
-pub record IsRoom (lines : ℕ) (room : ReservedList WatchReply) : Type 0 where
+pub record IsRoom (lines : ℕ) (room : ListWithRoom WatchReply) : Type 0 where
   pub none : room.items ≡ []
   pub spare : room.spare ≡ lines
 
@@ -23,7 +23,7 @@ pub record IsReserved {P : Type 0} (lines workers : ℕ) (r : Reserved P) : Type
   pub replies : IsRoom lines r.replies
 
 -- a worker with each pass and the room of its place, numbered from this agent
-abbrev pub seated : {P : Type 0} → ℕ → List P → List (ReservedList WatchReply) → List (Worker P)
+abbrev pub seated : {P : Type 0} → ℕ → List P → List (ListWithRoom WatchReply) → List (Worker P)
 seated agent [] rooms = []
 seated agent (p ∷ ps) [] = []
 seated agent (p ∷ ps) (room ∷ rooms) = record { agent = agent; pass = p; replies = room } ∷ seated (suc agent) ps rooms

@@ -7,14 +7,12 @@ ghost use Rattle.orc_pairs_rule.specs.declared.entry.CellEntry.{CellEntry};
 ghost use Rattle.orc_watch_run.specs.Follows.{Asks};
 ghost use Rattle.orc_watch_run.specs.WatchCalls.{AnswersLine, CellCall, CellRefuses, KeepsAgent};
 
+use orc_board::TURNS;
 use orc_cell::{Cell, CellRefused};
 use orc_heap::Links;
 use orc_pairs_rule::Pairs;
 use orc_watch::{WatchLine, WatchWord};
 use std::sync::Wait;
-
-// How many turns each call of the cell has.
-const TURNS: u64 = 64;
 
 /// Publishes the parts that are given, at least one, and answers both as they are then. A call that answers Again is made
 /// once more until it is answered.

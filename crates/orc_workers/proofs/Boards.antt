@@ -19,7 +19,7 @@ use Rattle.orc_board.specs.Follows.{Posting, TakingRest, Claiming, AreInOrder, W
 use Rattle.orc_board.specs.Reportable.{posted_of, claim_of, takes_with}
 use Rattle.orc_board.specs.Runs.{Ran}
 use Rattle.orc_board.proofs.ListFacts.{AllByRecursion-append, AllByRecursion-left, AllByRecursion-right, AllByRecursion-filter, eq-yes}
-use Rattle.orc_board.proofs.Chains.{Works-more}
+use Rattle.orc_board.proofs.Shares.{Works-more}
 use Rattle.orc_board.proofs.Wholes.{queue_of_rows, Works-queue}
 use Rattle.orc_board.proofs.JobsTaken.{PutFits, TookFits, legal_tooks, rows_puts, took_rows_fit, skips_fit, no_skips, strict_rows}
 use Rattle.orc_board.proofs.WorkerCases.{own_whole, worker_cases}

@@ -18,7 +18,7 @@ use Rattle.orc_board.specs.declared.replies.TakeReply.{TakeReply}
 use Rattle.orc_board.specs.declared.desk.Desk.{Desk}
 use Rattle.orc_workers.specs.declared.team.Worker.{Worker}
 use Rattle.orc_board.specs.Desk.{IsDesk, seen_in}
-use Rattle.orc_board.specs.Reserved.{Reserved}
+use Rattle.orc_board.specs.ListWithRoom.{ListWithRoom}
 use Rattle.orc_board.specs.Stretches.{View, queue_views, set_view, beside, all_beside, pick, just, of_queue, of_set, Stands, empty_row}
 use Rattle.orc_board.specs.Table.{TakeEnds}
 use Rattle.orc_board.specs.Follows.{Pointwise, TakingRest, LastIsEmpty, IsWorker, none}
@@ -26,7 +26,7 @@ use Rattle.orc_workers.specs.Team.{DidWork, DidPost, DidTake}
 use Rattle.orc_workers.specs.Learning.{IsKnown, IsOther, SameWorker, IsWhole, LearnsAllOfQueues, LearnsAllOfSet}
 use Rattle.orc_workers.specs.CameBack.{IsNew, IsTold, IsBack, AreNumbered, AllCameBack}
 use Rattle.orc_board.proofs.ListFacts.{le-cases, AllByRecursion-map}
-use Rattle.orc_board.proofs.Chains.{Did-just, Works-more, Stands-after, prefix_trans}
+use Rattle.orc_board.proofs.Shares.{Did-just, Works-more, Stands-after, prefix_trans}
 use Rattle.orc_board.proofs.Wholes.{Works-before, Works-beside, Stands-beside, Below}
 use Rattle.orc_workers.proofs.Resting.{Stands-both, skip_row, resting_stretch, resting_set, ends_last}
 use Rattle.orc_workers.proofs.Teams.{AllByRecursion-next}
@@ -201,10 +201,10 @@ tells_more {P} {R} {A} {B} qs s C jq js lines posters k n w v laws below t l =
     let c : IsTold qc sc lines posters (shown jq v.desk) (js v.desk.set) v.agent w.posts.items w.takes.items =
     subst (λ (x : ℕ). IsTold qc sc lines posters (shown jq v.desk) (js v.desk.set) x w.posts.items w.takes.items) (sym l.same.agent_is) b in
     let d : IsTold qc sc lines posters (shown jq v.desk) (js v.desk.set) v.agent v.posts.items w.takes.items =
-    subst (λ (x : Reserved PostReply). IsTold qc sc lines posters (shown jq v.desk) (js v.desk.set) v.agent x.items w.takes.items)
+    subst (λ (x : ListWithRoom PostReply). IsTold qc sc lines posters (shown jq v.desk) (js v.desk.set) v.agent x.items w.takes.items)
     (sym l.same.posts_are) c in
     record {
-      told = subst (λ (x : Reserved TakeReply). IsTold qc sc lines posters (shown jq v.desk) (js v.desk.set) v.agent v.posts.items x.items)
+      told = subst (λ (x : ListWithRoom TakeReply). IsTold qc sc lines posters (shown jq v.desk) (js v.desk.set) v.agent v.posts.items x.items)
           (sym l.same.takes_are) d;
     }
 

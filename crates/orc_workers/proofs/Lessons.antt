@@ -4,7 +4,7 @@ use mathlib.Core.List.{IsPrefix}
 use Rattle.orc_history.specs.Journals.{LearnsEntries, own_of}
 use Rattle.orc_board.specs.Follows.{Pointwise}
 use Rattle.orc_workers.specs.Learning.{IsHeard, IsWhole, IsSeen, Learned, LearnedAll}
-use Rattle.orc_board.proofs.Chains.{prefix_trans}
+use Rattle.orc_board.proofs.Shares.{prefix_trans}
 use Rattle.orc_workers.proofs.Teams.{Pointwise-right, Pointwise-through}
 
 pub prefix_refl : {X : Type 0} (xs : List X) → IsPrefix xs xs

@@ -16,7 +16,7 @@ use Rattle.orc_board.specs.declared.replies.PostReply.{PostReply}
 use Rattle.orc_jobs.specs.Line.{jobs_in}
 use Rattle.orc_workers.specs.Team.{DidTake}
 use Rattle.orc_board.proofs.ListFacts.{AllByRecursion-append, AllByRecursion-map}
-use Rattle.orc_board.proofs.Chains.{Did-just, Stretch-trans, Works-row, Stands-empty, prefix_trans}
+use Rattle.orc_board.proofs.Shares.{Did-just, Stretch-trans, Works-row, Stands-empty, prefix_trans}
 use mathlib.Core.List.{IsPrefix}
 use Rattle.orc_board.proofs.CallStretches.{ends_later}
 use Rattle.orc_board.proofs.Wholes.{queue_of_rows, Works-queue, Works-set}

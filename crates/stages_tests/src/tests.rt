@@ -4,18 +4,18 @@ ghost use Rattle.orc_jobs.specs.GoodLines.{AreGood};
 
 use orc_board::{PostReply, PostWord};
 use orc_fault::NoMemory;
-use orc_jobs::{Lines, read_jobs};
+use orc_jobs::{Lines, MOST_BYTES, read_jobs};
 use orc_stages::StageReply;
 use std::alloc::Global;
 
 mod plain;
 mod runs;
 
-// The lines of a job file of up to 16 MiB.
+// The lines of a job file.
 fn lines_of(alloc: Global, bytes: &[u8]) -> Result<Lines, NoMemory>
     ensures { IfOk result AreGood }
 {
-    if bytes.len() > 16777216 {
+    if bytes.len() > MOST_BYTES {
         return Err(NoMemory);
     }
     match read_jobs(alloc, bytes) {

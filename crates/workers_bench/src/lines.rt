@@ -4,11 +4,8 @@ ghost use Rattle.std.specs.Prelude.{IfOk};
 ghost use Rattle.orc_jobs.specs.GoodLines.{AreGood};
 
 use orc_fault::NoMemory;
-use orc_jobs::{Lines, read_jobs};
+use orc_jobs::{Lines, MOST_BYTES, read_jobs};
 use std::alloc::Global;
-
-// The longest job file that is read, in bytes.
-const LONGEST: usize = 16_777_216;
 
 // So many posts, whose ids fall to 0.
 pub(crate) fn falling(alloc: Global, posts: u32) -> Result<Lines, NoMemory>
@@ -20,7 +17,7 @@ pub(crate) fn falling(alloc: Global, posts: u32) -> Result<Lines, NoMemory>
         let line = format!(in alloc; "post,{id},bytes,x\n")?;
         text.push_str(line.as_str())?;
     }
-    if text.len() > LONGEST {
+    if text.len() > MOST_BYTES {
         return Err(NoMemory);
     }
     match read_jobs(alloc, text.as_bytes()) {

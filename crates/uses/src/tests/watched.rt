@@ -7,7 +7,7 @@ use crate::{Unmade, plain_queue};
 use orc_board::{Gate, Replies};
 use orc_fault::{Again, NoMemory};
 use orc_history::{LearnQueue, LearnSet, ListRefused, QueueRefused, SharedQueue, SharedSet};
-use orc_jobs::{Lines, read_jobs};
+use orc_jobs::{Lines, MOST_BYTES, read_jobs};
 use orc_workers::{fresh_desks, run_at_desks};
 use std::alloc::Global;
 use std::sync::Wait;
@@ -158,7 +158,7 @@ impl<S: LearnSet, W: Watch> LearnSet for Watched<S, W> {
 
 // The lines of this file.
 fn lines_of(alloc: Global, text: &[u8]) -> Result<Lines, NoMemory>
-    requires { length text.now ≤ 16777216 }
+    requires { length text.now ≤ MOST_BYTES }
     ensures { IfOk result AreGood }
 {
     match read_jobs(alloc, text) {
@@ -186,7 +186,7 @@ pub(super) fn run_watched<
 ) -> Result<(W, usize, Replies), Unmade>
 where
     S::Pass: Send,
-    requires short { length text.now ≤ 16777216 }
+    requires short { length text.now ≤ MOST_BYTES }
     requires posters { (1 ≤ posters) × (posters ≤ 8) × (takers ≤ 7) }
     requires usable { All (λ p. S.usable set.now p) set_passes.items }
     requires fresh { All (λ p. S.history set.now (S.journal p) ≡ []) set_passes.items }

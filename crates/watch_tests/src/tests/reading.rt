@@ -5,11 +5,8 @@ use std::alloc::Global;
 use std::process::Abort;
 use std::test::Fail;
 
-const MOST_BYTES: usize = 16_777_216;
-
 // Reads a file, and asks for its lines.
 fn is_read<R: Abort>(rt: &R, alloc: Global, bytes: &[u8], wanted: &[WatchLine]) {
-    assert!(rt; bytes.len() <= MOST_BYTES);
     match read_watch(alloc, bytes) {
         Ok(lines) => {
             assert_eq!(rt; lines.len(), wanted.len());
@@ -28,7 +25,6 @@ fn is_refused<R: Abort>(rt: &R, alloc: Global, record: &[u8], why: WatchCause) -
     after.extend_from_slice(record)?;
     after.extend_from_slice(b"\ntop")?;
     for (line, bytes) in [(0, record), (1, after.as_slice())] {
-        assert!(rt; bytes.len() <= MOST_BYTES);
         match read_watch(alloc, bytes) {
             Ok(_) => assert!(rt; false, "{record:?} is read"),
             Err(fault) => assert_eq!(rt; fault, WatchFault::Malformed { line, cause: why }),
@@ -106,14 +102,12 @@ fn reads(alloc: Global, count: usize, last: &[u8]) -> Result<Vec<u8>, Fail> {
 fn the_last_record_is_the_65535th(rt: HostRuntime) -> Result<(), Fail> {
     let alloc = rt.alloc();
     let most = reads(alloc, 65535, b"")?;
-    assert!(rt; most.len() <= MOST_BYTES);
     match read_watch(alloc, most.as_slice()) {
         Ok(lines) => assert_eq!(rt; lines.len(), 65535),
         Err(fault) => assert!(rt; false, "{fault:?}"),
     }
     for last in [b"see\n".as_slice(), b"both,1\n".as_slice()] {
         let more = reads(alloc, 65535, last)?;
-        assert!(rt; more.len() <= MOST_BYTES);
         match read_watch(alloc, more.as_slice()) {
             Ok(_) => assert!(rt; false, "65,536 records are read"),
             Err(fault) => assert_eq!(rt; fault, WatchFault::TooMany),

@@ -2,7 +2,7 @@ use Rattle.std.proofs.Common.{[], ◌∷◌, refl, ◌∙◌}
 use Rattle.orc_history.specs.declared.set.SetEntry.TheVariants.{Added}
 use Rattle.orc_history.specs.declared.set.ListRefused.TheVariants as list_refused
 use Rattle.orc_board.specs.Stretches.{set_view, of_set}
-use Rattle.orc_board.proofs.Chains.{Stretch-refl}
+use Rattle.orc_board.proofs.Shares.{Stretch-refl}
 use Rattle.orc_board.proofs.CallStretches.{set_call, refused_call}
 use Rattle.orc_board.proofs.again.insert_key.Goals as goal
 

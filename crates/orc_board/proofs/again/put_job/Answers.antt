@@ -2,7 +2,7 @@ use Rattle.std.proofs.Common.{[], ◌∷◌, refl, ◌∙◌}
 use Rattle.orc_history.specs.declared.queue.QueueEntry.TheVariants.{Put}
 use Rattle.orc_history.specs.declared.queue.QueueRefused.TheVariants as queue_refused
 use Rattle.orc_board.specs.Stretches.{queue_view, of_queue}
-use Rattle.orc_board.proofs.Chains.{Stretch-refl}
+use Rattle.orc_board.proofs.Shares.{Stretch-refl}
 use Rattle.orc_board.proofs.CallStretches.{queue_call, refused_call}
 use Rattle.orc_board.proofs.again.put_job.Goals as goal
 

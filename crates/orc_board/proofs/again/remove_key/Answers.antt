@@ -1,7 +1,7 @@
 use Rattle.std.proofs.Common.{[], ◌∷◌, refl, ◌∙◌}
 use Rattle.orc_history.specs.declared.set.SetEntry.TheVariants.{Removed}
 use Rattle.orc_board.specs.Stretches.{set_view, of_set}
-use Rattle.orc_board.proofs.Chains.{Stretch-refl}
+use Rattle.orc_board.proofs.Shares.{Stretch-refl}
 use Rattle.orc_board.proofs.CallStretches.{set_call}
 use Rattle.orc_board.proofs.again.remove_key.Goals as goal
 

@@ -1,6 +1,6 @@
 use Rattle.std.proofs.Common.{[], refl, ◌∙◌, Some, None}
 use Rattle.orc_board.specs.Stretches.{queue_view, of_queue}
-use Rattle.orc_board.proofs.Chains.{Stretch-refl}
+use Rattle.orc_board.proofs.Shares.{Stretch-refl}
 use Rattle.orc_board.proofs.CallStretches.{queue_call, dequeue_call, dequeue_last}
 use Rattle.orc_board.proofs.again.take_job.Goals as goal
 

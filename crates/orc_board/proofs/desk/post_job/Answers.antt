@@ -2,7 +2,7 @@ use Rattle.std.proofs.Common.{◌∙◌, refl, inl, inr}
 use Rattle.orc_history.specs.declared.queue.QueueRefused.TheVariants as queue_refused
 use Rattle.orc_history.specs.declared.set.ListRefused.TheVariants as list_refused
 use Rattle.orc_board.specs.Stretches.{queue_view, set_view, of_queue}
-use Rattle.orc_board.proofs.Chains.{Did-nothing}
+use Rattle.orc_board.proofs.Shares.{Did-nothing}
 use Rattle.orc_board.proofs.Rows.{placed, placed_part, inserted, opened_closed, put_refused, insert_refused}
 use Rattle.orc_board.proofs.desk.post_job.Goals as goal
 

@@ -1,5 +1,5 @@
 use Rattle.std.proofs.Common.{[], ◌∷◌, refl, ◌∙◌}
-use Rattle.orc_board.proofs.Chains.{Stretch-refl}
+use Rattle.orc_board.proofs.Shares.{Stretch-refl}
 use Rattle.orc_pairs_rule.specs.declared.entry.CellEntry.TheVariants.{Seen}
 use Rattle.orc_watch_run.specs.CellView.{cell_view, of_cell}
 use Rattle.orc_watch_run.proofs.Calls.{cell_call}

@@ -1,4 +1,4 @@
--- How stretches, rows and chains of rows grow.
+-- How stretches, shares and rows grow.
 use Rattle.std.proofs.Common.{ℕ, ◌≤◌, Bool, List, [], ◌∷◌, ◌++◌, length, Option, Some, None, refl, ap, sym, ◌∙◌, arith, length-append, append_assoc, append-nil, filter}
 use mathlib.Core.List.{IsPrefix}
 use Rattle.std.proofs.lemmas.List.Elements.{filter-append}
@@ -6,7 +6,7 @@ use Rattle.orc_history.specs.declared.queue.QueueEntry.{QueueEntry}
 use Rattle.orc_history.specs.declared.queue.QueueRefused.{QueueRefused}
 use Rattle.orc_history.specs.declared.set.SetEntry.{SetEntry}
 use Rattle.orc_history.specs.declared.set.ListRefused.{ListRefused}
-use Rattle.orc_board.specs.Stretches.{View, Kind, of_queue, of_set, MayStand, Stretch, Share, just, nothing, Licensed, Did, Row, empty_row, Stands, Chain, Works}
+use Rattle.orc_board.specs.Stretches.{View, Kind, of_queue, of_set, MayStand, Stretch, Share, just, nothing, Licensed, Did, Row, empty_row, Stands, DidAll, Works}
 use Rattle.orc_board.proofs.ListFacts.{AllByRecursion-append}
 
 pub prefix_trans : {X : Type 0} (a b c : List X) → IsPrefix a b → IsPrefix b c → IsPrefix a c
@@ -51,34 +51,34 @@ pub Did-nothing : {A E W : Type 0} (kind : Kind E) (x : View A E W) (agent : ℕ
 Did-nothing kind x agent j = Did-just kind x agent [] j j (Stretch-refl kind x agent j)
 
 -- the last stretch grows
-pub chain_more : {A E W X : Type 0} (kind : Kind E) (x : View A E W) (agent : ℕ) (share : X → Share E W) (rows : List X) (j k k2 : List A)
-    → Chain kind x agent share rows j k → Did kind x agent nothing k k2 → Chain kind x agent share rows j k2
-chain_more kind x agent share [] j k k2 c h = Did-after kind x agent nothing j k k2 c.stretch h
-chain_more kind x agent share (row ∷ rows) j k k2 (i, one, c) h = (i, one, chain_more kind x agent share rows i k k2 c h)
+pub DidAll-more : {A E W X : Type 0} (kind : Kind E) (x : View A E W) (agent : ℕ) (share : X → Share E W) (rows : List X) (j k k2 : List A)
+    → DidAll kind x agent share rows j k → Did kind x agent nothing k k2 → DidAll kind x agent share rows j k2
+DidAll-more kind x agent share [] j k k2 c h = Did-after kind x agent nothing j k k2 c.stretch h
+DidAll-more kind x agent share (row ∷ rows) j k k2 (i, one, c) h = (i, one, DidAll-more kind x agent share rows i k k2 c h)
 
 -- one row more
-pub chain_snoc : {A E W X : Type 0} (kind : Kind E) (x : View A E W) (agent : ℕ) (share : X → Share E W) (rows : List X) (row : X) (j k k2 : List A)
-    → Chain kind x agent share rows j k → Did kind x agent (share row) k k2 → Chain kind x agent share (rows ++ row ∷ []) j k2
-chain_snoc kind x agent share [] row j k k2 c h = (k2, Did-after kind x agent (share row) j k k2 c.stretch h, Did-nothing kind x agent k2)
-chain_snoc kind x agent share (r ∷ rows) row j k k2 (i, one, c) h = (i, one, chain_snoc kind x agent share rows row i k k2 c h)
+pub DidAll-snoc : {A E W X : Type 0} (kind : Kind E) (x : View A E W) (agent : ℕ) (share : X → Share E W) (rows : List X) (row : X) (j k k2 : List A)
+    → DidAll kind x agent share rows j k → Did kind x agent (share row) k k2 → DidAll kind x agent share (rows ++ row ∷ []) j k2
+DidAll-snoc kind x agent share [] row j k k2 c h = (k2, Did-after kind x agent (share row) j k k2 c.stretch h, Did-nothing kind x agent k2)
+DidAll-snoc kind x agent share (r ∷ rows) row j k k2 (i, one, c) h = (i, one, DidAll-snoc kind x agent share rows row i k k2 c h)
 
 -- a stretch of nothing ahead
-pub chain_before : {A E W X : Type 0} (kind : Kind E) (x : View A E W) (agent : ℕ) (share : X → Share E W) (rows : List X) (i j k : List A)
-    → Stretch kind x agent [] i j → Chain kind x agent share rows j k → Chain kind x agent share rows i k
-chain_before kind x agent share [] i j k h c = Did-after kind x agent nothing i j k h c
-chain_before kind x agent share (row ∷ rows) i j k h (a, one, c) = (a, Did-after kind x agent (share row) i j a h one, c)
+pub DidAll-before : {A E W X : Type 0} (kind : Kind E) (x : View A E W) (agent : ℕ) (share : X → Share E W) (rows : List X) (i j k : List A)
+    → Stretch kind x agent [] i j → DidAll kind x agent share rows j k → DidAll kind x agent share rows i k
+DidAll-before kind x agent share [] i j k h c = Did-after kind x agent nothing i j k h c
+DidAll-before kind x agent share (row ∷ rows) i j k h (a, one, c) = (a, Did-after kind x agent (share row) i j a h one, c)
 
 -- the own entries of rows, one after another
 abbrev pub own_of_rows : {E W X : Type 0} → (X → Share E W) → List X → List E
 own_of_rows share [] = []
 own_of_rows share (row ∷ rows) = (share row).own ++ own_of_rows share rows
 
--- all own entries in a chain are those of its rows, in order
-pub chain_stretch : {A E W X : Type 0} (kind : Kind E) (x : View A E W) (agent : ℕ) (share : X → Share E W) (rows : List X) (j k : List A)
-    → Chain kind x agent share rows j k → Stretch kind x agent (own_of_rows share rows) j k
-chain_stretch kind x agent share [] j k c = c.stretch
-chain_stretch kind x agent share (row ∷ rows) j k (i, one, c) =
-    Stretch-trans kind x agent (share row).own (own_of_rows share rows) j i k one.stretch (chain_stretch kind x agent share rows i k c)
+-- all own entries of what was done are those of the rows, in order
+pub DidAll-stretch : {A E W X : Type 0} (kind : Kind E) (x : View A E W) (agent : ℕ) (share : X → Share E W) (rows : List X) (j k : List A)
+    → DidAll kind x agent share rows j k → Stretch kind x agent (own_of_rows share rows) j k
+DidAll-stretch kind x agent share [] j k c = c.stretch
+DidAll-stretch kind x agent share (row ∷ rows) j k (i, one, c) =
+    Stretch-trans kind x agent (share row).own (own_of_rows share rows) j i k one.stretch (DidAll-stretch kind x agent share rows i k c)
 
 pub Stands-after : {A B : Type 0} (qs : Bool → View A QueueEntry QueueRefused) (s : View B SetEntry ListRefused) (agent : ℕ) (row : Row)
     (i j k : Bool → List A) (l m n : List B)
@@ -97,8 +97,8 @@ pub Works-row : {A B : Type 0} (qs : Bool → View A QueueEntry QueueRefused) (s
     (agent : ℕ) {rows : List Row} {row : Row} {j k k2 : Bool → List A} {m n n2 : List B}
     → Works qs s agent rows j m k n → Stands qs s agent row k n k2 n2 → Works qs s agent (rows ++ row ∷ []) j m k2 n2
 Works-row qs s agent {rows = rows} {row = row} {j = j} {k = k} {k2 = k2} {m = m} {n = n} {n2 = n2} w h = record {
-  queues = λ x. chain_snoc of_queue (qs x) agent (λ (r : Row). r.queues x) rows row (j x) (k x) (k2 x) (w.queues x) (h.queues x);
-  set = chain_snoc of_set s agent (λ (r : Row). r.set) rows row m n n2 w.set h.set;
+  queues = λ x. DidAll-snoc of_queue (qs x) agent (λ (r : Row). r.queues x) rows row (j x) (k x) (k2 x) (w.queues x) (h.queues x);
+  set = DidAll-snoc of_set s agent (λ (r : Row). r.set) rows row m n n2 w.set h.set;
 }
 
 -- what others add later, and the agent's own Empties
@@ -106,8 +106,8 @@ pub Works-more : {A B : Type 0} (qs : Bool → View A QueueEntry QueueRefused) (
     (agent : ℕ) {rows : List Row} {j k k2 : Bool → List A} {m n n2 : List B}
     → Works qs s agent rows j m k n → Stands qs s agent empty_row k n k2 n2 → Works qs s agent rows j m k2 n2
 Works-more qs s agent {rows = rows} {j = j} {k = k} {k2 = k2} {m = m} {n = n} {n2 = n2} w h = record {
-  queues = λ x. chain_more of_queue (qs x) agent (λ (r : Row). r.queues x) rows (j x) (k x) (k2 x) (w.queues x) (h.queues x);
-  set = chain_more of_set s agent (λ (r : Row). r.set) rows m n n2 w.set h.set;
+  queues = λ x. DidAll-more of_queue (qs x) agent (λ (r : Row). r.queues x) rows (j x) (k x) (k2 x) (w.queues x) (h.queues x);
+  set = DidAll-more of_set s agent (λ (r : Row). r.set) rows m n n2 w.set h.set;
 }
 
 pub Works-none : {A B : Type 0} (qs : Bool → View A QueueEntry QueueRefused) (s : View B SetEntry ListRefused) (agent : ℕ) (j : Bool → List A) (m : List B)
