@@ -1,13 +1,11 @@
 -- What a pass keeps of its record is enough for its actions, and for what it keeps after them.
 use Rattle.std.proofs.Common.{List, None, Option, Some, [], ap, cond, false, length, refl, subst, suc, sym, true, zero, ℕ, ◌+◌, ◌*◌, ◌<◌, ◌∙◌, ◌∷◌, ◌≡◌, ◌≤◌}
 use Rattle.std.specs.Option.{ForSome}
-use Rattle.std.specs.Prelude.{Bool, is_some, map, slice_index_or, slice_set, ◌==◌, ◌%◌, ◌/◌, ◌^◌}
+use Rattle.std.specs.Prelude.{Bool, map, slice_index_or, slice_set, ◌==◌, ◌%◌, ◌/◌, ◌^◌}
 use Rattle.orc_core.specs.Actions.{IsPackable, action_of, clear_word}
-use Rattle.orc_core.specs.After.{IsRecordable, after, bared, cut_of, doom_by, due_after, hand_by, list_by, promoted, promoted_at, scan_by, scan_on}
+use Rattle.orc_core.specs.After.{IsRecordable, after, hand_by, list_by, promoted, promoted_at, scan_by, scan_on}
 use Rattle.orc_core.specs.Listed.{listed_more, listed_name}
 use Rattle.orc_core.specs.RecordParts.{is_empty, names, number_of, same_target, scanned, slot_of}
-use Rattle.orc_core.specs.declared.actions.Action.{Action}
-use Rattle.orc_core.specs.declared.ops.CounterUse.TheVariants.{Check, End, Start}
 use Rattle.orc_core.specs.declared.ops.Op.{Op}
 use Rattle.orc_core.specs.declared.ops.Op.TheVariants.{Arm, Clear, CounterLoad, Dec, Enroll, Fill, Free, GateLook, GateTake, Hand, Inc, LinkCas, LinkLoad, LinkStore, Publish, Read, SetRetired, SlotLook, TakeIn, Unretire}
 use Rattle.orc_core.specs.declared.records.Agent.{Agent}
@@ -15,10 +13,8 @@ use Rattle.orc_core.specs.declared.records.SlotUse.{SlotUse}
 use Rattle.orc_core.specs.declared.records.SlotUse.TheVariants.{Empty, Held, Published}
 use Rattle.orc_machine_board.specs.Kept.{Kept, kept_of}
 use Rattle.orc_shared_words.specs.Operations.{returned_by}
-use Rattle.orc_words.specs.Operations.{word_add, word_sub}
 use Rattle.orc_words.specs.Packed.{link_word, named}
 use Rattle.orc_words.specs.declared.operation.Operation.TheVariants.{CompareExchange, Swap}
-use Rattle.orc_words.specs.declared.packed.TheConstants.{DECREMENT, INCREMENT, RETIRED}
 use Rattle.orc_words.specs.declared.place.Word.{Word}
 use Rattle.orc_words.specs.declared.place.Word.TheVariants.{Gate, Handover}
 
@@ -95,6 +91,13 @@ step_kept (Free r) d w = refl
 -- a load of a link keeps all
 pub load_kept : (place : Word) (slot : Option ℕ) (d : Agent) (w : ℕ) → kept_of d ≡ kept_of (after (LinkLoad place slot) d w)
 load_kept place slot d w = sym (step_kept (LinkLoad place slot) d w)
+
+-- a slot that comes to name a row is kept alike, whichever row it names
+pub published_kept : (k r q : ℕ) (d : Agent) (w : ℕ) → kept_of (record d { slots = slice_set d.slots k (Held q) }) ≡ kept_of (after (Publish k r) d w)
+published_kept k r q d w = ap (λ l. record (kept_of d) { empty = l }) (map-set is_empty d.slots k (Held q)) ∙ sym (step_kept (Publish k r) d w)
+
+pub armed_kept : (r q : ℕ) (d : Agent) (w : ℕ) → kept_of (record d { slots = slice_set d.slots 0 (Held q) }) ≡ kept_of (after (Arm r) d w)
+armed_kept r q d w = ap (λ l. record (kept_of d) { empty = l }) (map-set is_empty d.slots 0 (Held q)) ∙ sym (step_kept (Arm r) d w)
 
 pub same_after : (op : Op) (d e : Agent) (w : ℕ) → kept_of d ≡ kept_of e → kept_of (after op d w) ≡ kept_of (after op e w)
 same_after op d e w h = step_kept op d w ∙ (ap (λ k. kept_after op k w) h ∙ sym (step_kept op e w))
