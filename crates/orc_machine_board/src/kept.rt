@@ -1,9 +1,9 @@
 //! What a step leaves of the record that a pass keeps.
 
 ghost use Rattle.std.specs.Option.{ForSome};
-ghost use Rattle.std.specs.Prelude.{◌≡◌, ◌<◌, ◌≤◌, ◌==◌, ◌%◌, ◌/◌, None, Some, cond, length};
+ghost use Rattle.std.specs.Prelude.{◌≡◌, ◌<◌, ◌≤◌, ◌==◌, ◌%◌, ◌/◌, ◌^◌, None, Some, cond, length};
 ghost use Rattle.orc_core.specs.Actions.{IsPackable};
-ghost use Rattle.orc_core.specs.After.{IsRecordable, after, due_after, scan_by};
+ghost use Rattle.orc_core.specs.After.{IsRecordable, after, due_after, scan_by, scan_on};
 ghost use Rattle.orc_core.specs.RecordParts.{same_target};
 ghost use Rattle.orc_core.specs.declared.ops.CounterUse.{CounterUse};
 ghost use Rattle.orc_machine_board.specs.Kept.{kept_of};
@@ -50,6 +50,7 @@ pub(crate) fn keep_parts(own: &mut Agent, op: &Op, read: u64)
             row,
             how: CounterUse::End,
         } => own.scan = scan_after(own.scan, *row, read),
+        Op::SlotLook { k: _ } => look_on(&mut own.scan, read),
         Op::Unretire { row: _ } => own.scan = None,
         _ => advance(own, op, read),
     }
@@ -80,6 +81,20 @@ fn fresh_after(fresh: Option<u32>, from: RowLink, to: RowLink, read: u64) -> Opt
     match (fresh, to_count(from.to, to.to).0) {
         (Some(row), Some(linked)) if row == linked && read == pack_link(from) => None,
         _ => fresh,
+    }
+}
+
+// A scan looks at this slot word: it has found its row there, or goes on at the next place.
+#[inline(always)]
+fn look_on(scan: &mut Option<Scan>, word: u64)
+    requires { ForSome scan.old (λ s. s.place < 2 ^ 31) }
+    ensures { scan.new ≡ scan_on scan.old word }
+{
+    if let Some(scan) = scan {
+        scan.found = word == u64::from(scan.row) + 1;
+        if !scan.found {
+            scan.place += 1;
+        }
     }
 }
 
