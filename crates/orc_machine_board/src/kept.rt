@@ -31,6 +31,8 @@ pub(crate) fn keep_parts(own: &mut Agent, op: &Op, read: u64)
         | Op::LinkStore { .. }
         | Op::Inc { .. }
         | Op::Dec { .. }
+        | Op::DecHeld { .. }
+        | Op::HandoverLook { .. }
         | Op::CounterLoad {
             row: _,
             how: CounterUse::Check,
