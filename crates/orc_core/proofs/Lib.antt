@@ -1,4 +1,5 @@
 pub mod Counted
 pub mod Order
+pub mod Saving
 pub mod Steps
 pub mod Within

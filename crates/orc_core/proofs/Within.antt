@@ -15,7 +15,7 @@ use Rattle.orc_words.specs.declared.place.Word.TheVariants.{Root, Next, Side}
 use Rattle.orc_core.specs.declared.records.Agent.{Agent}
 use Rattle.orc_core.specs.declared.ops.CounterUse.TheVariants.{Check, Start, End}
 use Rattle.orc_core.specs.declared.ops.Op.{Op}
-use Rattle.orc_core.specs.declared.ops.Op.TheVariants.{Enroll, GateLook, GateTake, Fill, Read, LinkLoad, Publish, Clear, Arm, LinkCas, LinkStore, Inc, Dec, SetRetired, CounterLoad, Unretire, SlotLook, Hand, TakeIn, Free}
+use Rattle.orc_core.specs.declared.ops.Op.TheVariants.{Enroll, GateLook, GateTake, Fill, Read, LinkLoad, Publish, Clear, Arm, LinkCas, LinkStore, Inc, Dec, SetRetired, CounterLoad, Unretire, SlotLook, Hand, TakeIn, Free, MoveOn, HandoverLook, DecHeld}
 use Rattle.orc_core.specs.Actions.{action_of, clear_word, IsPackable}
 use Rattle.orc_core.specs.After.{IsRecordable, after}
 use Rattle.orc_core.specs.Allowed.{may, fits, stands, forced}
@@ -76,6 +76,9 @@ fits_within b e a (SlotLook k) d n h = grind arith
 fits_within b e a (Hand k) d n h = grind arith
 fits_within b e a (TakeIn k) d n h = grind arith
 fits_within b e a (Free r) d n h = grind arith
+fits_within b e a (MoveOn k r) d n h = grind arith
+fits_within b e a (HandoverLook k) d n h = grind arith
+fits_within b e a (DecHeld r) d n h = grind arith
 
 pub fits_packable : (b : Bounds) (e a : ℕ) (op : Op) (d : Agent) → fits b e a op d ≡ true → b.rows ≤ 65535 → b.limit ≤ 2 ^ 39 → IsPackable op d
 fits_packable b e a Enroll d h s l = tt

@@ -12,7 +12,7 @@ use Rattle.orc_core.specs.declared.records.Agent.{Agent}
 use Rattle.orc_words.specs.declared.operation.Operation.TheVariants.{Load, Store, Swap, Add, Sub, CompareExchange}
 use Rattle.orc_core.specs.declared.actions.Action.{Action}
 use Rattle.orc_core.specs.declared.ops.Op.{Op}
-use Rattle.orc_core.specs.declared.ops.Op.TheVariants.{Enroll, GateLook, GateTake, Fill, Read, LinkLoad, Publish, Clear, Arm, LinkCas, LinkStore, Inc, Dec, SetRetired, CounterLoad, Unretire, SlotLook, Hand, TakeIn, Free}
+use Rattle.orc_core.specs.declared.ops.Op.TheVariants.{Enroll, GateLook, GateTake, Fill, Read, LinkLoad, Publish, Clear, Arm, LinkCas, LinkStore, Inc, Dec, SetRetired, CounterLoad, Unretire, SlotLook, Hand, TakeIn, Free, MoveOn, HandoverLook, DecHeld}
 use Rattle.orc_core.specs.RecordParts.{number_of, scanned}
 
 -- the counter word with count 0, no bit and this sequence
@@ -41,6 +41,9 @@ action_of a (SlotLook k) d = record { word = Slot (k / 8) (k % 8); operation = L
 action_of a (Hand k) d = record { word = Handover (k / 8) (k % 8); operation = Swap (scanned d.scan + 1) }
 action_of a (TakeIn k) d = record { word = Handover a k; operation = Swap 0 }
 action_of a (Free r) d = record { word = Gate r; operation = Sub 1 }
+action_of a (MoveOn k r) d = record { word = Slot a k; operation = Store (r + 1) }
+action_of a (HandoverLook k) d = record { word = Handover a k; operation = Load }
+action_of a (DecHeld r) d = record { word = Counter r; operation = Add DECREMENT }
 
 -- the numbers that an action is made of are in the range of their words
 abbrev pub IsPackable : Op → Agent → Type 0

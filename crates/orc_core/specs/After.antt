@@ -13,7 +13,7 @@ use Rattle.orc_core.specs.declared.records.SlotUse.TheVariants.{Empty, Published
 use Rattle.orc_core.specs.declared.ops.CounterUse.{CounterUse}
 use Rattle.orc_core.specs.declared.ops.CounterUse.TheVariants.{Check, Start, End}
 use Rattle.orc_core.specs.declared.ops.Op.{Op}
-use Rattle.orc_core.specs.declared.ops.Op.TheVariants.{Enroll, GateLook, GateTake, Fill, Read, LinkLoad, Publish, Clear, Arm, LinkCas, LinkStore, Inc, Dec, SetRetired, CounterLoad, Unretire, SlotLook, Hand, TakeIn, Free}
+use Rattle.orc_core.specs.declared.ops.Op.TheVariants.{Enroll, GateLook, GateTake, Fill, Read, LinkLoad, Publish, Clear, Arm, LinkCas, LinkStore, Inc, Dec, SetRetired, CounterLoad, Unretire, SlotLook, Hand, TakeIn, Free, MoveOn, HandoverLook, DecHeld}
 use Rattle.orc_core.specs.Listed.{Listed, listed_more, listed_rest, listed_name}
 use Rattle.orc_core.specs.RecordParts.{names, same_target, number_of, is_clear, kept}
 use Rattle.orc_words.specs.Operations.{word_add, word_sub}
@@ -126,12 +126,16 @@ after (SlotLook k) d w = record d { scan = scan_on d.scan w }
 after (Hand k) d w = record d { scan = None; hand = named w }
 after (TakeIn k) d w = record d { list = listed_name d.list (named w) }
 after (Free r) d w = record d { doom = None }
+after (MoveOn k r) d w = record d { slots = slice_set d.slots k (cond (names d.fresh r) (Held r) (Published r)) }
+after (HandoverLook k) d w = d
+after (DecHeld r) d w = record d { dec = None; due = due_after r (word_add w DECREMENT) d.due }
 
 -- a slot that is changed is one of the eight, a link's number is below two, and a scan that goes on has a small place
 abbrev pub IsRecordable : Op → Agent → Type 0
 IsRecordable (LinkLoad p slot) d = ForSome slot (λ k. k < 8)
 IsRecordable (Publish k r) d = k < 8
 IsRecordable (Clear k) d = k < 8
+IsRecordable (MoveOn k r) d = k < 8
 IsRecordable (LinkStore r l n) d = n < 2
 IsRecordable (SlotLook k) d = ForSome d.scan (λ s. s.place < 2 ^ 31)
 IsRecordable _ d = Unit {0}

@@ -8,7 +8,7 @@ use Rattle.orc_core.specs.declared.records.Agent.{Agent}
 use Rattle.orc_core.specs.declared.records.Reading.{Reading}
 use Rattle.orc_core.specs.declared.ops.CounterUse.TheVariants.{Check, Start, End}
 use Rattle.orc_core.specs.declared.ops.Op.{Op}
-use Rattle.orc_core.specs.declared.ops.Op.TheVariants.{Enroll, GateLook, GateTake, Fill, Read, LinkLoad, Publish, Clear, Arm, LinkCas, LinkStore, Inc, Dec, SetRetired, CounterLoad, Unretire, SlotLook, Hand, TakeIn, Free}
+use Rattle.orc_core.specs.declared.ops.Op.TheVariants.{Enroll, GateLook, GateTake, Fill, Read, LinkLoad, Publish, Clear, Arm, LinkCas, LinkStore, Inc, Dec, SetRetired, CounterLoad, Unretire, SlotLook, Hand, TakeIn, Free, MoveOn, HandoverLook, DecHeld}
 use Rattle.orc_core.specs.Listed.{first_is}
 use Rattle.orc_core.specs.RecordParts.{names, number_of, saw, checked_below, is_due, holds, is_empty, is_published, any_holds, holds_fresh, slot_of, scans, scan_empty, scan_found, scan_at, doom_at, doom_cut, doom_bare}
 
@@ -26,6 +26,7 @@ increments _ r = false
 abbrev pub arms_or_decrements : Op → ℕ → Bool
 arms_or_decrements (Arm q) r = q == r
 arms_or_decrements (Dec q) r = q == r
+arms_or_decrements (DecHeld q) r = q == r
 arms_or_decrements _ r = false
 
 -- the kinds that complete a pending change
@@ -34,6 +35,7 @@ completes (SetRetired q s) = true
 completes (Inc q) = true
 completes (Arm q) = true
 completes (Dec q) = true
+completes (DecHeld q) = true
 completes _ = false
 
 -- what must come first, by due, inc and dec: the try on a due row's bit, then the pending increment, then
@@ -94,6 +96,9 @@ fits b e a (SlotLook k) d = nat_lt k (8 * b.agents) && scan_empty d.scan && not 
 fits b e a (Hand k) d = nat_lt k (8 * b.agents) && scan_found d.scan && scan_at d.scan k
 fits b e a (TakeIn k) d = nat_lt k 8 && is_empty (slot_of d k)
 fits b e a (Free r) d = nat_lt r b.rows && doom_bare d.doom r
+fits b e a (MoveOn k r) d = nat_lt 0 k && nat_lt k 8 && nat_lt r b.rows && not (is_empty (slot_of d k)) && not (holds_fresh d.fresh (slot_of d k))
+fits b e a (HandoverLook k) d = nat_lt k 8 && is_empty (slot_of d k)
+fits b e a (DecHeld r) d = nat_lt r b.rows && names d.dec r && any_holds d.slots r
 
 -- every kind but Enroll needs an enrolled agent
 abbrev pub stands : Op → Agent → Bool

@@ -92,5 +92,10 @@ pub fn action_of(number: u32, op: &Op, agent: &Agent) -> Action
         }
         Op::TakeIn { slot } => Action::new(Word::Handover(number, *slot), Swap(0)),
         Op::Free { row } => Action::new(Word::Gate(*row), Sub(1)),
+        Op::MoveOn { slot, row } => {
+            Action::new(Word::Slot(number, *slot), Store(u64::from(*row) + 1))
+        }
+        Op::HandoverLook { slot } => Action::new(Word::Handover(number, *slot), Load),
+        Op::DecHeld { row } => Action::new(Word::Counter(*row), Add(DECREMENT)),
     }
 }

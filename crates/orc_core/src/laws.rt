@@ -11,11 +11,11 @@ ghost use Rattle.orc_words.specs.Operations.{word_after};
 ghost use Rattle.orc_core.specs.Actions.{action_of};
 ghost use Rattle.orc_core.specs.After.{after};
 ghost use Rattle.orc_core.specs.Allowed.{completes, may};
-ghost use Rattle.orc_core.specs.Machine.{IsWhole, Machine, is_allowed, new_machine, record_at, step, word_in, word_read};
+ghost use Rattle.orc_core.specs.Machine.{IsWhole, Machine, answer, is_allowed, new_machine, record_at, step, word_in, word_read};
 ghost use Rattle.orc_core.specs.Runs.{IsLawful, run};
 
 /// What is pending comes first. An agent with a due row may try that row's bit alone; else one with a
-/// pending increment may make it alone; else one with a pending decrement may arm and make it alone. All
+/// pending increment may make it alone; else one with a pending decrement may arm and make it, or make it under a hold, alone. All
 /// other kinds wait until nothing is pending.
 pub fn pending_changes_come_first()
     ensures due { (b : Bounds) (e a : ℕ) (op : Op) (d : Agent) (s : Reading) → d.due ≡ Some s
@@ -23,7 +23,7 @@ pub fn pending_changes_come_first()
     ensures increment { (b : Bounds) (e a : ℕ) (op : Op) (d : Agent) (r : ℕ) → d.due ≡ None → d.inc ≡ Some r
         → may b e a op d ≡ true → op ≡ Op.Inc r }
     ensures decrement { (b : Bounds) (e a : ℕ) (op : Op) (d : Agent) (r : ℕ) → d.due ≡ None → d.inc ≡ None → d.dec ≡ Some r
-        → may b e a op d ≡ true → (op ≡ Op.Arm r) ⊎ (op ≡ Op.Dec r) }
+        → may b e a op d ≡ true → (op ≡ Op.Arm r) ⊎ (op ≡ Op.Dec r) ⊎ (op ≡ Op.DecHeld r) }
     ensures others { (b : Bounds) (e a : ℕ) (op : Op) (d : Agent) → completes op ≡ false
         → may b e a op d ≡ true → (d.due ≡ None) × (d.inc ≡ None) × (d.dec ≡ None) }
 {}
@@ -55,4 +55,26 @@ pub fn runs_go_on()
 /// From a new state on, every run keeps all words, all records and the room of each work list.
 pub fn every_run_is_whole()
     ensures { (b : Bounds) (steps : List (ℕ × Op)) → IsShape b → IsWhole (run (new_machine b) steps) }
+{}
+
+/// Moving on is clearing the slot and publishing the row in it, with nothing in between.
+pub fn moving_on_is_clearing_and_publishing()
+    ensures allowed { (m : Machine) (a k r : ℕ) → IsWhole m → is_allowed m a (Op.MoveOn k r) ≡ true
+        → (is_allowed m a (Op.Clear k) ≡ true) × (is_allowed (step m a (Op.Clear k)) a (Op.Publish k r) ≡ true) }
+    ensures step { (m : Machine) (a k r : ℕ) → IsWhole m → is_allowed m a (Op.MoveOn k r) ≡ true
+        → step m a (Op.MoveOn k r) ≡ step (step m a (Op.Clear k)) a (Op.Publish k r) }
+{}
+
+/// A look at a handover word changes nothing. Where it answers 0, so would a take-in, which would change nothing either.
+pub fn a_look_at_nothing_is_a_take_in_of_nothing()
+    ensures allowed { (m : Machine) (a k : ℕ) → is_allowed m a (Op.HandoverLook k) ≡ is_allowed m a (Op.TakeIn k) }
+    ensures unchanged { (m : Machine) (a k : ℕ) → step m a (Op.HandoverLook k) ≡ m }
+    ensures nothing { (m : Machine) (a k : ℕ) → answer m a (Op.HandoverLook k) ≡ 0
+        → (step m a (Op.TakeIn k) ≡ m) × (answer m a (Op.TakeIn k) ≡ 0) }
+{}
+
+/// A decrement under a hold does what a decrement does, and may be made wherever that may.
+pub fn a_decrement_under_a_hold_is_a_decrement()
+    ensures allowed { (m : Machine) (a r : ℕ) → is_allowed m a (Op.Dec r) ≡ true → is_allowed m a (Op.DecHeld r) ≡ true }
+    ensures step { (m : Machine) (a r : ℕ) → step m a (Op.DecHeld r) ≡ step m a (Op.Dec r) }
 {}

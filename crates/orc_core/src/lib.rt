@@ -1,4 +1,4 @@
-//! The machine: a table's words, the agents' records, and twenty kinds of step.
+//! The machine: a table's words, the agents' records, and the kinds of step.
 #![tactic(auto)]
 
 mod actions;
@@ -17,7 +17,9 @@ pub use actions::{Action, action_of};
 pub use counting::census;
 pub use counts::Census;
 pub use laws::{
-    a_step_writes_one_word_and_one_record, every_run_is_whole, pending_changes_come_first,
+    a_decrement_under_a_hold_is_a_decrement, a_look_at_nothing_is_a_take_in_of_nothing,
+    a_step_writes_one_word_and_one_record, every_run_is_whole,
+    moving_on_is_clearing_and_publishing, pending_changes_come_first,
     permission_lies_in_the_record, runs_go_on,
 };
 pub use ops::{CounterUse, Op};

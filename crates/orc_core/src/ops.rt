@@ -1,4 +1,4 @@
-//! The twenty kinds of step.
+//! The kinds of step: twenty, and three that save steps.
 
 use orc_words::{RowLink, Word};
 
@@ -103,6 +103,19 @@ pub enum Op {
     },
     /// Gives a row back.
     Free {
+        row: u32,
+    },
+    /// Names a row in a slot from 1 to 7 over the row that the slot names.
+    MoveOn {
+        slot: u32,
+        row: u32,
+    },
+    /// Reads the agent's own handover word beside an empty slot.
+    HandoverLook {
+        slot: u32,
+    },
+    /// Counts a link that was taken out, to a row that some slot of the agent holds.
+    DecHeld {
         row: u32,
     },
 }

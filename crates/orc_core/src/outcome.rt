@@ -95,14 +95,14 @@ pub fn advance(agent: &mut Agent, op: &Op, read: u64)
         Op::Enroll => agent.enrolled = true,
         Op::GateLook { row } => gate_seen(agent, *row, read),
         Op::GateTake { row } => gate_taken(agent, *row, read),
-        Op::Fill { .. } | Op::Read { .. } => {}
+        Op::Fill { .. } | Op::Read { .. } | Op::HandoverLook { .. } => {}
         Op::LinkLoad { slot, .. } => {
             if let Some(slot) = slot {
                 let at = *slot as usize;
                 agent.slots[at] = promoted(agent.slots[at], read);
             }
         }
-        Op::Publish { slot, row } => {
+        Op::Publish { slot, row } | Op::MoveOn { slot, row } => {
             agent.slots[*slot as usize] = if agent.is_fresh(*row) {
                 SlotUse::Held(*row)
             } else {
@@ -117,7 +117,7 @@ pub fn advance(agent: &mut Agent, op: &Op, read: u64)
             agent.inc = None;
             agent.due = due_after(*row, read.wrapping_add(INCREMENT), agent.due);
         }
-        Op::Dec { row } => {
+        Op::Dec { row } | Op::DecHeld { row } => {
             agent.dec = None;
             agent.due = due_after(*row, read.wrapping_add(DECREMENT), agent.due);
         }

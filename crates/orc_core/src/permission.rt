@@ -35,7 +35,9 @@ fn arms_or_decrements(op: &Op, row: u32) -> bool
     ensures { result ≡ arms_or_decrements op.now row }
 {
     match op {
-        Op::Arm { row: counted } | Op::Dec { row: counted } => *counted == row,
+        Op::Arm { row: counted } | Op::Dec { row: counted } | Op::DecHeld { row: counted } => {
+            *counted == row
+        }
         _ => false,
     }
 }
@@ -152,6 +154,17 @@ fn may_count(shape: &Shape, agent: &Agent, row: u32, how: CounterUse) -> bool
     }
 }
 
+// From a slot that is used, and doesn't hold the fresh row.
+fn may_move(shape: &Shape, agent: &Agent, slot: u32, row: u32) -> bool
+    ensures { result ≡ fits (bounds_of shape.now) 0 0 (Op.MoveOn slot row) agent.now }
+{
+    0 < slot
+        && slot < 8
+        && row < shape.rows()
+        && !agent.slot(slot).is_empty()
+        && !agent.slot(slot).holds_fresh(agent.fresh)
+}
+
 // Each kind's own condition.
 fn fits(shape: &Shape, enrolled: u64, number: u32, op: &Op, agent: &Agent) -> bool
     ensures { result ≡ fits (bounds_of shape.now) enrolled number op.now agent.now }
@@ -210,6 +223,11 @@ fn fits(shape: &Shape, enrolled: u64, number: u32, op: &Op, agent: &Agent) -> bo
         }
         Op::TakeIn { slot } => *slot < 8 && agent.slot(*slot).is_empty(),
         Op::Free { row } => *row < shape.rows() && agent.has_bare_doom(*row),
+        Op::MoveOn { slot, row } => may_move(shape, agent, *slot, *row),
+        Op::HandoverLook { slot } => *slot < 8 && agent.slot(*slot).is_empty(),
+        Op::DecHeld { row } => {
+            *row < shape.rows() && agent.has_decrement(*row) && agent.holds(*row)
+        }
     }
 }
 

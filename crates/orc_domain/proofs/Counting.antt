@@ -3,9 +3,9 @@ use Rattle.std.proofs.Common.{Bool, List, None, Option, Some, [], ap, arith, con
 use Rattle.std.proofs.lemmas.Bool.{lt-ltb, or_right}
 use Rattle.std.specs.Prelude.{map, nat_lt, not, slice_get, slice_index_or, slice_set, ◌&&◌, ◌==◌, ◌||◌}
 use Rattle.orc_core.specs.Allowed.{in_order, may}
-use Rattle.orc_core.specs.RecordParts.{holds, holds_fresh, is_due, is_empty, names, saw, scan_empty, scans, slot_of}
+use Rattle.orc_core.specs.RecordParts.{any_holds, holds, holds_fresh, is_due, is_empty, names, saw, scan_empty, scans, slot_of}
 use Rattle.orc_core.specs.declared.ops.Op.{Op}
-use Rattle.orc_core.specs.declared.ops.Op.TheVariants.{Arm, Clear, Dec, Inc, SetRetired, TakeIn}
+use Rattle.orc_core.specs.declared.ops.Op.TheVariants.{Arm, Clear, Dec, DecHeld, Inc, SetRetired, TakeIn}
 use Rattle.orc_core.specs.declared.records.Agent.{Agent}
 use Rattle.orc_core.specs.declared.records.Reading.{Reading}
 use Rattle.orc_core.specs.declared.records.SlotUse.{SlotUse}
@@ -152,6 +152,17 @@ module _ {D N : Type 0} {d : discipline.Ghosts D N} {k : MachineShape N} (s : St
       let its : (names x.dec r || scanned) ≡ true = ap (λ o. names o r || scanned) dec ∙ ap (λ t. t || scanned) (named_self r) in
       λ i. ((agent i && on i) && first i) && ((row i && free i) && its i)
 
+  pub dec_held_can : (r : ℕ) → IsCountable s.view.record_is → s.view.record_is.inc ≡ None → s.view.record_is.dec ≡ Some r
+      → any_holds s.view.record_is.slots r ≡ true → may (bounds_in k) 0 s.view.agent (DecHeld r) s.view.record_is ≡ true
+  dec_held_can r c inc dec held =
+      let x = s.view.record_is in
+      let agent = lt-ltb s.view.agent (bounds_in k).agents s.number in
+      let on = c.enrolled in
+      let row = lt-ltb r (bounds_in k).rows (dec_low r dec) in
+      let first : in_order x.due x.inc x.dec (DecHeld r) ≡ true = (λ i. in_order (c.due i) (inc i) (dec i) (DecHeld r)) ∙ named_self r in
+      let its : names x.dec r ≡ true = ap (λ o. names o r) dec ∙ named_self r in
+      λ i. ((agent i && on i) && first i) && ((row i && its i) && held i)
+
   -- one step leaves nothing, unless it clears a slot
   pub leaves_one : (t : Stage d k) (op : Op) (n : ℕ) → Steps op s n t → TakesInCleared (op ∷ []) → LeavesNothing s.view.agent s.view.journal t.view.journal
   leaves_one t op n m in_order = record { ops = op ∷ []; done = done_one (asks op) None s t n m; taken_in = in_order }
@@ -197,6 +208,29 @@ module _ {D N : Type 0} {d : discipline.Ghosts D N} {k : MachineShape N} (s t : 
           scan = z.same.scan ∙ ap (λ (e : Agent). e.scan) m.record_is;
         };
         leaves = leaves_then s.view.agent s.view.journal t.view.journal u.view.journal (leaves_one s t (Inc r) n m tt)
+            (subst (λ a. LeavesNothing a t.view.journal u.view.journal) m.agent z.leaves);
+      }
+
+-- the decrement under a hold, and the try that may follow
+module _ {D N : Type 0} {d : discipline.Ghosts D N} {k : MachineShape N} (s t : Stage d k) (r n : ℕ) (c : IsCountable s.view.record_is)
+    (m : Steps (DecHeld r) s n t) where
+  pub counts_down_held : (u : Stage d k) → Becomes (bounds_in k) (record t.view.record_is { due = None }) t.view u.view
+      → Becomes (bounds_in k) (record s.view.record_is { dec = None }) s.view u.view
+  counts_down_held u z =
+      let one = only (asks (DecHeld r)) None s t n m (ap (λ (e : Agent). e.slots) m.record_is) (ap (λ (e : Agent). e.fresh) m.record_is) in
+      record {
+        only = Only-trans (seat s) (seat t) (seat u) [] [] one z.only;
+        same = record {
+          enrolled = z.same.enrolled ∙ ap (λ (e : Agent). e.enrolled) m.record_is;
+          slots = z.same.slots ∙ ap (λ (e : Agent). e.slots) m.record_is;
+          fresh = z.same.fresh ∙ ap (λ (e : Agent). e.fresh) m.record_is;
+          due = z.same.due ∙ sym c.due;
+          inc = z.same.inc ∙ ap (λ (e : Agent). e.inc) m.record_is;
+          dec = z.same.dec ∙ ap (λ (e : Agent). e.dec) m.record_is;
+          doom = z.same.doom ∙ ap (λ (e : Agent). e.doom) m.record_is;
+          scan = z.same.scan ∙ ap (λ (e : Agent). e.scan) m.record_is;
+        };
+        leaves = leaves_then s.view.agent s.view.journal t.view.journal u.view.journal (leaves_one s t (DecHeld r) n m tt)
             (subst (λ a. LeavesNothing a t.view.journal u.view.journal) m.agent z.leaves);
       }
 

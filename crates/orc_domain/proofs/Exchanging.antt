@@ -1,9 +1,10 @@
 -- One change of a link, and what it leaves pending.
 use Rattle.std.proofs.Common.{Bool, List, None, Option, Some, [], ap, arith, cond, eq-eqb, eqb-true, false, refl, subst, sym, true, ℕ, ⊎_elim, ◌++◌, ◌∙◌, ◌≡◌, ◌≢◌, ◌∷◌}
 use Rattle.std.proofs.lemmas.Bool.{eqb-false, ne_eqb, or_right}
-use Rattle.std.specs.Option.{option_map}
-use Rattle.std.specs.Prelude.{if◌then◌else◌, length, map, not, ◌==◌, ◌&&◌, ◌||◌}
+use Rattle.std.specs.Option.{ForSome, option_map}
+use Rattle.std.specs.Prelude.{if◌then◌else◌, length, map, nat_lt, not, ◌==◌, ◌&&◌, ◌||◌}
 use Rattle.orc_core.proofs.Within.{and_both}
+use Rattle.orc_core.specs.Allowed.{may_target}
 use Rattle.orc_core.specs.Machine.{word_in}
 use Rattle.orc_core.specs.RecordParts.{any_holds, names, same_target, slot_of}
 use Rattle.orc_core.specs.declared.ops.Op.TheVariants.{LinkCas}
@@ -38,7 +39,7 @@ use Rattle.orc_projection.specs.Projection.{StoresUnmarked, events_of, exchange_
 use Rattle.orc_domain.proofs.Counting.{leaves_then}
 use Rattle.orc_domain.proofs.Filling.{has_is_out}
 use Rattle.orc_domain.proofs.Held.{hold_has, link_named, mirrors, place_named}
-use Rattle.orc_domain.proofs.Linking.{cas_place, old_other}
+use Rattle.orc_domain.proofs.Linking.{cas_place, old_other, want_target}
 use Rattle.orc_domain.proofs.Seats.{before_keep, ids_keep, only, puts, same_fresh, slots_keep, step_events}
 use Rattle.orc_domain.proofs.Stages.{Between, Stage, done_one, its_step, seat, whole_lawful}
 use Rattle.orc_domain.proofs.Testing.{want_has, want_low}
@@ -144,6 +145,10 @@ unless_some (Some i) (Some u) id e = cases (u == i) refl e
     cases true f e = cc
     cases false f e = let same : i ≡ id = cc in (e, subst (λ z. (u == z) ≡ false) same f)
 
+target_held : (b : Bounds) (d : Agent) (o : Option ℕ) → may_target b d o ≡ true → ForSome o (λ r. any_holds d.slots r ≡ true)
+target_held b d None h = λ r e. cc
+target_held b d (Some r) h = λ q e. let same : r ≡ q = cc in subst (λ z. any_holds d.slots z ≡ true) same (and_both (nat_lt r b.rows) (any_holds d.slots r) h).1
+
 module _ {D N : Type 0} {d : discipline.Ghosts D N} {k : MachineShape N} (s t : Stage d k) (at : At) (from to : Want) (note : Option N) (n : ℕ)
     (m : Makes (bounds_in k) (asks (LinkCas (word_at at) (row_link from) (row_link to))) note s.view n t.view) (is : Between s)
     (there : HoldsPlace (heap_numbers k) (seat s).slots at) (other : IsNotFresh (seat s) at)
@@ -189,6 +194,15 @@ module _ {D N : Type 0} {d : discipline.Ghosts D N} {k : MachineShape N} (s t : 
   to_there : node_link (present_ids b j) l ≡ link_in (seat s).slots to
   to_there = same_link (ids_of b s.view) (present_ids b j) s.view.record_is (before_keep q note s t n m) l (want_has s to ht)
       ∙ link_named (ids_of b s.view) s.view.record_is.slots to ht
+
+  -- the agent still holds the old target, which may have to be counted down
+  pub old_held : ForSome (cond (same_target f.to l.to) None f.to) (λ r. any_holds t.view.record_is.slots r ≡ true)
+  old_held = subst (λ (e : Agent). ForSome (cond (same_target f.to l.to) None f.to) (λ r. any_holds e.slots r ≡ true)) (sym m.record_is)
+      (cases (same_target f.to l.to))
+    where
+      cases : (c : Bool) → ForSome (cond c None f.to) (λ r. any_holds s.view.record_is.slots r ≡ true)
+      cases true = λ r e. cc
+      cases false = target_held (bounds_in k) s.view.record_is f.to (want_target s from hf)
 
   -- the step as one that leaves nothing
   leaves_it : LeavesNothing s.view.agent s.view.journal t.view.journal

@@ -72,7 +72,7 @@ module _ {D N : Type 0} {d : discipline.Ghosts D N} {k : MachineShape N} (s : St
       let has = slot_holds s.view.record_is.slots h.slot h.row (hold_slot s h held).0 in
       λ i. low i && has i
 
-  want_target : (w : Want) → HoldsWant (seat s).slots w → may_target (bounds_in k) s.view.record_is (row_link w).to ≡ true
+  pub want_target : (w : Want) → HoldsWant (seat s).slots w → may_target (bounds_in k) s.view.record_is (row_link w).to ≡ true
   want_target (WantNull mark) held = refl
   want_target (WantNode h mark) held = hold_target h.now held
 

@@ -18,10 +18,10 @@ ghost use Rattle.orc_domain.specs.Seats.{IsReady, seat_by};
 
 use crate::domain::OrcDomain;
 use orc_core::{CounterUse, SEQUENCE};
-use orc_plain_domain::{row_link, word_at};
 use orc_fault::Spent;
 use orc_heap::{At, Discipline, Held, Want};
 use orc_machine_board::{MachineBoardPass, to_count};
+use orc_plain_domain::{row_link, word_at};
 use orc_words::{RowLink, named};
 
 impl<D: Discipline> OrcDomain<D> {
@@ -110,7 +110,7 @@ impl<D: Discipline> OrcDomain<D> {
             return false;
         }
         let (up, down) = to_count(old.to, new.to);
-        self.complete(p, up, down);
+        self.complete_held(p, up, down);
         true
     }
 

@@ -1,6 +1,8 @@
 //! What a change of a link leaves pending is counted.
 
 ghost use Rattle.std.specs.Prelude.{◌≡◌, None, Some, true};
+ghost use Rattle.std.specs.Option.{ForSome};
+ghost use Rattle.orc_core.specs.RecordParts.{any_holds};
 ghost use Rattle.orc_machine_board.specs.Views.{Belongs, shows};
 ghost use Rattle.orc_domain.specs.Changes.{Becomes, IsCountable, MayTryDue};
 ghost use Rattle.orc_domain.specs.Passes.{domain_bounds};
@@ -53,6 +55,20 @@ impl<D: Discipline> OrcDomain<D> {
         self.unlock(p, 0);
     }
 
+    // Makes the pending decrement of a row that some slot holds, under that hold.
+    pub(crate) fn count_down_held(&self, p: &mut MachineBoardPass<D>, row: u32)
+        requires belongs { Belongs self.now.board p.old }
+        requires countable { IsCountable (shows p.old).record_is }
+        requires inc { (shows p.old).record_is.inc ≡ None }
+        requires dec { (shows p.old).record_is.dec ≡ Some row }
+        requires held { any_holds (shows p.old).record_is.slots row ≡ true }
+        ensures belongs { Belongs self.now.board p.new }
+        ensures becomes { Becomes (domain_bounds self.now) (record (shows p.old).record_is { dec = None }) (shows p.old) (shows p.new) }
+    {
+        let word = self.board.dec_held(p, row);
+        self.try_due(p, due_by(row, word.wrapping_add(DECREMENT)));
+    }
+
     // Counts what a change of a link left pending: the new target up, and then the old one down.
     pub(crate) fn complete(&self, p: &mut MachineBoardPass<D>, up: Option<u32>, down: Option<u32>)
         requires up { (shows p.old).record_is.inc ≡ up }
@@ -67,6 +83,29 @@ impl<D: Discipline> OrcDomain<D> {
         }
         if let Some(row) = down {
             self.count_down(p, row);
+        }
+    }
+
+    // The same where some slot holds the old target.
+    pub(crate) fn complete_held(
+        &self,
+        p: &mut MachineBoardPass<D>,
+        up: Option<u32>,
+        down: Option<u32>,
+    )
+        requires up { (shows p.old).record_is.inc ≡ up }
+        requires down { (shows p.old).record_is.dec ≡ down }
+        requires belongs { Belongs self.now.board p.old }
+        requires countable { IsCountable (shows p.old).record_is }
+        requires held { ForSome down (λ r. any_holds (shows p.old).record_is.slots r ≡ true) }
+        ensures belongs { Belongs self.now.board p.new }
+        ensures becomes { Becomes (domain_bounds self.now) (record (shows p.old).record_is { inc = None; dec = None }) (shows p.old) (shows p.new) }
+    {
+        if let Some(row) = up {
+            self.count_up(p, row);
+        }
+        if let Some(row) = down {
+            self.count_down_held(p, row);
         }
     }
 }

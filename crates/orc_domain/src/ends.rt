@@ -18,8 +18,8 @@ ghost use Rattle.orc_rest.specs.Rest.{IsAtRest};
 ghost use Rattle.orc_rest.specs.Turns.{NoneHanded};
 
 use crate::domain::{OrcDomain, OrcPass};
-use orc_machine_rest::drain;
 use orc_heap::{Discipline, Links};
+use orc_machine_rest::drain;
 
 impl<D: Discipline> OrcDomain<D> {
     /// Takes in what was handed over beside each of the eight slots, and settles, in at most `4 * (rows + 8 * agents)` rounds. What

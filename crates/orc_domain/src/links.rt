@@ -16,10 +16,10 @@ ghost use Rattle.orc_domain.specs.Passes.{IsPassOf, domain_bounds, domain_number
 ghost use Rattle.orc_domain.specs.Searches.{Found};
 
 use crate::domain::{OrcDomain, OrcPass};
-use orc_machine_rest::settle;
-use orc_plain_domain::{row_link, word_at};
 use orc_fault::{NoNode, Spent};
 use orc_heap::{At, Discipline, Held, Links, Looked, Seen, Want};
+use orc_machine_rest::settle;
+use orc_plain_domain::{row_link, word_at};
 use orc_sound::Step;
 use orc_words::pack_link;
 

@@ -11,10 +11,10 @@ ghost use Rattle.orc_shared_words.specs.Lists.{EachAt, EachFrom};
 ghost use Rattle.orc_domain.specs.Passes.{IsPassOf, domain_bounds, domain_opening, next_row, seat_of};
 
 use crate::domain::{OrcDomain, OrcPass};
-use orc_plain_domain::first_row;
 use orc_fault::NoMemory;
 use orc_heap::{Discipline, Seed};
 use orc_machine_board::{MachineBoard, MachineBoardPass};
+use orc_plain_domain::first_row;
 use orc_words::Shape;
 use std::alloc::Global;
 

@@ -5,7 +5,7 @@ use Rattle.std.specs.Option.{option_map}
 use Rattle.std.specs.Prelude.{if◌then◌else◌, ◌==◌}
 use Rattle.orc_core.specs.Machine.{new_machine, record_at, word_read}
 use Rattle.orc_core.specs.declared.ops.Op.{Op}
-use Rattle.orc_core.specs.declared.ops.Op.TheVariants.{Enroll, Fill as FillStep, GateTake, LinkCas, LinkLoad, LinkStore, Arm, Clear, CounterLoad, Dec, Free, GateLook, Hand, Inc, Publish, Read, SetRetired, SlotLook, TakeIn, Unretire}
+use Rattle.orc_core.specs.declared.ops.Op.TheVariants.{Enroll, Fill as FillStep, GateTake, LinkCas, LinkLoad, LinkStore, Arm, Clear, CounterLoad, Dec, Free, GateLook, Hand, Inc, Publish, Read, SetRetired, SlotLook, TakeIn, Unretire, MoveOn, HandoverLook, DecHeld}
 use Rattle.orc_core.specs.declared.records.Agent.{Agent}
 use Rattle.orc_heap.proofs.Runs.{lawful-right}
 use Rattle.orc_heap.specs.Heap.{HeapNumbers, new_heap}
@@ -141,3 +141,6 @@ plain_allowed b a (SlotLook x) want d e w = (tt, refl)
 plain_allowed b a (Hand x) want d e w = (tt, refl)
 plain_allowed b a (TakeIn x) want d e w = (tt, refl)
 plain_allowed b a (Free r) want d e w = (tt, refl)
+plain_allowed b a (MoveOn x r) want d e w = (tt, refl)
+plain_allowed b a (HandoverLook x) want d e w = (tt, refl)
+plain_allowed b a (DecHeld r) want d e w = (tt, refl)

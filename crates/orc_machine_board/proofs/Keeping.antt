@@ -1,24 +1,20 @@
 -- What a pass keeps of its record is enough for its actions, and for what it keeps after them.
 use Rattle.std.proofs.Common.{List, None, Option, Some, [], ap, cond, false, length, refl, subst, suc, sym, true, zero, ℕ, ◌+◌, ◌*◌, ◌<◌, ◌∙◌, ◌∷◌, ◌≡◌, ◌≤◌}
 use Rattle.std.specs.Option.{ForSome}
-use Rattle.std.specs.Prelude.{Bool, is_some, map, slice_index_or, slice_set, ◌==◌, ◌%◌, ◌/◌, ◌^◌}
+use Rattle.std.specs.Prelude.{Bool, map, slice_index_or, slice_set, ◌==◌, ◌%◌, ◌/◌, ◌^◌}
 use Rattle.orc_core.specs.Actions.{IsPackable, action_of, clear_word}
-use Rattle.orc_core.specs.After.{IsRecordable, after, bared, cut_of, doom_by, due_after, hand_by, list_by, promoted, promoted_at, scan_by, scan_on}
+use Rattle.orc_core.specs.After.{IsRecordable, after, hand_by, list_by, promoted, promoted_at, scan_by, scan_on}
 use Rattle.orc_core.specs.Listed.{listed_more, listed_name}
 use Rattle.orc_core.specs.RecordParts.{is_empty, names, number_of, same_target, scanned, slot_of}
-use Rattle.orc_core.specs.declared.actions.Action.{Action}
-use Rattle.orc_core.specs.declared.ops.CounterUse.TheVariants.{Check, End, Start}
 use Rattle.orc_core.specs.declared.ops.Op.{Op}
-use Rattle.orc_core.specs.declared.ops.Op.TheVariants.{Arm, Clear, CounterLoad, Dec, Enroll, Fill, Free, GateLook, GateTake, Hand, Inc, LinkCas, LinkLoad, LinkStore, Publish, Read, SetRetired, SlotLook, TakeIn, Unretire}
+use Rattle.orc_core.specs.declared.ops.Op.TheVariants.{Arm, Clear, CounterLoad, Dec, Enroll, Fill, Free, GateLook, GateTake, Hand, Inc, LinkCas, LinkLoad, LinkStore, Publish, Read, SetRetired, SlotLook, TakeIn, Unretire, MoveOn, HandoverLook, DecHeld}
 use Rattle.orc_core.specs.declared.records.Agent.{Agent}
 use Rattle.orc_core.specs.declared.records.SlotUse.{SlotUse}
 use Rattle.orc_core.specs.declared.records.SlotUse.TheVariants.{Empty, Held, Published}
 use Rattle.orc_machine_board.specs.Kept.{Kept, kept_of}
 use Rattle.orc_shared_words.specs.Operations.{returned_by}
-use Rattle.orc_words.specs.Operations.{word_add, word_sub}
 use Rattle.orc_words.specs.Packed.{link_word, named}
 use Rattle.orc_words.specs.declared.operation.Operation.TheVariants.{CompareExchange, Swap}
-use Rattle.orc_words.specs.declared.packed.TheConstants.{DECREMENT, INCREMENT, RETIRED}
 use Rattle.orc_words.specs.declared.place.Word.{Word}
 use Rattle.orc_words.specs.declared.place.Word.TheVariants.{Gate, Handover}
 
@@ -53,6 +49,7 @@ abbrev kept_after : Op → Kept → ℕ → Kept
 kept_after (GateLook r) k w = record k { looked = cond (w % 2 == 0) (Some (record { row = r; number = w / 2 })) None }
 kept_after (GateTake r) k w = record k { fresh = cond (w == 2 * number_of k.looked) (Some r) k.fresh; looked = None }
 kept_after (Publish s r) k w = record k { empty = slice_set k.empty s false }
+kept_after (MoveOn s r) k w = record k { empty = slice_set k.empty s false }
 kept_after (Clear s) k w = record k { empty = slice_set k.empty s true }
 kept_after (Arm r) k w = record k { empty = slice_set k.empty 0 false }
 kept_after (LinkCas p f t) k w = record k {
@@ -78,6 +75,8 @@ step_kept (Read r which) d w = refl
 step_kept (LinkLoad p slot) d w = ap (λ l. record (kept_of d) { empty = l }) (promoted_slots slot d.slots w)
 step_kept (Publish k r) d w = ap (λ l. record (kept_of d) { empty = l }) (map-set is_empty d.slots k (cond (names d.fresh r) (Held r) (Published r))
     ∙ ap (slice_set (map is_empty d.slots) k) (published_full (names d.fresh r) r))
+step_kept (MoveOn k r) d w = ap (λ l. record (kept_of d) { empty = l }) (map-set is_empty d.slots k (cond (names d.fresh r) (Held r) (Published r))
+    ∙ ap (slice_set (map is_empty d.slots) k) (published_full (names d.fresh r) r))
 step_kept (Clear k) d w = ap (λ l. record (kept_of d) { empty = l }) (map-set is_empty d.slots k Empty)
 step_kept (Arm r) d w = ap (λ l. record (kept_of d) { empty = l }) (map-set is_empty d.slots 0 (Held r))
 step_kept (LinkCas p f t) d w = refl
@@ -91,10 +90,19 @@ step_kept (SlotLook k) d w = refl
 step_kept (Hand k) d w = refl
 step_kept (TakeIn k) d w = refl
 step_kept (Free r) d w = refl
+step_kept (HandoverLook k) d w = refl
+step_kept (DecHeld r) d w = refl
 
 -- a load of a link keeps all
 pub load_kept : (place : Word) (slot : Option ℕ) (d : Agent) (w : ℕ) → kept_of d ≡ kept_of (after (LinkLoad place slot) d w)
 load_kept place slot d w = sym (step_kept (LinkLoad place slot) d w)
+
+-- a slot that comes to name a row is kept alike, whichever row it names
+pub published_kept : (k r q : ℕ) (d : Agent) (w : ℕ) → kept_of (record d { slots = slice_set d.slots k (Held q) }) ≡ kept_of (after (Publish k r) d w)
+published_kept k r q d w = ap (λ l. record (kept_of d) { empty = l }) (map-set is_empty d.slots k (Held q)) ∙ sym (step_kept (Publish k r) d w)
+
+pub armed_kept : (r q : ℕ) (d : Agent) (w : ℕ) → kept_of (record d { slots = slice_set d.slots 0 (Held q) }) ≡ kept_of (after (Arm r) d w)
+armed_kept r q d w = ap (λ l. record (kept_of d) { empty = l }) (map-set is_empty d.slots 0 (Held q)) ∙ sym (step_kept (Arm r) d w)
 
 pub same_after : (op : Op) (d e : Agent) (w : ℕ) → kept_of d ≡ kept_of e → kept_of (after op d w) ≡ kept_of (after op e w)
 same_after op d e w h = step_kept op d w ∙ (ap (λ k. kept_after op k w) h ∙ sym (step_kept op e w))
@@ -121,6 +129,9 @@ same_action a (SlotLook k) d e h = refl
 same_action a (Hand k) d e h = ap (λ (q : Kept). record { word = Handover (k / 8) (k % 8); operation = Swap (scanned q.scan + 1) }) h
 same_action a (TakeIn k) d e h = refl
 same_action a (Free r) d e h = refl
+same_action a (MoveOn k r) d e h = refl
+same_action a (HandoverLook k) d e h = refl
+same_action a (DecHeld r) d e h = refl
 
 pub same_packable : (op : Op) (d e : Agent) → kept_of d ≡ kept_of e → IsPackable op d → IsPackable op e
 same_packable (GateTake r) d e h p = subst (λ (k : Kept). number_of k.looked < 2 ^ 40) h p
@@ -133,6 +144,7 @@ pub same_recordable : (op : Op) (d e : Agent) → kept_of d ≡ kept_of e → Is
 same_recordable (LinkLoad p slot) d e h r = r
 same_recordable (Publish k q) d e h r = r
 same_recordable (Clear k) d e h r = r
+same_recordable (MoveOn k q) d e h r = r
 same_recordable (LinkStore q l n) d e h r = r
 same_recordable (SlotLook k) d e h r = subst (λ (q : Kept). ForSome q.scan (λ s. s.place < 2 ^ 31)) h r
 same_recordable op d e h r = tt
@@ -159,6 +171,9 @@ read_back a (SlotLook k) d n w h = ap (after (SlotLook k) d) h
 read_back a (Hand k) d n w h = ap (after (Hand k) d) h
 read_back a (TakeIn k) d n w h = ap (after (TakeIn k) d) h
 read_back a (Free r) d n w h = refl
+read_back a (MoveOn k r) d n w h = refl
+read_back a (HandoverLook k) d n w h = refl
+read_back a (DecHeld r) d n w h = ap (after (DecHeld r) d) h
 
 -- what is kept after a step that returned this number, where it found that word
 pub kept_next : (a : ℕ) (op : Op) (d e : Agent) (n w : ℕ) → kept_of d ≡ kept_of e → n ≡ returned_by (action_of a op d).operation w

@@ -1,7 +1,6 @@
 -- What an exchange of a link may name, its agent knows.
 use Rattle.std.proofs.Common.{List, None, Option, Some, arith, refl, subst, suc, sym, true, zero, ℕ, ◌+◌, ◌≡◌}
 use Rattle.orc_projection.proofs.Shows.{empty_holds}
-use Rattle.std.proofs.lemmas.Bool.{false≢true}
 use Rattle.std.specs.Option.{option_map}
 use Rattle.std.specs.Prelude.{nat_lt, not, ◌&&◌}
 use Rattle.orc_core.proofs.Within.{and_both, may_parts}
@@ -10,8 +9,6 @@ use Rattle.orc_core.specs.Machine.{Machine, record_at}
 use Rattle.orc_core.specs.RecordParts.{any_holds, holds, is_empty, names, slot_of}
 use Rattle.orc_core.specs.declared.ops.Op.TheVariants.{LinkCas}
 use Rattle.orc_core.specs.declared.records.Agent.{Agent}
-use Rattle.orc_core.specs.declared.records.SlotUse.{SlotUse}
-use Rattle.orc_core.specs.declared.records.SlotUse.TheVariants.{Empty, Held, Published}
 use Rattle.orc_heap.specs.Acts.{IsKnown, IsTarget}
 use Rattle.orc_heap.specs.Heap.{Heap}
 use Rattle.orc_heap.specs.Journals.{run_heap}

@@ -1,5 +1,5 @@
 -- What a pass shows, and what a step of it tells.
-use Rattle.std.specs.Prelude.{List, Option, Some, [], length, ℕ, ◌++◌, ◌<◌, ◌∷◌, ◌≡◌}
+use Rattle.std.specs.Prelude.{List, Option, Some, [], ℕ, ◌++◌, ◌<◌, ◌∷◌, ◌≡◌}
 use Rattle.orc_core.specs.Actions.{action_of}
 use Rattle.orc_core.specs.After.{after}
 use Rattle.orc_core.specs.Machine.{word_read}

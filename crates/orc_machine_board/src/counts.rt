@@ -40,6 +40,16 @@ impl<D: Discipline> MachineBoard<D> {
         self.plain_step(p, Op::Dec { row }, None)
     }
 
+    /// Counts a link that was taken out, to a row that some slot holds.
+    pub fn dec_held(&self, p: &mut MachineBoardPass<D>, row: u32) -> u64
+        requires belongs { Belongs self.now p.old }
+        requires allowed { MayDo (board_bounds self.now) (shows p.old) (Op.DecHeld row) }
+        ensures belongs { Belongs self.now p.new }
+        ensures made { MakesPlain (board_bounds self.now) (Op.DecHeld row) (shows p.old) result (shows p.new) }
+    {
+        self.plain_step(p, Op::DecHeld { row }, None)
+    }
+
     /// Tries the retired bit of a row. Answers 1 if it is set, and else 0.
     pub fn set_retired(&self, p: &mut MachineBoardPass<D>, row: u32, sequence: u64) -> u64
         requires belongs { Belongs self.now p.old }

@@ -60,6 +60,16 @@ impl<D: Discipline> MachineBoard<D> {
         self.plain_step(p, Op::Publish { slot, row }, None)
     }
 
+    /// Names a row in a slot over the row that the slot names.
+    pub fn move_on(&self, p: &mut MachineBoardPass<D>, slot: u32, row: u32) -> u64
+        requires belongs { Belongs self.now p.old }
+        requires allowed { MayDo (board_bounds self.now) (shows p.old) (Op.MoveOn slot row) }
+        ensures belongs { Belongs self.now p.new }
+        ensures made { MakesPlain (board_bounds self.now) (Op.MoveOn slot row) (shows p.old) result (shows p.new) }
+    {
+        self.plain_step(p, Op::MoveOn { slot, row }, None)
+    }
+
     /// Empties a slot.
     pub fn clear(&self, p: &mut MachineBoardPass<D>, slot: u32) -> u64
         requires belongs { Belongs self.now p.old }
@@ -68,6 +78,16 @@ impl<D: Discipline> MachineBoard<D> {
         ensures made { MakesPlain (board_bounds self.now) (Op.Clear slot) (shows p.old) result (shows p.new) }
     {
         self.plain_step(p, Op::Clear { slot }, None)
+    }
+
+    /// Reads the handover word beside an empty slot.
+    pub fn handover_look(&self, p: &mut MachineBoardPass<D>, slot: u32) -> u64
+        requires belongs { Belongs self.now p.old }
+        requires allowed { MayDo (board_bounds self.now) (shows p.old) (Op.HandoverLook slot) }
+        ensures belongs { Belongs self.now p.new }
+        ensures made { MakesPlain (board_bounds self.now) (Op.HandoverLook slot) (shows p.old) result (shows p.new) }
+    {
+        self.plain_step(p, Op::HandoverLook { slot }, None)
     }
 
     /// Empties the handover word beside a slot.

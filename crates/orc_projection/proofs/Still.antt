@@ -10,7 +10,7 @@ use Rattle.orc_core.specs.Allowed.{fits}
 use Rattle.orc_core.specs.RecordParts.{doom_bare, holds, names, slot_of}
 use Rattle.orc_core.specs.declared.ops.CounterUse.TheVariants.{Check, End, Start}
 use Rattle.orc_core.specs.declared.ops.Op.{Op}
-use Rattle.orc_core.specs.declared.ops.Op.TheVariants.{Arm, CounterLoad, Fill, Free, GateLook, GateTake, LinkCas, LinkLoad, LinkStore, Publish, Read, Unretire}
+use Rattle.orc_core.specs.declared.ops.Op.TheVariants.{Arm, CounterLoad, Fill, Free, GateLook, GateTake, LinkCas, LinkLoad, LinkStore, Publish, Read, Unretire, MoveOn}
 use Rattle.orc_core.specs.declared.records.Agent.{Agent}
 use Rattle.orc_core.specs.declared.records.Doom.{Doom}
 use Rattle.orc_core.specs.declared.records.SlotUse.TheVariants.{Empty, Held}
@@ -95,12 +95,14 @@ fresh_before z a op x j n h =
 abbrev pub NewlyHeld : Op → Agent → ℕ → ℕ → Type 0
 NewlyHeld (LinkLoad w k) d v r = NewHold (LinkLoad w k) d v r
 NewlyHeld (Publish k q) d v r = NewHold (Publish k q) d v r
+NewlyHeld (MoveOn k q) d v r = NewHold (MoveOn k q) d v r
 NewlyHeld op d v r = ⊥
 
 pub hold_before : (b : Bounds) (e a : ℕ) (op : Op) (d : Agent) (v k r : ℕ) → fits b e a op d ≡ true → 0 < k
     → holds (slot_of (after op d v) k) r ≡ true → (holds (slot_of d k) r ≡ true) ⊎ NewlyHeld op d v r
 hold_before b e a (LinkLoad w j) d v k r f g h = slot_source b e a (LinkLoad w j) d v k r f h
 hold_before b e a (Publish j q) d v k r f g h = slot_source b e a (Publish j q) d v k r f h
+hold_before b e a (MoveOn j q) d v k r f g h = slot_source b e a (MoveOn j q) d v k r f h
 hold_before b e a (Arm q) d v k r f g h = inl (rw (get_or-set_other d.slots 0 k (Held q) Empty (λ e. omega arith)) at h)
 hold_before b e a op d v k r f g h = ⊎_elim (λ o. inl o) (λ n. absurd n) (slot_source b e a op d v k r f h)
 

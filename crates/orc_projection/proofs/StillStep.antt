@@ -2,7 +2,7 @@
 use Rattle.std.proofs.Common.{inl, inr, refl, true, ℕ, ⊎_elim, ◌≡◌}
 use Rattle.orc_core.specs.RecordParts.{holds, slot_of}
 use Rattle.orc_core.specs.declared.ops.Op.{Op}
-use Rattle.orc_core.specs.declared.ops.Op.TheVariants.{LinkLoad, Publish}
+use Rattle.orc_core.specs.declared.ops.Op.TheVariants.{LinkLoad, Publish, MoveOn}
 use Rattle.orc_heap.specs.Heap.{Heap, Node}
 use Rattle.orc_projection.proofs.Nodes.{HasNode, Known, Named, named_known, node-map, owned_known}
 use Rattle.orc_projection.proofs.Shows.{RowShows, Shows}
@@ -30,6 +30,7 @@ newly_known b z p h a (LinkLoad w k) j l s n =
     node-map h.nodes (p.node j) (named_known a)
     (place_named b z p h w j s (read_out b z a w l.counted (load_place b (z.memory Enrolled) a w k (z.seats a) l.fits)) n)
 newly_known b z p h a (Publish k q) j l s n = node-map h.nodes (p.node j) (owned_known a) (s.fresh a j n)
+newly_known b z p h a (MoveOn k q) j l s n = node-map h.nodes (p.node j) (owned_known a) (s.fresh a j n)
 newly_known b z p h a op j l s n = absurd n
 
 still_row : (b : Bounds) (z : World) (p : PresentIds) (a : ℕ) (op : Op) (j : ℕ) → LawfulStep b z a op

@@ -14,7 +14,7 @@ use Rattle.orc_core.specs.Machine.{Machine, is_allowed, new_machine, record_at, 
 use Rattle.orc_core.specs.RecordParts.{checked_below, names, number_of, same_target, saw}
 use Rattle.orc_core.specs.Runs.{run}
 use Rattle.orc_core.specs.declared.ops.Op.{Op}
-use Rattle.orc_core.specs.declared.ops.Op.TheVariants.{CounterLoad, Dec, Fill, Free, GateTake, Inc, LinkCas, LinkStore, Read, SetRetired, Unretire}
+use Rattle.orc_core.specs.declared.ops.Op.TheVariants.{CounterLoad, Dec, Fill, Free, GateTake, Inc, LinkCas, LinkStore, Read, SetRetired, Unretire, DecHeld}
 use Rattle.orc_core.specs.declared.ops.CounterUse.TheVariants.{Check, End, Start}
 use Rattle.orc_core.specs.declared.records.Agent.{Agent}
 use Rattle.orc_core.specs.declared.records.Reading.{Reading}
@@ -33,7 +33,7 @@ use Rattle.orc_projection.specs.PresentIds.{PresentIds, no_ids, node_link}
 use Rattle.orc_projection.specs.Projection.{act_of, events_of, exchange_act, ids_after, ids_from, is_taken, present_ids, project, project_from}
 use Rattle.orc_sound.proofs.AllFits.{AllFits, all_first, all_step, allowed_step, low_sequences, run_bounds}
 use Rattle.orc_sound.proofs.NewState.{zero_first}
-use Rattle.orc_sound.proofs.Bits.{dec_bounds, inc_bounds, unretire_one}
+use Rattle.orc_sound.proofs.Bits.{dec_bounds, dec_held_bounds, inc_bounds, unretire_one}
 use Rattle.orc_sound.proofs.Bridge.{world_step}
 use Rattle.orc_sound.proofs.Change.{decs_seat, incs_seat, link_part, linked_write}
 use Rattle.orc_sound.proofs.CountedStep.{balance_kept, step_within}
@@ -141,6 +141,9 @@ spending_local b z p a (Inc q) want r l lo h =
 spending_local b z p a (Dec q) want r l lo h =
     dec_spending q r (sequence_of (z.memory (Counter q))) _ _ (bit (names (z.seats a).inc r)) (z.seats a).dec
     (dec_sequence _ (lo q) (dec_bounds b z a q l)) (and_both _ _ (and_both _ _ l.fits).0).1
+spending_local b z p a (DecHeld q) want r l lo h =
+    dec_spending q r (sequence_of (z.memory (Counter q))) _ _ (bit (names (z.seats a).inc r)) (z.seats a).dec
+    (dec_sequence _ (lo q) (dec_held_bounds b z a q l)) (and_both _ _ (and_both _ _ l.fits).0).1
 spending_local b z p a (SetRetired q k) want r l lo h = let s = set_sequence (z.memory (Counter q)) q r k in omega arith
 spending_local b z p a (Unretire q) want r l lo h = let s : sequence_of ((z.memory (Counter q) + 18446744073701163008) % 18446744073709551616)
     ≡ sequence_of (z.memory (Counter q)) = clear_sequence _ (lo q) (unretire_one b z a q l) in rw s (omega arith)

@@ -6,7 +6,7 @@ use Rattle.orc_core.proofs.Within.{and_both}
 use Rattle.orc_core.specs.RecordParts.{is_empty, scanned, slot_of}
 use Rattle.orc_core.specs.declared.ops.CounterUse.TheVariants.{Check}
 use Rattle.orc_core.specs.declared.ops.Op.{Op}
-use Rattle.orc_core.specs.declared.ops.Op.TheVariants.{CounterLoad, Fill as FillStep, Hand, LinkCas, LinkLoad, Read, TakeIn, LinkStore}
+use Rattle.orc_core.specs.declared.ops.Op.TheVariants.{CounterLoad, Fill as FillStep, Hand, LinkCas, LinkLoad, Read, TakeIn, LinkStore, HandoverLook}
 use Rattle.orc_core.specs.declared.records.SlotUse.{SlotUse}
 use Rattle.orc_core.specs.declared.records.SlotUse.TheVariants.{Empty, Held, Published}
 use Rattle.orc_rest.specs.Work.{IsSettlingStep}
@@ -47,6 +47,7 @@ own_handover b z a (LinkCas w x t) k p s o = absurd s
 own_handover b z a (LinkLoad w j) k p s o = absurd s
 own_handover b z a (FillStep r w v) k p s o = absurd s
 own_handover b z a (Read r w) k p s o = absurd s
+own_handover b z a (HandoverLook i) k p s o = absurd s
 own_handover b z a (LinkStore q l zero) k p s o = o
 own_handover b z a (LinkStore q l (suc n)) k p s o = o
 own_handover b z a op k p s o = o
@@ -78,6 +79,7 @@ other_handover b z a (LinkCas w y t) x k p ne s q o = absurd s
 other_handover b z a (LinkLoad w j) x k p ne s q o = absurd s
 other_handover b z a (FillStep r w v) x k p ne s q o = absurd s
 other_handover b z a (Read r w) x k p ne s q o = absurd s
+other_handover b z a (HandoverLook i) x k p ne s q o = absurd s
 other_handover b z a (LinkStore r l zero) x k p ne s q o = o
 other_handover b z a (LinkStore r l (suc n)) x k p ne s q o = o
 other_handover b z a op x k p ne s q o = o

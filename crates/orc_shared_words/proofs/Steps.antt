@@ -3,7 +3,9 @@ use Rattle.std.proofs.Common.{Bool, cond, false, true, ◌==◌, List, Option, S
 use mathlib.Core.Option.{some}
 use prog.Atomic.{either}
 use lib.ListN.{get_elem?}
-use Rattle.atomic_table.specs.Table.{Allows, Me, keeps}
+use lib.Seq.{set-get_or}
+use Rattle.std.proofs.lemmas.Bool.{eqb-false, eqb-true}
+use Rattle.atomic_table.specs.Table.{Act, Allows, Me, Valid, carried_after, keeps, stepped}
 use Rattle.orc_heap.specs.Allowed.{AllAllowed}
 use Rattle.orc_heap.specs.declared.events.Event.{Event}
 use Rattle.orc_layout.proofs.Laying.{laid_read, laid_write}
@@ -16,9 +18,9 @@ use Rattle.orc_shared_words.specs.Runs.{Obeys, Rules, found_by}
 use Rattle.orc_history.specs.Journals.{own_of}
 use Rattle.orc_words.specs.Operations.{word_after}
 use Rattle.orc_words.specs.declared.operation.Operation.{Operation}
-use Rattle.orc_words.specs.declared.operation.Operation.TheVariants.{CompareExchange}
-use Rattle.orc_shared_words.specs.Steps.{Did, LaterJournal, Licensed}
-use Rattle.orc_shared_words.proofs.Changes.{AllRetired, AllUnborn, still_one, still_retired, still_unborn}
+use Rattle.orc_words.specs.declared.operation.Operation.TheVariants.{CompareExchange, Swap}
+use Rattle.orc_shared_words.specs.Steps.{Did, LaterJournal, Licensed, Tried}
+use Rattle.orc_shared_words.proofs.Changes.{AllRetired, AllUnborn, changed, still_one, still_retired, still_unborn}
 use Rattle.orc_shared_words.proofs.Prefixes.{prefix_more, prefix_same}
 use Rattle.orc_shared_words.proofs.Runs.{below-snoc, by_other, none_behind, own_of-others}
 use Rattle.orc_shared_words.proofs.Seats.{at_changed, one_number, set_there}
@@ -191,6 +193,43 @@ makes {K} {S} {Op} {Rec} {N} r laws k H Y law key slots id me a own op said pick
     subst (λ (z : K × Operation × (ℕ → ℕ) × Option (K × Op × Option N)). Allows (Shows r z.0 (H z.0) (Y z.0)) slots id me index z.2
     (λ n. Did r H Y z.3 me (returned_by z.1 n)))
     (λ i. (sym same i, is i, (ap word_after is ∙ after_is) i, sym picked i)) second
+
+-- a load tells of a swap of 0: where it finds 0 the step is made, and else nothing has changed
+pub tries : {K S Op Rec N : Type 0} (r : Rules K S Op Rec N) (laws : (k : K) → Obeys r k) (k : K) (H : K → List (Event N) → Type 0)
+    (Y : K → List (Event N) → Event N → Type 0)
+    (law : (past : List (Event N)) (e : Event N) → H k past → Y k past e → H k (past ++ e ∷ [])) (key : K) (slots id : ℕ)
+    (me : Me (Unit {0}) (View S Rec)) (a : ℕ) (own : Rec) (op : Op) (said : Option N)
+    (pick : Option (K × Op × Option N)) (index : ℕ) (o : Operation) → key ≡ k → pick ≡ Some (k, op, said)
+    → index ≡ r.index k (r.place k a op own) → word_after o ≡ r.written k a op own → returned_by o ≡ r.answer k a op own → o ≡ Swap 0
+    → (me.0.agent ≡ Some a) × (me.0.own ≡ own) → r.allowed k a op own → Licensed r k (H k) (Y k) me.0 a op said
+    → Allows (Shows r key (H key) (Y key)) slots id me index (λ n. n) (λ n. Tried r H Y pick me n)
+tries {K} {S} {Op} {Rec} {N} r laws k H Y law key slots id me a own op said pick index o same picked index_is written answer is named can may_be s h long at small =
+    cases (n == 0) refl
+  where
+    n : ℕ
+    n = get_or s.words index 0
+
+    cases : (t : Bool) → (n == 0) ≡ t → (w : View S Rec) × (b : Act (Unit {0})) × Valid s.homes me.1 b
+        × Shows r key (H key) (Y key) (stepped s index n id me.1 w b) × Tried r H Y pick me n (w, carried_after me.1 b)
+    cases true e =
+        let none : n ≡ 0 = eqb-true n 0 e in
+        let made = makes r laws k H Y law key slots id me a own op said pick index o (Swap 0) (λ z. 0) refl same picked index_is written answer is named can may_be
+        s h long at small in (
+          made.0,
+          made.1,
+          made.2,
+          subst (λ z. Shows r key (H key) (Y key) (stepped s index z id me.1 made.0 made.1)) (sym none) made.3,
+          ((λ z. made.4), (λ other. absurd (other none))),
+        )
+    cases false e =
+        let v : View S Rec = me.0 in (
+          v,
+          keeps,
+          tt,
+          changed r key (H key) (Y key) _ s h id v v (set-get_or s.words index 0) at (h.fits id v at) (λ b q. q) (λ c q. (c, q, omega arith, refl))
+              (λ b q. h.retired b id v at q) (λ q. (id, v, set_there s.views id v v at, q)),
+          ((λ none. absurd (eqb-false n 0 e none)), (λ z. refl)),
+        )
 
 chosen : (b : Bool) (x y : ℕ) → cond b x y ≡ either b x y
 chosen true x y = refl

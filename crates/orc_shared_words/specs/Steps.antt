@@ -7,7 +7,7 @@ use Rattle.orc_shared_words.specs.Lists.{Among, Each}
 use Rattle.orc_shared_words.specs.Runs.{AgentsBelow, Rules, found_by}
 use Rattle.orc_history.specs.Journals.{own_of}
 use Rattle.orc_shared_words.specs.declared.journal.View.{View}
-use Rattle.std.specs.Prelude.{List, None, Option, Some, [], ℕ, ◌++◌, ◌∷◌, ◌≡◌}
+use Rattle.std.specs.Prelude.{List, None, Option, Some, [], ℕ, ◌++◌, ◌∷◌, ◌≡◌, ◌≢◌}
 
 module _ {K S Op Rec N : Type 0} (r : Rules K S Op Rec N) where
   module _ (k : K) (holds : List (Event N) → Type 0) (may : List (Event N) → Event N → Type 0) where
@@ -57,3 +57,8 @@ module _ {K S Op Rec N : Type 0} (r : Rules K S Op Rec N) where
       → ℕ → Me (Unit {0}) (View S Rec) → Type 0
   Did holds may None me n me' = Unit {0}
   Did holds may (Some p) me n me' = Extends p.0 (holds p.0) (may p.0) p.1 p.2 me.0 n me'.0 × (me'.1 ≡ me.1)
+
+  -- what a load tells that may stand for the picked step, a swap of 0: it does where it finds 0, and else nothing has changed
+  abbrev pub Tried : (K → List (Event N) → Type 0) → (K → List (Event N) → Event N → Type 0) → Option (K × Op × Option N) → Me (Unit {0}) (View S Rec)
+      → ℕ → Me (Unit {0}) (View S Rec) → Type 0
+  Tried holds may pick me n me' = (n ≡ 0 → Did holds may pick me n me') × (n ≢ 0 → me' ≡ me)

@@ -2,7 +2,7 @@
 
 ghost use Rattle.std.specs.Prelude.{◌≡◌, Option, None};
 ghost use Rattle.orc_shared_words.specs.Learning.{Confirmed};
-ghost use Rattle.orc_shared_words.specs.Steps.{Did};
+ghost use Rattle.orc_shared_words.specs.Steps.{Did, Tried};
 ghost use Rattle.orc_shared_words.specs.Views.{absorbing, keeping, next_pass, note_of, one_handed, spent_view};
 
 use crate::journal::View;
@@ -30,6 +30,18 @@ impl<D: Discipline, M: Machine<D::Note>, J: Picks<M::Shape, M::Op, D::Note>> Pla
     View<M::Step, M::Record>,
 > for Does<M, D, J> {
     ghost then = { λ _. Did M.rules (λ k. D.holds (M.numbers k)) (λ k. D.may (M.numbers k)) J.step };
+}
+
+/// The picked step, a swap of 0, was made where 0 was found, and else nothing was done.
+pub struct Tries<M, D, J> {
+    of: PhantomData<(M, D, J)>,
+}
+
+impl<D: Discipline, M: Machine<D::Note>, J: Picks<M::Shape, M::Op, D::Note>> Play<
+    (),
+    View<M::Step, M::Record>,
+> for Tries<M, D, J> {
+    ghost then = { λ _. Tried M.rules (λ k. D.holds (M.numbers k)) (λ k. D.may (M.numbers k)) J.step };
 }
 
 /// The longer one of the pass's list and the note's was taken over.

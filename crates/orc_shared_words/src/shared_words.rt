@@ -12,7 +12,7 @@ ghost use Rattle.orc_shared_words.specs.Views.{Covers, absorbing, first_view, ke
 use crate::journal::View;
 use crate::last_words::LastWords;
 use crate::machine::Machine;
-use crate::moves::{Absorb, Confirm, Does, NextAgent, Note, Picks};
+use crate::moves::{Absorb, Confirm, Does, NextAgent, Note, Picks, Tries};
 use crate::operation::PlacedOperation;
 use crate::rule::Shown;
 use atomic_table::{Seat, Table};
@@ -186,6 +186,14 @@ impl<M: Machine<D::Note>, D: Discipline> SharedWords<M, D> {
             Operation::Store(value) => {
                 shared.store::<Does<M, D, J>>(seat, index, value);
                 value
+            }
+            Operation::Swap(0) => {
+                // where the word holds 0 already, a load does as much
+                let found = shared.load::<Tries<M, D, J>>(seat, index);
+                if found == 0 {
+                    return 0;
+                }
+                shared.swap::<Does<M, D, J>>(seat, index, 0)
             }
             Operation::Swap(value) => shared.swap::<Does<M, D, J>>(seat, index, value),
             Operation::Add(value) => shared.fetch_add::<Does<M, D, J>>(seat, index, value),

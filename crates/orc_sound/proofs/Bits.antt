@@ -11,7 +11,7 @@ use Rattle.orc_core.specs.Actions.{clear_word}
 use Rattle.orc_core.specs.Allowed.{fits}
 use Rattle.orc_core.specs.RecordParts.{doom_cut, names, scans}
 use Rattle.orc_core.specs.declared.ops.Op.{Op}
-use Rattle.orc_core.specs.declared.ops.Op.TheVariants.{CounterLoad, Dec, Fill, Inc, LinkCas, LinkLoad, Read, SetRetired, Unretire, LinkStore}
+use Rattle.orc_core.specs.declared.ops.Op.TheVariants.{CounterLoad, Dec, Fill, Inc, LinkCas, LinkLoad, Read, SetRetired, Unretire, LinkStore, DecHeld}
 use Rattle.orc_core.specs.declared.records.Agent.{Agent}
 use Rattle.orc_core.specs.declared.records.Doom.{Doom}
 use Rattle.orc_sound.proofs.CounterWords.{dec_bit, inc_bit}
@@ -77,6 +77,9 @@ inc_bounds b z a q p = (count_bounds b z q p.shape p.counted (ltb-true _ _ (and_
 pub dec_bounds : (b : Bounds) (z : World) (a q : ℕ) → LawfulStep b z a (Dec q) → 0 < count_bits (z.memory (Counter q))
 dec_bounds b z a q p = (count_bounds b z q p.shape p.counted (ltb-true _ _ (and_both _ _ (and_both _ _ p.fits).0).0)).0
 
+pub dec_held_bounds : (b : Bounds) (z : World) (a q : ℕ) → LawfulStep b z a (DecHeld q) → 0 < count_bits (z.memory (Counter q))
+dec_held_bounds b z a q p = (count_bounds b z q p.shape p.counted (ltb-true _ _ (and_both _ _ (and_both _ _ p.fits).0).0)).0
+
 write_cases : (P : Type 0) (m : Word → ℕ) (q x r : ℕ) → (r ≡ q → retired_bit x ≡ 1 → P) → (retired_bit (m (Counter r)) ≡ 1 → P)
     → retired_bit (write m (Counter q) x (Counter r)) ≡ 1 → P
 write_cases P m q x r new old h = cases (r == q) refl h
@@ -106,6 +109,7 @@ pub bit_before : (b : Bounds) (z : World) (a : ℕ) (op : Op) (r : ℕ) → Lawf
     → (retired_bit (z.memory (Counter r)) ≡ 1) ⊎ (raises op (read_by z a op) r ≡ true)
 bit_before b z a (Inc q) r p h = write_cases _ z.memory q _ r (λ k t. inl (rw k (sym (inc_bit _ (inc_bounds b z a q p)) ∙ t))) (λ k. inl k) h
 bit_before b z a (Dec q) r p h = write_cases _ z.memory q _ r (λ k t. inl (rw k (sym (dec_bit _ (dec_bounds b z a q p)) ∙ t))) (λ k. inl k) h
+bit_before b z a (DecHeld q) r p h = write_cases _ z.memory q _ r (λ k t. inl (rw k (sym (dec_bit _ (dec_held_bounds b z a q p)) ∙ t))) (λ k. inl k) h
 bit_before b z a (SetRetired q n) r p h = write_cases _ z.memory q _ r (λ k t. try_bit z.memory q n r k t) (λ k. inl k) h
 bit_before b z a (Unretire q) r p h = write_cases _ z.memory q _ r (λ k t. inl (rw k (unretire_one b z a q p))) (λ k. inl k) h
 bit_before b z a (CounterLoad q how) r p h = inl (rw (write_same z.memory (Counter q) (Counter r)) at h)

@@ -14,11 +14,11 @@ use Rattle.orc_core.specs.After.{after, scan_on}
 use Rattle.orc_core.specs.RecordParts.{any_holds, doom_cut, names, saw, scan_found, scans}
 use Rattle.orc_core.specs.declared.ops.CounterUse.TheVariants.{Check, End, Start}
 use Rattle.orc_core.specs.declared.ops.Op.{Op}
-use Rattle.orc_core.specs.declared.ops.Op.TheVariants.{CounterLoad, Dec, Fill, Free, GateTake, Hand, Inc, LinkCas, LinkLoad, LinkStore, Read, SetRetired, SlotLook, TakeIn, Unretire}
+use Rattle.orc_core.specs.declared.ops.Op.TheVariants.{CounterLoad, Dec, Fill, Free, GateTake, Hand, Inc, LinkCas, LinkLoad, LinkStore, Read, SetRetired, SlotLook, TakeIn, Unretire, DecHeld}
 use Rattle.orc_core.specs.declared.records.Agent.{Agent}
 use Rattle.orc_core.specs.declared.records.Scan.{Scan}
 use Rattle.orc_sound.proofs.Balances.{Kept, cas_kept, dec_kept, fill_kept, free_kept, gate_take_kept, inc_kept, set_retired_kept, store_kept, unretire_kept}
-use Rattle.orc_sound.proofs.Bits.{dec_bounds, inc_bounds, unretire_cases, unretire_one}
+use Rattle.orc_sound.proofs.Bits.{dec_bounds, dec_held_bounds, inc_bounds, unretire_cases, unretire_one}
 use Rattle.orc_sound.proofs.Bridge.{IsWithin-is_within, same_word-true}
 use Rattle.orc_sound.proofs.Change.{balance_step}
 use Rattle.orc_sound.proofs.CounterWords.{clear_bit, clear_count, dec_bit, dec_count, inc_bit, inc_count}
@@ -47,6 +47,7 @@ balance_kept b z a (LinkStore q l nr) r p h = let n = nothing_pending (z.seats a
     let k = p.shape.rows.1 in store_kept z.memory a q nr l (z.seats a) r (omega arith) (store_row_out b z a q nr l p) n.1 n.2
 balance_kept b z a (Inc q) r p h = inc_kept z.memory a q (z.seats a) r (and_both _ _ p.fits).1 (inc_count _ (inc_bounds b z a q p))
 balance_kept b z a (Dec q) r p h = dec_kept z.memory a q (z.seats a) r (and_both _ _ (and_both _ _ p.fits).0).1 (dec_count _ (dec_bounds b z a q p))
+balance_kept b z a (DecHeld q) r p h = dec_kept z.memory a q (z.seats a) r (and_both _ _ (and_both _ _ p.fits).0).1 (dec_count _ (dec_held_bounds b z a q p))
 balance_kept b z a (SetRetired q n) r p h = set_retired_kept z.memory a q n (z.seats a) r
 balance_kept b z a (Unretire q) r p h = unretire_kept z.memory a q (z.seats a) r (clear_count _ (unretire_one b z a q p))
 balance_kept b z a (CounterLoad q Check) r p h = refl
@@ -104,6 +105,7 @@ token_kept b z a (LinkCas w x t) r p h = absurd (cas_place_out b z a w x t p)
 token_kept b z a (LinkStore q l nr) r p h = store_token z.memory a q nr l (z.seats a) r
 token_kept b z a (Inc q) r p h = inc_token z.memory a q (z.seats a) r (inc_bit _ (inc_bounds b z a q p))
 token_kept b z a (Dec q) r p h = rw (dec_bit _ (dec_bounds b z a q p))
+token_kept b z a (DecHeld q) r p h = rw (dec_bit _ (dec_held_bounds b z a q p))
 token_kept b z a (SetRetired q n) r p h = set_token z.memory a q n (z.seats a) r (ltb-true _ _ (and_both _ _ (and_both _ _ p.fits).0).1)
 token_kept b z a (Unretire q) r p h = unretire_token b z a q r p
 token_kept b z a (CounterLoad q Check) r p h = refl
@@ -146,6 +148,7 @@ due_held_step b z a op p x r g = cases (x == a) refl g
     counts_holds : (op : Op) (d : Agent) (v r : ℕ) → counts op d.scan r ≡ true → any_holds d.slots r ≡ true → any_holds (after op d v).slots r ≡ true
     counts_holds (Inc q) d v r n h = h
     counts_holds (Dec q) d v r n h = h
+    counts_holds (DecHeld q) d v r n h = h
     counts_holds (Unretire q) d v r n h = h
     counts_holds op d v r n h = absurd (false≢true n)
 

@@ -14,7 +14,7 @@ use Rattle.orc_core.specs.Machine.{nobody}
 use Rattle.orc_core.specs.RecordParts.{any_holds, doom_bare, doom_cut, doom_at, is_empty, kept, names, scans, slot_of}
 use Rattle.orc_core.specs.declared.ops.CounterUse.TheVariants.{Check, End, Start}
 use Rattle.orc_core.specs.declared.ops.Op.{Op}
-use Rattle.orc_core.specs.declared.ops.Op.TheVariants.{Arm, CounterLoad, Dec, Fill, Free, GateTake, Inc, LinkCas, LinkLoad, LinkStore, Read, SetRetired, Unretire}
+use Rattle.orc_core.specs.declared.ops.Op.TheVariants.{Arm, CounterLoad, Dec, Fill, Free, GateTake, Inc, LinkCas, LinkLoad, LinkStore, Read, SetRetired, Unretire, DecHeld}
 use Rattle.orc_core.specs.declared.records.Agent.{Agent}
 use Rattle.orc_core.specs.declared.records.Doom.{Doom}
 use Rattle.orc_sound.proofs.Balances.{OutPlace}
@@ -206,6 +206,7 @@ pub count_stays : (b : Bounds) (z : World) (a : ℕ) (op : Op) (r : ℕ) → Law
     → count_bits ((step_world z a op).memory (Counter r)) ≡ count_bits (z.memory (Counter r))
 count_stays b z a (Inc q) r p n = ap count_bits (other_counter z.memory q ((z.memory (Counter q) + 16777217) % 18446744073709551616) r n)
 count_stays b z a (Dec q) r p n = ap count_bits (other_counter z.memory q ((z.memory (Counter q) + 16777215) % 18446744073709551616) r n)
+count_stays b z a (DecHeld q) r p n = ap count_bits (other_counter z.memory q ((z.memory (Counter q) + 16777215) % 18446744073709551616) r n)
 count_stays b z a (SetRetired q k) r p n = same_counter count_bits z.memory q _ r (try_count (z.memory (Counter q)) k)
 count_stays b z a (Unretire q) r p n = same_counter count_bits z.memory q _ r (clear_count (z.memory (Counter q)) (unretire_one b z a q p))
 count_stays b z a (CounterLoad q how) r p n = ap count_bits (write_same z.memory (Counter q) (Counter r))
@@ -226,6 +227,7 @@ pub sequence_stays : (b : Bounds) (z : World) (a : ℕ) (op : Op) (r : ℕ) → 
     → sequence_of ((step_world z a op).memory (Counter r)) ≡ sequence_of (z.memory (Counter r))
 sequence_stays b z a (Inc q) r p l n = ap sequence_of (other_counter z.memory q ((z.memory (Counter q) + 16777217) % 18446744073709551616) r n)
 sequence_stays b z a (Dec q) r p l n = ap sequence_of (other_counter z.memory q ((z.memory (Counter q) + 16777215) % 18446744073709551616) r n)
+sequence_stays b z a (DecHeld q) r p l n = ap sequence_of (other_counter z.memory q ((z.memory (Counter q) + 16777215) % 18446744073709551616) r n)
 sequence_stays b z a (SetRetired q k) r p l n = same_counter sequence_of z.memory q _ r (try_sequence (z.memory (Counter q)) k)
 sequence_stays b z a (Unretire q) r p l n = same_counter sequence_of z.memory q _ r (clear_sequence (z.memory (Counter q)) (l q) (unretire_one b z a q p))
 sequence_stays b z a (CounterLoad q how) r p l n = ap sequence_of (write_same z.memory (Counter q) (Counter r))
@@ -243,6 +245,7 @@ sequence_stays b z a op r p l n = refl
 pub counts_uses : (b : Bounds) (e a : ℕ) (op : Op) (d : Agent) (r : ℕ) → fits b e a op d ≡ true → counts_row op r ≡ true → uses d r ≡ true
 counts_uses b e a (Inc q) d r f h = rw (← eqb-true q r h) (inc_uses d q (and_both _ _ f).1)
 counts_uses b e a (Dec q) d r f h = rw (← eqb-true q r h) (dec_uses d q (and_both _ _ (and_both _ _ f).0).1)
+counts_uses b e a (DecHeld q) d r f h = rw (← eqb-true q r h) (dec_uses d q (and_both _ _ (and_both _ _ f).0).1)
 counts_uses b e a op d r f h = absurd (false≢true h)
 
 unused_inc : (d : Agent) (r : ℕ) → uses d r ≡ false → bit (names d.inc r) ≡ 0

@@ -13,7 +13,7 @@ use Rattle.orc_core.specs.Machine.{Machine, answer, is_allowed, record_at, step,
 use Rattle.orc_core.specs.RecordParts.{number_of}
 use Rattle.orc_core.specs.Runs.{IsLawful, run}
 use Rattle.orc_core.specs.declared.ops.Op.{Op}
-use Rattle.orc_core.specs.declared.ops.Op.TheVariants.{Dec, Enroll, Free, GateTake, Inc, Unretire}
+use Rattle.orc_core.specs.declared.ops.Op.TheVariants.{Dec, Enroll, Free, GateTake, Inc, Unretire, DecHeld}
 use Rattle.orc_core.specs.declared.records.Agent.{Agent}
 use Rattle.orc_sound.proofs.AllFits.{AllFits, all_step, allowed_step}
 use Rattle.orc_sound.proofs.Bits.{unretire_one}
@@ -112,6 +112,7 @@ pub no_wrap : (b : Bounds) (z : World) (a : ℕ) (op : Op) → LawfulStep b z a 
 no_wrap b z a Enroll p s lo = let e = p.counted.enrolment.most in let k = p.shape.agents.1 in omega arith
 no_wrap b z a (Inc q) p s lo = let l = lo q in omega arith
 no_wrap b z a (Dec q) p s lo = let l = lo q in omega arith
+no_wrap b z a (DecHeld q) p s lo = let l = lo q in omega arith
 no_wrap b z a (Unretire q) p s lo = let u = unretire_one b z a q p in omega arith
 no_wrap b z a (Free q) p s lo = let o = (freed_row b z a q p).gone.is_out in omega arith
 no_wrap b z a op p s lo = tt

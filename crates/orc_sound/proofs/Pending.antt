@@ -7,7 +7,7 @@ use Rattle.orc_core.specs.After.{after}
 use Rattle.orc_core.specs.Allowed.{forced, in_order}
 use Rattle.orc_core.specs.RecordParts.{is_due, names, saw}
 use Rattle.orc_core.specs.declared.ops.Op.{Op}
-use Rattle.orc_core.specs.declared.ops.Op.TheVariants.{Arm, Dec, Inc, LinkCas, LinkStore, SetRetired, Unretire}
+use Rattle.orc_core.specs.declared.ops.Op.TheVariants.{Arm, Dec, Inc, LinkCas, LinkStore, SetRetired, Unretire, DecHeld}
 use Rattle.orc_core.specs.declared.records.Agent.{Agent}
 use Rattle.orc_core.specs.declared.records.Reading.{Reading}
 
@@ -21,6 +21,11 @@ pub dec_waits : (due : Option Reading) (inc dec : Option ℕ) (q : ℕ) → in_o
 dec_waits None None dec q h = (refl, refl)
 dec_waits None (Some r) dec q h = absurd (false≢true h)
 dec_waits (Some s) inc dec q h = absurd (false≢true h)
+
+pub dec_held_waits : (due : Option Reading) (inc dec : Option ℕ) (q : ℕ) → in_order due inc dec (DecHeld q) ≡ true → (due ≡ None) × (inc ≡ None)
+dec_held_waits None None dec q h = (refl, refl)
+dec_held_waits None (Some r) dec q h = absurd (false≢true h)
+dec_held_waits (Some s) inc dec q h = absurd (false≢true h)
 
 pub arm_waits : (due : Option Reading) (inc dec : Option ℕ) (q : ℕ) → in_order due inc dec (Arm q) ≡ true → (due ≡ None) × (inc ≡ None)
 arm_waits None None dec q h = (refl, refl)
@@ -48,6 +53,7 @@ pub inc_slots : (op : Op) (d : Agent) (v r : ℕ) → forced d op ≡ true → n
 inc_slots (SetRetired q n) d v r o h = refl
 inc_slots (Inc q) d v r o h = refl
 inc_slots (Dec q) d v r o h = refl
+inc_slots (DecHeld q) d v r o h = refl
 inc_slots (Arm q) d v r o h = absurd (no_name d.inc r (arm_waits d.due d.inc d.dec q o).1 h)
 inc_slots op d v r o h = absurd (no_name d.inc r (nothing_pending d.due d.inc d.dec op refl o).1 h)
 
@@ -56,6 +62,7 @@ pub due_ends : (op : Op) (d : Agent) (v r : ℕ) → forced d op ≡ true → sa
 due_ends (SetRetired q n) d v r o h = refl
 due_ends (Inc q) d v r o h = absurd (not_seen d.due r (inc_waits d.due d.inc d.dec q o) h)
 due_ends (Dec q) d v r o h = absurd (not_seen d.due r (dec_waits d.due d.inc d.dec q o).0 h)
+due_ends (DecHeld q) d v r o h = absurd (not_seen d.due r (dec_held_waits d.due d.inc d.dec q o).0 h)
 due_ends (Arm q) d v r o h = absurd (not_seen d.due r (arm_waits d.due d.inc d.dec q o).0 h)
 due_ends op d v r o h = absurd (not_seen d.due r (nothing_pending d.due d.inc d.dec op refl o).0 h)
 
@@ -66,6 +73,7 @@ OneChange d = (d.due ≡ None) ⊎ (d.inc ≡ None)
 pub one_change : (op : Op) (d : Agent) (v : ℕ) → forced d op ≡ true → OneChange d → OneChange (after op d v)
 one_change (Inc q) d v f o = inr refl
 one_change (Dec q) d v f o = inr (dec_waits d.due d.inc d.dec q f).1
+one_change (DecHeld q) d v f o = inr (dec_held_waits d.due d.inc d.dec q f).1
 one_change (Unretire q) d v f o = inr (nothing_pending d.due d.inc d.dec (Unretire q) refl f).1
 one_change (SetRetired q n) d v f o = inl refl
 one_change (LinkCas w x t) d v f o = inl (nothing_pending d.due d.inc d.dec (LinkCas w x t) refl f).0

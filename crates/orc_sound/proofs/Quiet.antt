@@ -15,7 +15,7 @@ use Rattle.orc_core.specs.RecordParts.{any_holds, holds, names, scan_empty, scan
 use Rattle.orc_core.specs.Sums.{sum_below}
 use Rattle.orc_core.specs.declared.ops.CounterUse.TheVariants.{Check, End, Start}
 use Rattle.orc_core.specs.declared.ops.Op.{Op}
-use Rattle.orc_core.specs.declared.ops.Op.TheVariants.{Arm, Clear, CounterLoad, Dec, Inc, LinkLoad, Publish, SetRetired}
+use Rattle.orc_core.specs.declared.ops.Op.TheVariants.{Arm, Clear, CounterLoad, Dec, Inc, LinkLoad, Publish, SetRetired, MoveOn, DecHeld}
 use Rattle.orc_core.specs.declared.records.Agent.{Agent}
 use Rattle.orc_core.specs.declared.records.SlotUse.{SlotUse}
 use Rattle.orc_core.specs.declared.records.SlotUse.TheVariants.{Empty, Held, Published}
@@ -23,7 +23,7 @@ use Rattle.orc_sound.proofs.Balances.{OutPlace}
 use Rattle.orc_sound.proofs.Change.{incs_seat}
 use Rattle.orc_sound.proofs.Facts.{Balanced, incs, linked_in, out, to_row}
 use Rattle.orc_sound.proofs.Fresh.{two_names}
-use Rattle.orc_sound.proofs.Pending.{arm_waits, dec_waits, no_name}
+use Rattle.orc_sound.proofs.Pending.{arm_waits, dec_held_waits, dec_waits, no_name}
 use Rattle.orc_sound.proofs.Seats.{both_ways, seat_other, seat_same}
 use Rattle.orc_sound.proofs.Sources.{NewHold, inc_source, links, promoted_holds}
 use Rattle.orc_sound.proofs.Sums.{sum_member}
@@ -49,6 +49,7 @@ pub record Loose (s : Bounds) (z : World) (r k : ℕ) : Type 0 where
 abbrev pub counts_row : Op → ℕ → Bool
 counts_row (Inc q) r = q == r
 counts_row (Dec q) r = q == r
+counts_row (DecHeld q) r = q == r
 counts_row _ r = false
 
 slot_set : (ss : List SlotUse) (k j r : ℕ) (x : SlotUse) → holds (slice_index_or (slice_set ss k x) j Empty) r ≡ true
@@ -66,6 +67,7 @@ slot_source b e a (LinkLoad p (Some k)) d v j r f h =
     ⊎_elim (λ o. inl o) (λ n. ⊎_elim (λ o. inl (rw n.0 o)) (λ w. inr w) (promoted_holds (slot_of d k) v r n.1))
     (slot_set d.slots k j r (promoted (slot_of d k) v) h)
 slot_source b e a (Publish k q) d v j r f h = grind (arith, slot_set d.slots k j r (cond (names d.fresh q) (Held q) (Published q)) h)
+slot_source b e a (MoveOn k q) d v j r f h = grind (arith, slot_set d.slots k j r (cond (names d.fresh q) (Held q) (Published q)) h)
 slot_source b e a (Clear k) d v j r f h = grind (arith, slot_set d.slots k j r Empty h)
 slot_source b e a (Arm q) d v j r f h = grind (arith, slot_set d.slots 0 j r (Held q) h)
 slot_source b e a op d v j r f h = inl h
@@ -76,6 +78,7 @@ pending_stays : (b : Bounds) (e a : ℕ) (op : Op) (d : Agent) (v j r : ℕ) →
 pending_stays b e a (SetRetired q n) d v j r o f c h = (refl, refl)
 pending_stays b e a (Inc q) d v j r o f c h = absurd (both_ways (q == r) (eq-eqb q r (two_names d.inc q r (and_both _ _ f).1 h)) c)
 pending_stays b e a (Dec q) d v j r o f c h = absurd (no_name d.inc r (dec_waits d.due d.inc d.dec q o).1 h)
+pending_stays b e a (DecHeld q) d v j r o f c h = absurd (no_name d.inc r (dec_held_waits d.due d.inc d.dec q o).1 h)
 pending_stays b e a (Arm q) d v j r o f c h = absurd (no_name d.inc r (arm_waits d.due d.inc d.dec q o).1 h)
 pending_stays b e a op d v j r o f c h = absurd (no_name d.inc r (nothing_pending d.due d.inc d.dec op refl o).1 h)
 
@@ -123,6 +126,7 @@ no_new_hold b z y (LinkLoad p None) r k c l n = let g = linked_some b z.memory p
 no_new_hold b z y (LinkLoad p (Some q)) r k c l n = let f = (and_both _ _ (and_both _ _ c.fits).0).0 in
     let g = linked_some b z.memory p _ r f (c.places_out p f) n in let h = c.balance in let i = c.count in let j = l.no_inc in omega arith
 no_new_hold b z y (Publish q x) r k c l n = false≢true (sym c.not_fresh ∙ n)
+no_new_hold b z y (MoveOn q x) r k c l n = false≢true (sym c.not_fresh ∙ n)
 no_new_hold b z y (Arm q) r k c l n = no_arm b z y q r k c l n.0
 no_new_hold b z y (CounterLoad q Check) r k c l n = n
 no_new_hold b z y (CounterLoad q Start) r k c l n = n

@@ -17,9 +17,9 @@ use Rattle.orc_core.specs.RecordParts.{checked_below, doom_at, is_empty, names, 
 use Rattle.orc_core.specs.Sums.{sum_below}
 use Rattle.orc_core.specs.declared.ops.CounterUse.TheVariants.{Check, End, Start}
 use Rattle.orc_core.specs.declared.ops.Op.{Op}
-use Rattle.orc_core.specs.declared.ops.Op.TheVariants.{CounterLoad, Dec, Fill, Free, GateLook, GateTake, Inc, LinkCas, LinkStore, Read, SetRetired, Unretire}
+use Rattle.orc_core.specs.declared.ops.Op.TheVariants.{CounterLoad, Dec, Fill, Free, GateLook, GateTake, Inc, LinkCas, LinkStore, Read, SetRetired, Unretire, DecHeld}
 use Rattle.orc_core.specs.declared.records.Agent.{Agent}
-use Rattle.orc_sound.proofs.Bits.{bit_le, dec_bounds, inc_bounds, link_le, unretire_one}
+use Rattle.orc_sound.proofs.Bits.{bit_le, dec_bounds, dec_held_bounds, inc_bounds, link_le, unretire_one}
 use Rattle.orc_sound.proofs.Change.{decs_seat, incs_seat, link_part, linked_write}
 use Rattle.orc_sound.proofs.CountedStep.{balance_kept, step_within}
 use Rattle.orc_sound.proofs.CounterWords.{clear_sequence, dec_sequence, inc_sequence}
@@ -147,6 +147,10 @@ quota_local b z a (Inc q) r p lo h n =
     (z.seats a).inc c (and_both _ _ p.fits).1
 quota_local b z a (Dec q) r p lo h n =
     let c = dec_sequence _ (lo q) (dec_bounds b z a q p) in
+    dec_quota q r (sequence_of (z.memory (Counter q))) _ (bit (checked_below (z.seats a).checked r (b.limit + 64))) (bit (names (z.seats a).inc r))
+    (z.seats a).dec c (and_both _ _ (and_both _ _ p.fits).0).1
+quota_local b z a (DecHeld q) r p lo h n =
+    let c = dec_sequence _ (lo q) (dec_held_bounds b z a q p) in
     dec_quota q r (sequence_of (z.memory (Counter q))) _ (bit (checked_below (z.seats a).checked r (b.limit + 64))) (bit (names (z.seats a).inc r))
     (z.seats a).dec c (and_both _ _ (and_both _ _ p.fits).0).1
 quota_local b z a (CounterLoad q Check) r p lo h n = absurd (n q refl)

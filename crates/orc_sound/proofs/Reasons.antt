@@ -16,14 +16,14 @@ use Rattle.orc_core.specs.RecordParts.{doom_bare, doom_cut, holds, is_due, kept,
 use Rattle.orc_core.specs.Sums.{sum_below}
 use Rattle.orc_core.specs.declared.ops.CounterUse.TheVariants.{Check, End, Start}
 use Rattle.orc_core.specs.declared.ops.Op.{Op}
-use Rattle.orc_core.specs.declared.ops.Op.TheVariants.{CounterLoad, Dec, Fill, Free, GateLook, GateTake, Inc, LinkCas, LinkLoad, LinkStore, Read, SetRetired, Unretire}
+use Rattle.orc_core.specs.declared.ops.Op.TheVariants.{CounterLoad, Dec, Fill, Free, GateLook, GateTake, Inc, LinkCas, LinkLoad, LinkStore, Read, SetRetired, Unretire, DecHeld}
 use Rattle.orc_core.specs.declared.records.Agent.{Agent}
 use Rattle.orc_core.specs.declared.records.Doom.{Doom}
 use Rattle.orc_core.specs.declared.records.Reading.{Reading}
 use Rattle.orc_sound.proofs.Balances.{same_names}
 use Rattle.orc_sound.proofs.DoomedStep.{cut_bare, fill_counter}
 use Rattle.orc_sound.proofs.Facts.{out}
-use Rattle.orc_sound.proofs.Pending.{dec_waits, inc_waits, try_waits}
+use Rattle.orc_sound.proofs.Pending.{dec_held_waits, dec_waits, inc_waits, try_waits}
 use Rattle.orc_sound.proofs.Sources.{write_same}
 use Rattle.orc_sound.proofs.Sums.{sum_member, sum_put}
 use Rattle.orc_sound.proofs.World.{World, seat, write}
@@ -284,6 +284,9 @@ reason b e a (Inc q) d m r f u z g =
 reason b e a (Dec q) d m r f u z g =
     ⊎_elim (λ k. inl k) (λ k. inr (inl (k.0, omega arith, k.1)))
     (dec_reason m d q r ((m (Counter q) + 16777215) % 18446744073709551616) (r == q) refl (is_none_of d.due (dec_waits d.due d.inc d.dec q u).0))
+reason b e a (DecHeld q) d m r f u z g =
+    ⊎_elim (λ k. inl k) (λ k. inr (inl (k.0, omega arith, k.1)))
+    (dec_reason m d q r ((m (Counter q) + 16777215) % 18446744073709551616) (r == q) refl (is_none_of d.due (dec_held_waits d.due d.inc d.dec q u).0))
 reason b e a (SetRetired q n) d m r f u z g =
     ⊎_elim (λ k. inl k) (λ k. inr (inl (k.0, omega arith, k.1)))
     (set_reason m d q n r (m (Counter q) == clear_word n) (r == q) refl refl

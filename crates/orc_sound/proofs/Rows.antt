@@ -16,7 +16,7 @@ use Rattle.orc_core.specs.RecordParts.{names, scan_found, scanned, scans}
 use Rattle.orc_core.specs.Sums.{sum_below}
 use Rattle.orc_core.specs.declared.ops.CounterUse.TheVariants.{Check, End, Start}
 use Rattle.orc_core.specs.declared.ops.Op.{Op}
-use Rattle.orc_core.specs.declared.ops.Op.TheVariants.{CounterLoad, Fill, Hand, LinkCas, LinkLoad, Read, SetRetired, TakeIn, LinkStore}
+use Rattle.orc_core.specs.declared.ops.Op.TheVariants.{CounterLoad, Fill, Hand, LinkCas, LinkLoad, Read, SetRetired, TakeIn, LinkStore, HandoverLook}
 use Rattle.orc_core.specs.declared.records.Agent.{Agent}
 use Rattle.orc_core.specs.declared.records.Scan.{Scan}
 use Rattle.orc_sound.proofs.Facts.{Counted, LawfulStep}
@@ -48,6 +48,7 @@ handover_stays b e a (LinkCas (Side i) y t) d m x k f n = refl
 handover_stays b e a (LinkCas p y t) d m x k f n = grind arith
 handover_stays b e a (Fill q w v) d m x k f n = grind arith
 handover_stays b e a (Read q w) d m x k f n = write_same m (cond (w == 0) (First q) (Second q)) (Handover x k)
+handover_stays b e a (HandoverLook j) d m x k f n = write_same m (Handover a j) (Handover x k)
 handover_stays b e a (Hand j) d m x k f n = absurd (false≢true (sym n))
 handover_stays b e a (TakeIn j) d m x k f n = absurd (false≢true (sym n))
 handover_stays b e a (LinkStore lq ll zero) d m x k f n = refl

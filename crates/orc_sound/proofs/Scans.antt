@@ -13,12 +13,12 @@ use Rattle.orc_core.specs.Listed.{first_is}
 use Rattle.orc_core.specs.RecordParts.{any_holds, holds, kept, names, scan_at, scan_empty, scan_found, scans, slot_of}
 use Rattle.orc_core.specs.declared.ops.CounterUse.TheVariants.{Check, End, Start}
 use Rattle.orc_core.specs.declared.ops.Op.{Op}
-use Rattle.orc_core.specs.declared.ops.Op.TheVariants.{CounterLoad, Dec, Hand, Inc, SlotLook, Unretire}
+use Rattle.orc_core.specs.declared.ops.Op.TheVariants.{CounterLoad, Dec, Hand, Inc, SlotLook, Unretire, DecHeld}
 use Rattle.orc_core.specs.declared.records.Agent.{Agent}
 use Rattle.orc_core.specs.declared.records.Scan.{Scan}
 use Rattle.orc_core.specs.declared.records.SlotUse.{SlotUse}
 use Rattle.orc_core.specs.declared.records.SlotUse.TheVariants.{Empty, Held, Published}
-use Rattle.orc_sound.proofs.Bits.{dec_bounds, inc_bounds, retired_one, scan_places}
+use Rattle.orc_sound.proofs.Bits.{dec_bounds, dec_held_bounds, inc_bounds, retired_one, scan_places}
 use Rattle.orc_sound.proofs.CounterWords.{dec_sequence, inc_sequence}
 use Rattle.orc_sound.proofs.DoomedStep.{EndingStep, agent_below, count_stays, ends, sequence_stays, two_places}
 use Rattle.orc_sound.proofs.Facts.{Counted, EnrolmentFits, Gone, LawfulStep, decs}
@@ -79,6 +79,7 @@ pub sequence_counts : (b : Bounds) (z : World) (a : ℕ) (op : Op) (r : ℕ) →
     → sequence_of ((step_world z a op).memory (Counter r)) ≡ sequence_of (z.memory (Counter r)) + 1
 sequence_counts b z a (Inc q) r p l h = rw (← eqb-true q r h, eq-eqb q q refl) (inc_sequence (z.memory (Counter q)) (l q) (inc_bounds b z a q p))
 sequence_counts b z a (Dec q) r p l h = rw (← eqb-true q r h, eq-eqb q q refl) (dec_sequence (z.memory (Counter q)) (l q) (dec_bounds b z a q p))
+sequence_counts b z a (DecHeld q) r p l h = rw (← eqb-true q r h, eq-eqb q q refl) (dec_sequence (z.memory (Counter q)) (l q) (dec_held_bounds b z a q p))
 sequence_counts b z a op r p l h = absurd (false≢true h)
 
 pub sequence_rises : (b : Bounds) (z : World) (a : ℕ) (op : Op) (r : ℕ) → ScanStep b z a op

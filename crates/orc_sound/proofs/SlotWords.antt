@@ -13,7 +13,7 @@ use Rattle.orc_core.specs.After.{after, promoted}
 use Rattle.orc_core.specs.Allowed.{fits}
 use Rattle.orc_core.specs.RecordParts.{is_published, names, slot_of}
 use Rattle.orc_core.specs.declared.ops.Op.{Op}
-use Rattle.orc_core.specs.declared.ops.Op.TheVariants.{Arm, Clear, Fill, LinkCas, LinkLoad, Publish, Read, SlotLook, LinkStore}
+use Rattle.orc_core.specs.declared.ops.Op.TheVariants.{Arm, Clear, Fill, LinkCas, LinkLoad, Publish, Read, SlotLook, LinkStore, MoveOn}
 use Rattle.orc_core.specs.declared.records.Agent.{Agent}
 use Rattle.orc_core.specs.declared.records.SlotUse.{SlotUse}
 use Rattle.orc_core.specs.declared.records.SlotUse.TheVariants.{Empty, Held, Published}
@@ -57,6 +57,8 @@ own_fits b e a (LinkLoad p (Some j)) d m k f l h =
     rw (write_same m p (Slot a k)) (promoted_fits d j k (m p) _ (rw l (ltb-true _ _ (and_both _ _ (and_both _ _ f).0).1)) h)
 own_fits b e a (Publish j q) d m k f l h = set_fits m d a j k (q + 1) _ (rw l (ltb-true _ _ (and_both _ _ (and_both _ _ (and_both _ _ f).0).0).1))
     (publish_word (names d.fresh q) q) h
+own_fits b e a (MoveOn j q) d m k f l h = set_fits m d a j k (q + 1) _ (rw l (ltb-true _ _ (and_both _ _ (and_both _ _ (and_both _ _ (and_both _ _ f).0).0).0).1))
+    (publish_word (names d.fresh q) q) h
 own_fits b e a (Clear j) d m k f l h = set_fits m d a j k 0 Empty (rw l (ltb-true _ _ (and_both _ _ (and_both _ _ f).0).0)) refl h
 own_fits b e a (Arm q) d m k f l h = set_fits m d a 0 k (q + 1) (Held q) (rw l (omega arith)) refl h
 own_fits b e a (LinkCas (Root i) x t) d m k f l h = h
@@ -74,6 +76,7 @@ pub other_slot : (b : Bounds) (e a : ℕ) (op : Op) (d : Agent) (m : Word → �
     → write m (action_of a op d).word (word_after (action_of a op d).operation (m (action_of a op d).word)) (Slot x k) ≡ m (Slot x k)
 other_slot b e a (LinkLoad p j) d m x k f n = write_same m p (Slot x k)
 other_slot b e a (Publish j q) d m x k f n = rw n
+other_slot b e a (MoveOn j q) d m x k f n = rw n
 other_slot b e a (Clear j) d m x k f n = rw n
 other_slot b e a (Arm q) d m x k f n = rw n
 other_slot b e a (LinkCas (Root i) y t) d m x k f n = refl
@@ -92,6 +95,7 @@ eight_kept : (op : Op) (d : Agent) (v : ℕ) → length d.slots ≡ 8 → length
 eight_kept (LinkLoad p None) d v h = h
 eight_kept (LinkLoad p (Some k)) d v h = length-set d.slots k _ ∙ h
 eight_kept (Publish k q) d v h = length-set d.slots k _ ∙ h
+eight_kept (MoveOn k q) d v h = length-set d.slots k _ ∙ h
 eight_kept (Clear k) d v h = length-set d.slots k _ ∙ h
 eight_kept (Arm q) d v h = length-set d.slots 0 _ ∙ h
 eight_kept op d v h = h
@@ -112,6 +116,8 @@ first_kept : (b : Bounds) (e a : ℕ) (op : Op) (d : Agent) (v : ℕ) → fits b
 first_kept b e a (LinkLoad p None) d v f h = h
 first_kept b e a (LinkLoad p (Some k)) d v f h = set_first d.slots k _ h (λ n. promoted_first (slot_of d k) v (rw n h))
 first_kept b e a (Publish k q) d v f h = let g = ltb-true 0 k (and_both _ _ (and_both _ _ (and_both _ _ f).0).0).0 in
+    set_first d.slots k _ h (λ n. absurd (omega arith))
+first_kept b e a (MoveOn k q) d v f h = let g = ltb-true 0 k (and_both _ _ (and_both _ _ (and_both _ _ (and_both _ _ f).0).0).0).0 in
     set_first d.slots k _ h (λ n. absurd (omega arith))
 first_kept b e a (Clear k) d v f h = set_first d.slots k Empty h (λ n. refl)
 first_kept b e a (Arm q) d v f h = set_first d.slots 0 (Held q) h (λ n. refl)

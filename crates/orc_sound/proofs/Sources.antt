@@ -13,7 +13,7 @@ use Rattle.orc_core.specs.After.{after, promoted}
 use Rattle.orc_core.specs.Allowed.{fits}
 use Rattle.orc_core.specs.RecordParts.{any_holds, holds, names, number_of, saw, scans, slot_of}
 use Rattle.orc_core.specs.declared.ops.Op.{Op}
-use Rattle.orc_core.specs.declared.ops.Op.TheVariants.{Arm, Clear, Dec, Fill, Free, GateLook, GateTake, Inc, LinkCas, LinkLoad, LinkStore, Publish, Read, SetRetired, Unretire}
+use Rattle.orc_core.specs.declared.ops.Op.TheVariants.{Arm, Clear, Dec, Fill, Free, GateLook, GateTake, Inc, LinkCas, LinkLoad, LinkStore, Publish, Read, SetRetired, Unretire, MoveOn, DecHeld}
 use Rattle.orc_core.specs.declared.records.Agent.{Agent}
 use Rattle.orc_core.specs.declared.records.Scan.{Scan}
 use Rattle.orc_core.specs.declared.records.SlotUse.{SlotUse}
@@ -43,6 +43,7 @@ promoted_holds (Published q) v r h = grind arith
 abbrev pub NewHold : Op → Agent → ℕ → ℕ → Type 0
 NewHold (LinkLoad p k) d v r = to_row v r ≡ 1
 NewHold (Publish k q) d v r = names d.fresh r ≡ true
+NewHold (MoveOn k q) d v r = names d.fresh r ≡ true
 NewHold (Arm q) d v r = (r ≡ q) × ((names d.dec q ≡ true) ⊎ (scans d.scan q ≡ true))
 NewHold _ d v r = ⊥
 
@@ -52,6 +53,7 @@ holds_source b e a (LinkLoad p None) d v r f h = inl h
 holds_source b e a (LinkLoad p (Some k)) d v r f h =
     grind (arith, any_holds_set d.slots k (promoted (slot_of d k) v) r h, promoted_holds (slot_of d k) v r, any_holds_at d.slots k r)
 holds_source b e a (Publish k q) d v r f h = grind (arith, any_holds_set d.slots k (cond (names d.fresh q) (Held q) (Published q)) r h)
+holds_source b e a (MoveOn k q) d v r f h = grind (arith, any_holds_set d.slots k (cond (names d.fresh q) (Held q) (Published q)) r h)
 holds_source b e a (Clear k) d v r f h = grind (arith, any_holds_set d.slots k Empty r h)
 holds_source b e a (Arm q) d v r f h = grind (arith, any_holds_set d.slots 0 (Held q) r h)
 holds_source b e a op d v r f h = inl h
@@ -89,6 +91,7 @@ pub dec_source : (op : Op) (d : Agent) (v r : ℕ) → names (after op d v).dec 
 dec_source (LinkCas p f t) d v r h = grind arith
 dec_source (LinkStore q l nr) d v r h = grind arith
 dec_source (Dec q) d v r h = grind arith
+dec_source (DecHeld q) d v r h = grind arith
 dec_source op d v r h = inl h
 
 -- a word that is written with what it holds
@@ -124,12 +127,14 @@ out_stays m b e a op d r f n h = h
 abbrev pub counts : Op → Option Scan → ℕ → Bool
 counts (Inc q) s r = q == r
 counts (Dec q) s r = q == r
+counts (DecHeld q) s r = q == r
 counts (Unretire q) s r = (q == r) && is_some s
 counts _ s r = false
 
 pub due_source : (op : Op) (d : Agent) (v r : ℕ) → saw (after op d v).due r ≡ true → (saw d.due r ≡ true) ⊎ (counts op d.scan r ≡ true)
 due_source (Inc q) d v r h = grind arith
 due_source (Dec q) d v r h = grind arith
+due_source (DecHeld q) d v r h = grind arith
 due_source (Unretire q) d v r h = grind arith
 due_source (SetRetired q n) d v r h = grind arith
 due_source op d v r h = inl h

@@ -9,7 +9,7 @@ use Rattle.orc_core.specs.After.{after}
 use Rattle.orc_core.specs.Allowed.{fits, may_target}
 use Rattle.orc_core.specs.RecordParts.{any_holds, doom_cut, holds, names, saw, scans, slot_of}
 use Rattle.orc_core.specs.declared.ops.Op.{Op}
-use Rattle.orc_core.specs.declared.ops.Op.TheVariants.{Arm, Dec, GateTake, Inc, LinkCas, LinkLoad, LinkStore, Publish, Unretire}
+use Rattle.orc_core.specs.declared.ops.Op.TheVariants.{Arm, Dec, GateTake, Inc, LinkCas, LinkLoad, LinkStore, Publish, Unretire, MoveOn, DecHeld}
 use Rattle.orc_core.specs.declared.records.Agent.{Agent}
 use Rattle.orc_core.specs.declared.records.Doom.{Doom}
 use Rattle.orc_sound.proofs.Facts.{to_row}
@@ -69,6 +69,7 @@ names_link w r h = grind arith
 hold_use : (op : Op) (d : Agent) (v r : ℕ) → NewHold op d v r → (uses d r ≡ true) ⊎ NewUse op d v r
 hold_use (LinkLoad p k) d v r h = inr h
 hold_use (Publish k q) d v r h = inl (fresh_uses d r h)
+hold_use (MoveOn k q) d v r h = inl (fresh_uses d r h)
 hold_use (Arm q) d v r h = ⊎_elim (λ k. inl (dec_uses d r (rw h.0 k))) (λ k. inr (h.0, k)) h.1
 hold_use op d v r h = absurd h
 
@@ -99,6 +100,7 @@ pub counts_held : (b : Bounds) (e a : ℕ) (op : Op) (d : Agent) (r : ℕ) → f
     → (names d.inc r ≡ true → any_holds d.slots r ≡ true) → counts op d.scan r ≡ true → any_holds d.slots r ≡ true
 counts_held b e a (Inc q) d r f o i h = i (rw (← eqb-true q r h) (and_both _ _ f).1)
 counts_held b e a (Dec q) d r f o i h = rw (← eqb-true q r h) (any_holds_at d.slots 0 q (and_both _ _ f).1)
+counts_held b e a (DecHeld q) d r f o i h = rw (← eqb-true q r h) (and_both _ _ f).1
 counts_held b e a (Unretire q) d r f o i h = rw (← eqb-true q r (and_both _ _ h).0) (any_holds_at d.slots 0 q (unretire_holds b e a q d f (and_both _ _ h).1 o))
 counts_held b e a op d r f o i h = absurd (false≢true h)
 

@@ -39,6 +39,9 @@ kind_for (op.SlotLook k) = kind.Slot
 kind_for (op.Hand k) = kind.Hand
 kind_for (op.TakeIn k) = kind.TakeIn
 kind_for (op.Free r) = kind.Free
+kind_for (op.MoveOn k r) = kind.MoveOn
+kind_for (op.HandoverLook k) = kind.Handover
+kind_for (op.DecHeld r) = kind.DecHeld
 
 -- ---- the words behind a kind's own, by what they are
 
@@ -89,6 +92,9 @@ Spelled b kind.Slot ws o = OfNumber (8 * b.agents) (λ k. op.SlotLook k) ws o
 Spelled b kind.Hand ws o = OfNumber (8 * b.agents) (λ k. op.Hand k) ws o
 Spelled b kind.TakeIn ws o = OfNumber 8 (λ k. op.TakeIn k) ws o
 Spelled b kind.Free ws o = OfNumber b.rows (λ r. op.Free r) ws o
+Spelled b kind.MoveOn ws o = OfNumbers 8 b.rows (λ k r. op.MoveOn k r) ws o
+Spelled b kind.Handover ws o = OfNumber 8 (λ k. op.HandoverLook k) ws o
+Spelled b kind.DecHeld ws o = OfNumber b.rows (λ r. op.DecHeld r) ws o
 
 -- each op that can be read is so spelled
 pub own : (b : Bounds) (o : Op) → IsReadableOp b o → (ws : List (List ℕ)) × (words_of o ≡ kind_word (kind_for o) ∷ ws) × Spelled b (kind_for o) ws o
@@ -116,6 +122,9 @@ own b (op.SlotLook k) h = (_, refl, (k, h, refl, refl))
 own b (op.Hand k) h = (_, refl, (k, h, refl, refl))
 own b (op.TakeIn k) h = (_, refl, (k, h, refl, refl))
 own b (op.Free r) h = (_, refl, (r, h, refl, refl))
+own b (op.MoveOn k r) h = (_, refl, (k, r, h.0, h.1, refl, refl))
+own b (op.HandoverLook k) h = (_, refl, (k, h, refl, refl))
+own b (op.DecHeld r) h = (_, refl, (r, h, refl, refl))
 
 -- an op that is spelled by the word of a kind has the numbers, places and links of that kind
 pub spelled : (b : Bounds) (k : Kind) (ws : List (List ℕ)) (o : Op) → Spells b k ws o → Spelled b k ws o
@@ -203,6 +212,9 @@ one-op b kind.Slot ws o p s h i = let few = s.agents in one-number (8 * b.agents
 one-op b kind.Hand ws o p s h i = let few = s.agents in one-number (8 * b.agents) (λ k. op.Hand k) ws o p (omega arith) h i
 one-op b kind.TakeIn ws o p s h i = one-number 8 (λ k. op.TakeIn k) ws o p (omega arith) h i
 one-op b kind.Free ws o p s h i = let few = s.rows in one-number b.rows (λ r. op.Free r) ws o p (omega arith) h i
+one-op b kind.MoveOn ws o p s h i = let few = s.rows in two-numbers 8 b.rows (λ k r. op.MoveOn k r) ws o p (omega arith) (omega arith) h i
+one-op b kind.Handover ws o p s h i = one-number 8 (λ k. op.HandoverLook k) ws o p (omega arith) h i
+one-op b kind.DecHeld ws o p s h i = let few = s.rows in one-number b.rows (λ r. op.DecHeld r) ws o p (omega arith) h i
 
 pub words_of-injective : (b : Bounds) (o p : Op) → IsShape b → IsReadableOp b o → IsReadableOp b p → words_of o ≡ words_of p → o ≡ p
 words_of-injective b o p s h k e =

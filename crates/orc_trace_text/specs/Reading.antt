@@ -50,6 +50,9 @@ kind_word kind.Slot = codes "slot"
 kind_word kind.Hand = codes "hand"
 kind_word kind.TakeIn = codes "takein"
 kind_word kind.Free = codes "free"
+kind_word kind.MoveOn = codes "moveon"
+kind_word kind.Handover = codes "handover"
+kind_word kind.DecHeld = codes "decheld"
 
 -- an op that can be read is spelled by the word of this kind and these others
 abbrev pub Spells : Bounds → Kind → List (List ℕ) → Op → Type 0

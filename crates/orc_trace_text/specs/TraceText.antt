@@ -10,7 +10,7 @@ use Rattle.orc_words.specs.declared.place.Word.TheVariants.{Root, Next, Side}
 use Rattle.orc_words.specs.Bounds.{Bounds}
 use Rattle.orc_core.specs.declared.ops.CounterUse.TheVariants.{Check, Start, End}
 use Rattle.orc_core.specs.declared.ops.Op.{Op}
-use Rattle.orc_core.specs.declared.ops.Op.TheVariants.{Enroll, GateLook, GateTake, Fill, Read, LinkLoad, Publish, Clear, Arm, LinkCas, LinkStore, Inc, Dec, SetRetired, CounterLoad, Unretire, SlotLook, Hand, TakeIn, Free}
+use Rattle.orc_core.specs.declared.ops.Op.TheVariants.{Enroll, GateLook, GateTake, Fill, Read, LinkLoad, Publish, Clear, Arm, LinkCas, LinkStore, Inc, Dec, SetRetired, CounterLoad, Unretire, SlotLook, Hand, TakeIn, Free, MoveOn, HandoverLook, DecHeld}
 
 -- a place: `r` and a root, or `n` or `s` and the row whose first or second link it is; other words have no text
 abbrev pub place_text : Word → List ℕ
@@ -58,6 +58,9 @@ words_of (SlotLook k) = codes "slot" ∷ decimal k ∷ []
 words_of (Hand k) = codes "hand" ∷ decimal k ∷ []
 words_of (TakeIn k) = codes "takein" ∷ decimal k ∷ []
 words_of (Free r) = codes "free" ∷ decimal r ∷ []
+words_of (MoveOn k r) = codes "moveon" ∷ decimal k ∷ decimal r ∷ []
+words_of (HandoverLook k) = codes "handover" ∷ decimal k ∷ []
+words_of (DecHeld r) = codes "decheld" ∷ decimal r ∷ []
 
 -- a step of an agent, on its line: the agent and the words, with one space between two of them
 abbrev pub line_text : ℕ → Op → List ℕ
@@ -126,6 +129,9 @@ IsReadableOp b (SlotLook k) = k < 8 * b.agents
 IsReadableOp b (Hand k) = k < 8 * b.agents
 IsReadableOp b (TakeIn k) = k < 8
 IsReadableOp b (Free r) = r < b.rows
+IsReadableOp b (MoveOn k r) = (k < 8) × (r < b.rows)
+IsReadableOp b (HandoverLook k) = k < 8
+IsReadableOp b (DecHeld r) = r < b.rows
 
 abbrev pub IsReadable : Bounds → ℕ × Op → Type 0
 IsReadable b s = (s.0 < b.agents) × IsReadableOp b s.1

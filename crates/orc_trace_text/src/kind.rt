@@ -30,10 +30,13 @@ pub enum Kind {
     Hand,
     TakeIn,
     Free,
+    MoveOn,
+    Handover,
+    DecHeld,
 }
 
 // All of them.
-const KINDS: [Kind; 23] = [
+const KINDS: [Kind; 26] = [
     Kind::Enroll,
     Kind::Look,
     Kind::Take,
@@ -57,6 +60,9 @@ const KINDS: [Kind; 23] = [
     Kind::Hand,
     Kind::TakeIn,
     Kind::Free,
+    Kind::MoveOn,
+    Kind::Handover,
+    Kind::DecHeld,
 ];
 
 impl Kind {
@@ -88,6 +94,9 @@ impl Kind {
             Kind::Hand => b"hand",
             Kind::TakeIn => b"takein",
             Kind::Free => b"free",
+            Kind::MoveOn => b"moveon",
+            Kind::Handover => b"handover",
+            Kind::DecHeld => b"decheld",
         }
     }
 }

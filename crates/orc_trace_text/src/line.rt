@@ -114,6 +114,15 @@ fn read_publish(shape: &Shape, left: Option<&[u8]>) -> Option<Op>
     Some(Op::Publish { slot, row })
 }
 
+// A slot and the row that it moves on to.
+fn read_move(shape: &Shape, left: Option<&[u8]>) -> Option<Op>
+    ensures some { IfSome result (Spells (bounds_of shape.now) Kind.MoveOn (words_left (option_copied left.entry))) }
+    ensures none { IfNone result ((op : Op) → ¬ Spells (bounds_of shape.now) Kind.MoveOn (words_left (option_copied left.entry)) op) }
+{
+    let (slot, row) = two_numbers(left, 8, shape.rows())?;
+    Some(Op::MoveOn { slot, row })
+}
+
 // The op of a kind, by the words that are left behind its own.
 fn op_of(shape: &Shape, kind: Kind, left: Option<&[u8]>) -> Option<Op>
     ensures some { IfSome result (Spells (bounds_of shape.now) kind (words_left (option_copied left.entry))) }
@@ -173,6 +182,13 @@ fn op_of(shape: &Shape, kind: Kind, left: Option<&[u8]>) -> Option<Op>
             slot: one_number(left, 8)?,
         }),
         Kind::Free => Some(Op::Free {
+            row: one_number(left, shape.rows())?,
+        }),
+        Kind::MoveOn => read_move(shape, left),
+        Kind::Handover => Some(Op::HandoverLook {
+            slot: one_number(left, 8)?,
+        }),
+        Kind::DecHeld => Some(Op::DecHeld {
             row: one_number(left, shape.rows())?,
         }),
     }

@@ -79,6 +79,9 @@ fn make_allowed(board: &Queue, p: &mut QueuePass, op: Op) -> Option<u64>
         Op::Hand { k } => Some(board.hand(p, k)),
         Op::TakeIn { slot } => Some(board.take_in(p, slot)),
         Op::Free { row } => Some(board.free(p, row)),
+        Op::MoveOn { slot, row } => Some(board.move_on(p, slot, row)),
+        Op::HandoverLook { slot } => Some(board.handover_look(p, slot)),
+        Op::DecHeld { row } => Some(board.dec_held(p, row)),
     }
 }
 

@@ -10,6 +10,7 @@ use std::process::Abort;
 use std::test::Fail;
 
 mod examples;
+mod fewer_steps;
 mod permissions;
 mod two_links;
 
@@ -195,6 +196,9 @@ fn a_refused_step_of_each_kind(rt: HostRuntime) -> Result<(), Fail> {
         Op::Hand { k: 0 },
         Op::TakeIn { slot: 8 },
         Op::Free { row: 0 },
+        Op::MoveOn { slot: 1, row: 0 },
+        Op::HandoverLook { slot: 8 },
+        Op::DecHeld { row: 0 },
     ] {
         assert_eq!(rt; step(&mut state, 0, op), Err(NotAllowed), "{op:?}");
     }
@@ -215,4 +219,7 @@ fn the_laws_are_called(_rt: HostRuntime) {
     a_step_writes_one_word_and_one_record();
     runs_go_on();
     every_run_is_whole();
+    moving_on_is_clearing_and_publishing();
+    a_look_at_nothing_is_a_take_in_of_nothing();
+    a_decrement_under_a_hold_is_a_decrement();
 }

@@ -26,6 +26,9 @@ fn lines()
     ensures cas { line_text 0 (Op.LinkCas (Word.Next 0) (record { to = None; mark = false }) (record { to = Some 1; mark = true })) ≡ codes "0 cas n0 - 1m" }
     ensures store { line_text 0 (Op.LinkStore 1 (record { to = None; mark = false }) 0) ≡ codes "0 store 1 -" }
     ensures side_store { line_text 0 (Op.LinkStore 1 (record { to = Some 0; mark = false }) 1) ≡ codes "0 side 1 0" }
+    ensures moveon { line_text 1 (Op.MoveOn 2 0) ≡ codes "1 moveon 2 0" }
+    ensures handover { line_text 1 (Op.HandoverLook 2) ≡ codes "1 handover 2" }
+    ensures decheld { line_text 0 (Op.DecHeld 1) ≡ codes "0 decheld 1" }
     ensures steps { steps_text ((0, Op.Enroll) ∷ (0, Op.CounterLoad 0 CounterUse.Start) ∷ []) ≡ codes "0 enroll\n0 start 0\n" }
 {}
 

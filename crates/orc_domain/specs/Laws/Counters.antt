@@ -7,7 +7,7 @@ use mathlib.Core.Logic.{dite}
 use Rattle.orc_core.proofs.Within.{and_both}
 use Rattle.orc_core.specs.RecordParts.{any_holds, doom_cut, holds, is_due, names, saw, scan_empty, scans, slot_of}
 use Rattle.orc_core.specs.declared.ops.Op.{Op}
-use Rattle.orc_core.specs.declared.ops.Op.TheVariants.{Arm, Clear, CounterLoad, Dec, Enroll, Fill, Free, GateLook, GateTake, Hand, Inc, LinkCas, LinkLoad, LinkStore, Publish, Read, SetRetired, SlotLook, TakeIn, Unretire}
+use Rattle.orc_core.specs.declared.ops.Op.TheVariants.{Arm, Clear, CounterLoad, Dec, Enroll, Fill, Free, GateLook, GateTake, Hand, Inc, LinkCas, LinkLoad, LinkStore, Publish, Read, SetRetired, SlotLook, TakeIn, Unretire, MoveOn, HandoverLook, DecHeld}
 use Rattle.orc_core.specs.declared.records.Agent.{Agent}
 use Rattle.orc_core.specs.declared.records.Doom.{Doom}
 use Rattle.orc_core.specs.declared.records.Reading.{Reading}
@@ -116,6 +116,12 @@ counter_source b z a (SlotLook j) r l = inl refl
 counter_source b z a (Hand j) r l = inl refl
 counter_source b z a (TakeIn j) r l = inl refl
 counter_source b z a (Free q) r l = inl refl
+counter_source b z a (MoveOn j q) r l = inl refl
+counter_source b z a (HandoverLook j) r l = inl refl
+counter_source b z a (DecHeld q) r l =
+    let d = z.seats a in
+    let two = and_both (nat_lt q b.rows && names d.dec q) (any_holds d.slots q) l.fits in
+    write_counter z.memory q _ r (λ y. (uses d y ≡ true) ⊎ (dooms d.doom y ≡ true)) (inl (uses_dec d q (and_both (nat_lt q b.rows) (names d.dec q) two.0).1))
 
 pub counter_change : (b : Bounds) (z : World) (a : ℕ) (op : Op) (r : ℕ) → LawfulStep b z a op → CounterStep z.memory (step_world z a op).memory r
 counter_change b z a op r l = ⊎_elim (λ same. inl same)

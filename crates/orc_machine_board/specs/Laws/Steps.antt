@@ -12,7 +12,7 @@ use Rattle.orc_core.specs.Machine.{Machine, is_allowed, new_machine, nobody, rec
 use Rattle.orc_core.specs.Runs.{run}
 use Rattle.orc_core.specs.declared.ops.CounterUse.TheVariants.{Check, End, Start}
 use Rattle.orc_core.specs.declared.ops.Op.{Op}
-use Rattle.orc_core.specs.declared.ops.Op.TheVariants.{Arm, Clear, CounterLoad, Dec, Enroll, Fill, Free, GateLook, GateTake, Hand, Inc, LinkCas, LinkLoad, LinkStore, Publish, Read, SetRetired, SlotLook, TakeIn, Unretire}
+use Rattle.orc_core.specs.declared.ops.Op.TheVariants.{Arm, Clear, CounterLoad, Dec, Enroll, Fill, Free, GateLook, GateTake, Hand, Inc, LinkCas, LinkLoad, LinkStore, Publish, Read, SetRetired, SlotLook, TakeIn, Unretire, MoveOn, HandoverLook, DecHeld}
 use Rattle.orc_core.specs.declared.records.Agent.{Agent}
 use Rattle.orc_layout.proofs.Indices.{index_is_layout}
 use Rattle.orc_projection.proofs.Mirrored.{StoresUnmarked-append, project-append}
@@ -67,6 +67,9 @@ permission b e f a (SlotLook k) d h = refl
 permission b e f a (Hand k) d h = refl
 permission b e f a (TakeIn k) d h = refl
 permission b e f a (Free r) d h = refl
+permission b e f a (MoveOn k r) d h = refl
+permission b e f a (HandoverLook k) d h = refl
+permission b e f a (DecHeld r) d h = refl
 
 -- what a step makes of the words and of the records
 words_of_step : (b : Bounds) (m : Machine) (a : ℕ) (op : Op) → m.bounds ≡ b

@@ -2,7 +2,7 @@
 //! docs/MACHINE.md. In the table of two rows, one root and two agents with limit 8 a scan ends at place 16. The counter words
 //! are 4,194,304 for count 0 and 4,194,305 for count 1.
 
-ghost use Rattle.std.specs.Prelude.{◌≡◌, ℕ, ◌∷◌, [], List, Option, Some, None, true, false};
+ghost use Rattle.std.specs.Prelude.{◌≡◌, ℕ, ◌∷◌, [], List, Option, Some, None, replicate, true, false};
 ghost use Rattle.orc_words.specs.Bounds.{Bounds};
 ghost use Rattle.orc_words.specs.declared.packed.RowLink.{RowLink};
 ghost use Rattle.orc_core.specs.declared.records.Agent.{Agent};
@@ -256,6 +256,32 @@ fn clear_the_bit_and_free()
     ensures take_in { let b : Bounds = record { rows = 2; roots = 1; agents = 2; limit = 8; links = 1 } in
         (fits b 1 0 (Op.TakeIn 7) (nobody 2) ≡ true) × (fits b 1 0 (Op.TakeIn 8) (nobody 2) ≡ false)
         × (fits b 1 0 (Op.TakeIn 1) (record (nobody 2) { slots = SlotUse.Empty ∷ SlotUse.Published 0 ∷ [] }) ≡ false) }
+{}
+
+// A slot from 1 to 7 that is used moves on to any row, unless it holds the fresh row. A handover word is looked at beside an
+// empty slot. A decrement under a hold needs the row in any slot that holds it, slot 0 or another.
+fn move_on_look_and_decrement()
+    ensures move_on { let b : Bounds = record { rows = 2; roots = 1; agents = 2; limit = 8; links = 1 } in
+        let d : SlotUse → Agent = λ s. record (nobody 2) { slots = s ∷ s ∷ [] } in
+        (fits b 1 0 (Op.MoveOn 1 1) (d (SlotUse.Held 0)) ≡ true) × (fits b 1 0 (Op.MoveOn 1 1) (d (SlotUse.Published 0)) ≡ true)
+        × (fits b 1 0 (Op.MoveOn 1 1) (d SlotUse.Empty) ≡ false) × (fits b 1 0 (Op.MoveOn 0 1) (d (SlotUse.Held 0)) ≡ false)
+        × (fits b 1 0 (Op.MoveOn 1 2) (d (SlotUse.Held 0)) ≡ false) }
+    ensures ninth_slot { let b : Bounds = record { rows = 2; roots = 1; agents = 2; limit = 8; links = 1 } in
+        let d : Agent = record (nobody 2) { slots = replicate 9 (SlotUse.Held 0) } in
+        (fits b 1 0 (Op.MoveOn 7 1) d ≡ true) × (fits b 1 0 (Op.MoveOn 8 1) d ≡ false) }
+    ensures from_fresh { let b : Bounds = record { rows = 2; roots = 1; agents = 2; limit = 8; links = 1 } in
+        let d : SlotUse → Agent = λ s. record (nobody 2) { fresh = Some 0; slots = SlotUse.Empty ∷ s ∷ [] } in
+        (fits b 1 0 (Op.MoveOn 1 1) (d (SlotUse.Held 0)) ≡ false) × (fits b 1 0 (Op.MoveOn 1 1) (d (SlotUse.Published 0)) ≡ true)
+        × (fits b 1 0 (Op.MoveOn 1 0) (d (SlotUse.Held 1)) ≡ true) }
+    ensures look { let b : Bounds = record { rows = 2; roots = 1; agents = 2; limit = 8; links = 1 } in
+        (fits b 1 0 (Op.HandoverLook 7) (nobody 2) ≡ true) × (fits b 1 0 (Op.HandoverLook 8) (nobody 2) ≡ false)
+        × (fits b 1 0 (Op.HandoverLook 1) (record (nobody 2) { slots = SlotUse.Empty ∷ SlotUse.Published 0 ∷ [] }) ≡ false) }
+    ensures decrement { let b : Bounds = record { rows = 2; roots = 1; agents = 2; limit = 8; links = 1 } in
+        let d : SlotUse → SlotUse → Agent = λ s t. record (nobody 2) { dec = Some 1; slots = s ∷ t ∷ [] } in
+        (fits b 1 0 (Op.DecHeld 1) (d SlotUse.Empty (SlotUse.Held 1)) ≡ true) × (fits b 1 0 (Op.DecHeld 1) (d (SlotUse.Held 1) SlotUse.Empty) ≡ true)
+        × (fits b 1 0 (Op.DecHeld 1) (d (SlotUse.Held 0) (SlotUse.Published 1)) ≡ false)
+        × (fits b 1 0 (Op.DecHeld 0) (d SlotUse.Empty (SlotUse.Held 0)) ≡ false)
+        × (fits b 1 0 (Op.DecHeld 2) (record (nobody 2) { dec = Some 2; slots = SlotUse.Held 2 ∷ [] }) ≡ false) }
 {}
 
 // A second link is a place where rows have two. A doomed row's links are taken out in their order, and its bit is cleared

@@ -41,3 +41,15 @@ returns-clause-steps c = refl
 pub returns-clause-not_marked : goal.returns-clause-not_marked
 unfolding digits
 returns-clause-not_marked c e = let size = ap length e in omega (arith, size)
+
+pub returns-clause-moveon : goal.returns-clause-moveon
+unfolding digits
+returns-clause-moveon c = refl
+
+pub returns-clause-handover : goal.returns-clause-handover
+unfolding digits
+returns-clause-handover c = refl
+
+pub returns-clause-decheld : goal.returns-clause-decheld
+unfolding digits
+returns-clause-decheld c = refl

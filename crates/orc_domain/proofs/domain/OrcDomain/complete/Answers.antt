@@ -1,4 +1,4 @@
-use Rattle.std.proofs.Common.{None, ap, subst, sym, ◌∙◌}
+use Rattle.std.proofs.Common.{None, subst, sym, ◌∙◌}
 use Rattle.orc_machine_board.specs.Views.{shows}
 use Rattle.orc_domain.proofs.Counting.{becomes_self, becomes_then, without_both, without_dec, without_inc}
 use Rattle.orc_domain.specs.Changes.{Becomes}

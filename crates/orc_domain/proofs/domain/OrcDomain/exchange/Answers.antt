@@ -1,13 +1,14 @@
-use Rattle.std.proofs.Common.{subst, sym, ◌∙◌}
+use Rattle.std.proofs.Common.{subst, sym, true, ◌∙◌, ◌≡◌}
+use Rattle.std.specs.Option.{ForSome}
 use Rattle.std.specs.Prelude.{None, cond}
-use Rattle.orc_core.specs.RecordParts.{same_target}
+use Rattle.orc_core.specs.RecordParts.{any_holds, same_target}
 use Rattle.orc_core.specs.declared.ops.Op.TheVariants.{LinkCas}
 use Rattle.orc_plain_domain.specs.Rows.{row_link, word_at}
 use Rattle.orc_machine_board.specs.Kinds.{MayDo, asks}
 use Rattle.orc_machine_board.specs.Licences.{MoveAllowed}
 use Rattle.orc_machine_board.specs.Rules.{heap_numbers}
 use Rattle.orc_machine_board.specs.Views.{Makes, shows}
-use Rattle.orc_domain.proofs.Exchanging.{countable, missed_leaves, missed_untouched, misses, swung, swung_down, swung_leaves, swung_untouched, swung_up}
+use Rattle.orc_domain.proofs.Exchanging.{countable, missed_leaves, old_held, missed_untouched, misses, swung, swung_down, swung_leaves, swung_untouched, swung_up}
 use Rattle.orc_domain.proofs.Linking.{cas_can, move_allowed}
 use Rattle.orc_domain.proofs.Stages.{Between, stage}
 use Rattle.orc_domain.specs.Passes.{domain_bounds}
@@ -78,14 +79,14 @@ returns-then-moved-ne1-clause-leaves g c =
     missed_leaves s t c.args.place.now c.args.from.now c.args.to.now c.args.note c.link_cas-moved.result m is r.place r.linked r.links.0 r.links.1
     c.if-moved-ne1.true
 
-pub complete-requires-clause-countable : goal.complete-requires-clause-countable
-complete-requires-clause-countable g c =
+pub complete_held-requires-clause-countable : goal.complete_held-requires-clause-countable
+complete_held-requires-clause-countable g c =
     let k = c.args.self.now.board.words.shape in
     let r = c.requires in
     let e = c.link_cas-moved.ensures in
     let s = stage g.D.Discipline k _ _ r.belongs.keeps in
     let t = stage g.D.Discipline k _ _ e.belongs.keeps in
-    let m = made g (goal.at.complete-requires-clause-countable g c).After-link_cas-moved in
+    let m = made g (goal.at.complete_held-requires-clause-countable g c).After-link_cas-moved in
     let is : Between s = record { ready = r.ready; untouched = r.untouched } in
     countable s t c.args.place.now c.args.from.now c.args.to.now c.args.note c.link_cas-moved.result m is r.place r.linked r.links.0 r.links.1
     c.if-moved-ne1.false
@@ -99,9 +100,9 @@ returns-clause-untouched g c =
     let t = stage g.D.Discipline k _ _ e.belongs.keeps in
     let m = made g (goal.at.returns-clause-untouched g c).After-link_cas-moved in
     let is : Between s = record { ready = r.ready; untouched = r.untouched } in
-    let u = stage g.D.Discipline k _ _ c.complete.ensures.belongs.keeps in
+    let u = stage g.D.Discipline k _ _ c.complete_held.ensures.belongs.keeps in
     swung_untouched s t c.args.place.now c.args.from.now c.args.to.now c.args.note c.link_cas-moved.result m is r.place r.linked r.links.0 r.links.1
-    c.if-moved-ne1.false u c.complete.ensures.becomes
+    c.if-moved-ne1.false u c.complete_held.ensures.becomes
 
 pub returns-clause-swung : goal.returns-clause-swung
 returns-clause-swung g c =
@@ -112,9 +113,9 @@ returns-clause-swung g c =
     let t = stage g.D.Discipline k _ _ e.belongs.keeps in
     let m = made g (goal.at.returns-clause-swung g c).After-link_cas-moved in
     let is : Between s = record { ready = r.ready; untouched = r.untouched } in
-    let u = stage g.D.Discipline k _ _ c.complete.ensures.belongs.keeps in
+    let u = stage g.D.Discipline k _ _ c.complete_held.ensures.belongs.keeps in
     swung s t c.args.place.now c.args.from.now c.args.to.now c.args.note c.link_cas-moved.result m is r.place r.linked r.links.0 r.links.1
-    c.if-moved-ne1.false u c.complete.ensures.becomes
+    c.if-moved-ne1.false u c.complete_held.ensures.becomes
 
 pub returns-clause-leaves : goal.returns-clause-leaves
 returns-clause-leaves g c =
@@ -125,32 +126,46 @@ returns-clause-leaves g c =
     let t = stage g.D.Discipline k _ _ e.belongs.keeps in
     let m = made g (goal.at.returns-clause-leaves g c).After-link_cas-moved in
     let is : Between s = record { ready = r.ready; untouched = r.untouched } in
-    let u = stage g.D.Discipline k _ _ c.complete.ensures.belongs.keeps in
+    let u = stage g.D.Discipline k _ _ c.complete_held.ensures.belongs.keeps in
     swung_leaves s t c.args.place.now c.args.from.now c.args.to.now c.args.note c.link_cas-moved.result m is r.place r.linked r.links.0 r.links.1
-    c.if-moved-ne1.false u c.complete.ensures.becomes
+    c.if-moved-ne1.false u c.complete_held.ensures.becomes
 
-pub complete-requires-clause-up : goal.complete-requires-clause-up
-complete-requires-clause-up g c =
+pub complete_held-requires-clause-up : goal.complete_held-requires-clause-up
+complete_held-requires-clause-up g c =
     let k = c.args.self.now.board.words.shape in
     let r = c.requires in
     let e = c.link_cas-moved.ensures in
     let s = stage g.D.Discipline k _ _ r.belongs.keeps in
     let t = stage g.D.Discipline k _ _ e.belongs.keeps in
-    let m = made g (goal.at.complete-requires-clause-up g c).After-link_cas-moved in
+    let m = made g (goal.at.complete_held-requires-clause-up g c).After-link_cas-moved in
     let is : Between s = record { ready = r.ready; untouched = r.untouched } in
     swung_up s t c.args.place.now c.args.from.now c.args.to.now c.args.note c.link_cas-moved.result m is r.place r.linked r.links.0 r.links.1
     c.if-moved-ne1.false
     ∙ ((λ i. cond (same_target (sym c.row_link-old.ensures i).to (sym c.row_link-new.ensures i).to) None (sym c.row_link-new.ensures i).to) ∙ sym c.to_count-up.ensures.up)
 
-pub complete-requires-clause-down : goal.complete-requires-clause-down
-complete-requires-clause-down g c =
+pub complete_held-requires-clause-down : goal.complete_held-requires-clause-down
+complete_held-requires-clause-down g c =
     let k = c.args.self.now.board.words.shape in
     let r = c.requires in
     let e = c.link_cas-moved.ensures in
     let s = stage g.D.Discipline k _ _ r.belongs.keeps in
     let t = stage g.D.Discipline k _ _ e.belongs.keeps in
-    let m = made g (goal.at.complete-requires-clause-down g c).After-link_cas-moved in
+    let m = made g (goal.at.complete_held-requires-clause-down g c).After-link_cas-moved in
     let is : Between s = record { ready = r.ready; untouched = r.untouched } in
     swung_down s t c.args.place.now c.args.from.now c.args.to.now c.args.note c.link_cas-moved.result m is r.place r.linked r.links.0 r.links.1
     c.if-moved-ne1.false
     ∙ ((λ i. cond (same_target (sym c.row_link-old.ensures i).to (sym c.row_link-new.ensures i).to) None (sym c.row_link-old.ensures i).to) ∙ sym c.to_count-up.ensures.down)
+
+pub complete_held-requires-clause-held : goal.complete_held-requires-clause-held
+complete_held-requires-clause-held g c =
+    let k = c.args.self.now.board.words.shape in
+    let r = c.requires in
+    let e = c.link_cas-moved.ensures in
+    let s = stage g.D.Discipline k _ _ r.belongs.keeps in
+    let t = stage g.D.Discipline k _ _ e.belongs.keeps in
+    let m = made g (goal.at.complete_held-requires-clause-held g c).After-link_cas-moved in
+    let is : Between s = record { ready = r.ready; untouched = r.untouched } in
+    subst (λ o. ForSome o (λ y. any_holds t.view.record_is.slots y ≡ true))
+    ((λ i. cond (same_target (sym c.row_link-old.ensures i).to (sym c.row_link-new.ensures i).to) None (sym c.row_link-old.ensures i).to)
+    ∙ sym c.to_count-up.ensures.down)
+    (old_held s t c.args.place.now c.args.from.now c.args.to.now c.args.note c.link_cas-moved.result m is r.place r.linked r.links.0 r.links.1)

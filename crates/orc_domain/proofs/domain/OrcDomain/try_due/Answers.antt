@@ -1,4 +1,4 @@
-use Rattle.std.proofs.Common.{None, Some, ap, sym, ◌∙◌, ◌≡◌}
+use Rattle.std.proofs.Common.{None, Some, ◌∙◌, ◌≡◌}
 use Rattle.orc_machine_board.specs.Views.{shows}
 use Rattle.orc_domain.proofs.Counting.{becomes_self, try_can, tries, without_due}
 use Rattle.orc_domain.proofs.Stages.{stage}

@@ -1,5 +1,7 @@
-use Rattle.std.proofs.Common.{refl, rules, ◌<◌, subst, sym}
-use Rattle.orc_shared_words.proofs.Steps.{exchanged, makes}
+use Rattle.std.proofs.Common.{ap, refl, rules, ◌<◌, ◌∙◌, subst, sym}
+use Rattle.orc_shared_words.specs.Steps.{Licensed}
+use Rattle.orc_words.specs.declared.operation.Operation.TheVariants.{Swap}
+use Rattle.orc_shared_words.proofs.Steps.{exchanged, makes, tries}
 use Rattle.orc_shared_words.proofs.shared_words.SharedWords.make_step.Goals as goal
 
 pub load-requires : goal.load-requires
@@ -22,8 +24,34 @@ store-requires g c = (
       c.in-Store.is (c.requires.agent, refl) c.requires.allowed c.requires.licensed,
 )
 
+pub load-found-requires : goal.load-found-requires
+load-found-requires g c = (
+  search rules,
+  subst (λ z. z < c.args.self.now.table.shared.table_id.words) (sym (c.operation-index.ensures.index _ c.requires.tied c.requires.allowed)) c.requires.inside,
+  tries g.M.Machine.rules g.M.Machine.obeys c.args.self.now.shape (λ k. g.D.Discipline.holds (g.M.Machine.numbers k))
+      (λ k. g.D.Discipline.may (g.M.Machine.numbers k)) (g.D.Discipline.keeps _) _ _ _ _ _ _ _ _ _ c.operation-index.result.index _
+      c.args.self.now.shaped c.requires.picked (c.operation-index.ensures.index _ c.requires.tied c.requires.allowed)
+      (c.operation-index.ensures.written _ c.requires.tied c.requires.allowed) (c.operation-index.ensures.answer _ c.requires.tied c.requires.allowed)
+      (c.in-Swap-eq0.is ∙ ap (λ v. Swap v) (sym c.in-Swap-eq0.field-0-is ∙ c.in-Swap-eq0.field-0-test)) (c.requires.agent, refl) c.requires.allowed c.requires.licensed,
+)
+
+-- a load that found another number than 0 left the seat as it was
 pub swap-requires : goal.swap-requires
-swap-requires g c = (
+swap-requires g c =
+    let same = c.load-found.ensures.2.1 c.if-found-eq0.false in (
+      search rules,
+      subst (λ z. z < c.args.self.now.table.shared.table_id.words) (sym (c.operation-index.ensures.index _ c.requires.tied c.requires.allowed)) c.requires.inside,
+      makes g.M.Machine.rules g.M.Machine.obeys c.args.self.now.shape (λ k. g.D.Discipline.holds (g.M.Machine.numbers k))
+          (λ k. g.D.Discipline.may (g.M.Machine.numbers k)) (g.D.Discipline.keeps _) _ _ _ _ _ _ _ _ _ c.operation-index.result.index _ _ _ refl
+          c.args.self.now.shaped c.requires.picked (c.operation-index.ensures.index _ c.requires.tied c.requires.allowed)
+          (c.operation-index.ensures.written _ c.requires.tied c.requires.allowed) (c.operation-index.ensures.answer _ c.requires.tied c.requires.allowed)
+          (c.in-Swap-eq0.is ∙ ap (λ v. Swap v) (sym c.in-Swap-eq0.field-0-is ∙ c.in-Swap-eq0.field-0-test)) (ap (λ z. z.0.agent) same ∙ c.requires.agent, ap (λ z. z.0.own) same) c.requires.allowed
+          (subst (λ z. Licensed g.M.Machine.rules c.args.self.now.shape (g.D.Discipline.holds (g.M.Machine.numbers c.args.self.now.shape))
+          (g.D.Discipline.may (g.M.Machine.numbers c.args.self.now.shape)) z.0 c.args.agent c.args.op.now c.args.note.now) (sym same) c.requires.licensed),
+    )
+
+pub swap-requires-in-Swap : goal.swap-requires-in-Swap
+swap-requires-in-Swap g c = (
   search rules,
   subst (λ z. z < c.args.self.now.table.shared.table_id.words) (sym (c.operation-index.ensures.index _ c.requires.tied c.requires.allowed)) c.requires.inside,
   makes g.M.Machine.rules g.M.Machine.obeys c.args.self.now.shape (λ k. g.D.Discipline.holds (g.M.Machine.numbers k))
