@@ -60,7 +60,7 @@ made_since given s t u own ys es p none gives few q entries no_give short = reco
 }
 
 -- where a node is linked, by what the pass holds
-module _ (n : HeapNumbers) (root key : ℕ) (left first right : Option Hold) (node : Hold) (given : ℕ) (slots : Slots) (s t : Seat ChainNote)
+module _ {n : HeapNumbers} {root key : ℕ} {left first right : Option Hold} {node : Hold} {given : ℕ} {slots : Slots} {s t : Seat ChainNote}
     (a : AddsAt n root key left first right node given slots s t) where
   abbrev y : Hand
   y = hand first a.first_id
@@ -239,8 +239,8 @@ pub absent_id : (n : HeapNumbers) (root key : ℕ) (left first right : Option Ho
 unfolding absent_adds
 absent_id n root key left first right node slots s t is k f holds all = refl
 
-module _ (n : HeapNumbers) (root key : ℕ) (left first right : Option Hold) (s t u : Seat ChainNote) (f : FindsAbsent n root key left first right s t)
-    (one : IsFree s.slots 1) where
+module _ {n : HeapNumbers} {root key : ℕ} {left first right : Option Hold} {s t : Seat ChainNote} (u : Seat ChainNote)
+    (f : FindsAbsent n root key left first right s t) (one : IsFree s.slots 1) where
   pub give_free : IsFree t.slots 1
   give_free = free_in s.slots t.slots (hand left f.left_id ∷ hand first f.first_id ∷ hand right f.right_id ∷ []) 1 f.hands f.apart one
 
