@@ -37,7 +37,7 @@ use Rattle.orc_ordered_search.specs.Searches.{AllGone, BeginsRun, HoldsIfAny, Qu
 use Rattle.orc_list.specs.Searches.{FindsPresent, InHand, NextFollows, list_reading}
 use Rattle.orc_ordered_search.specs.Ways.{IsFew}
 use Rattle.orc_ordered_search.specs.Searches.{first_or, place_at, target_at}
-use Rattle.orc_list.specs.Turns.{LeavesOff, Made, MarkStops, Marks, TakesKey, TakesOut, Tires, TriesUnlink}
+use Rattle.orc_list.specs.Turns.{LeavesOff, Made, MarkStops, Marks, TakesOut, Tires, TriesUnlink}
 use Rattle.orc_list.proofs.Answering.{from_is, head_of, place_of_hand, reads_node, target_is}
 use Rattle.orc_ordered_search.proofs.Held.{first_held, in_hand_on, present_hand, second_held}
 use Rattle.orc_list.proofs.Making.{made_after, made_on, missed, over_on}
