@@ -170,20 +170,25 @@ module _ {K S Op Rec N : Type 0} (r : Rules K S Op Rec N) (laws : (k : K) → Ob
         ),
       )
 
+-- the index and the operation are those of the step
+pub record IsChosen {K S Op Rec N : Type 0} (r : Rules K S Op Rec N) (k : K) (a : ℕ) (own : Rec) (op : Op) (index : ℕ) (o : Operation) : Type 0 where
+  pub index_is : index ≡ r.index k (r.place k a op own)
+  pub written : word_after o ≡ r.written k a op own
+  pub answer : returned_by o ≡ r.answer k a op own
+
 -- the same, where the call picks the step, its index and operation are known, and the table writes what the operation does
 pub makes : {K S Op Rec N : Type 0} (r : Rules K S Op Rec N) (laws : (k : K) → Obeys r k) (k : K) (H : K → List (Event N) → Type 0)
     (Y : K → List (Event N) → Event N → Type 0)
     (law : (past : List (Event N)) (e : Event N) → H k past → Y k past e → H k (past ++ e ∷ [])) (key : K) (slots id : ℕ)
     (me : Me (Unit {0}) (View S Rec)) (a : ℕ) (own : Rec) (op : Op) (said : Option N)
     (pick : Option (K × Op × Option N)) (index : ℕ) (o known : Operation) (writes : ℕ → ℕ) → word_after known ≡ writes → key ≡ k → pick ≡ Some (k, op, said)
-    → index ≡ r.index k (r.place k a op own) → word_after o ≡ r.written k a op own → returned_by o ≡ r.answer k a op own → o ≡ known
+    → IsChosen r k a own op index o → o ≡ known
     → (me.0.agent ≡ Some a) × (me.0.own ≡ own) → r.allowed k a op own → Licensed r k (H k) (Y k) me.0 a op said
     → Allows (Shows r key (H key) (Y key)) slots id me index writes (λ n. Did r H Y pick me (returned_by known n))
-makes {K} {S} {Op} {Rec} {N} r laws k H Y law key slots id me a own op said pick index o known writes after_is same picked index_is written answer is
-    named can may_be =
+makes {K} {S} {Op} {Rec} {N} r laws k H Y law key slots id me a own op said pick index o known writes after_is same picked chosen is named can may_be =
     let at_own : (index ≡ r.index k (r.place k a op me.0.own)) × (word_after o ≡ r.written k a op me.0.own) × (returned_by o ≡ r.answer k a op me.0.own) =
     subst (λ z. (index ≡ r.index k (r.place k a op z)) × (word_after o ≡ r.written k a op z) × (returned_by o ≡ r.answer k a op z)) (sym named.1)
-    (index_is, written, answer) in
+    (chosen.index_is, chosen.written, chosen.answer) in
     let first = does r laws k H Y law slots id me a op said named.0 (subst (λ z. r.allowed k a op z) (sym named.1) can) may_be in
     let second : Allows (Shows r k (H k) (Y k)) slots id me index (word_after o) (λ n. Did r H Y (Some (k, op, said)) me (returned_by o n)) =
     subst (λ (z : ℕ × (ℕ → ℕ) × (ℕ → ℕ)). Allows (Shows r k (H k) (Y k)) slots id me z.0 z.1 (λ n. Did r H Y (Some (k, op, said)) me (z.2 n)))
