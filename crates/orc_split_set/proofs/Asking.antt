@@ -2,7 +2,7 @@
 use Rattle.std.proofs.Common.{List, None, Option, Some, ap, arith, refl, subst, suc, sym, zero, ℕ, ◌*◌, ◌+◌, ◌<◌, ◌++◌, ◌∙◌, ◌≡◌}
 use Rattle.orc_heap.proofs.SingleActs.{some_same}
 use Rattle.orc_heap.specs.Allowed.{events_by}
-use Rattle.orc_heap.specs.Heap.{Heap, HeapNumbers}
+use Rattle.orc_heap.specs.Heap.{Heap}
 use Rattle.orc_heap.specs.OwnEvents.{Puts}
 use Rattle.orc_heap.specs.declared.events.Event.{Event}
 use Rattle.orc_heap.specs.Seats.{Seat}

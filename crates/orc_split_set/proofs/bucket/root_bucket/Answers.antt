@@ -1,5 +1,5 @@
 -- By what the look of the bucket's root found.
-use Rattle.std.proofs.Common.{arith, refl, subst, ℕ, ◌≤◌}
+use Rattle.std.proofs.Common.{arith, refl, ◌≤◌}
 use Rattle.orc_ordered_search.proofs.Held.{release_goes}
 use Rattle.orc_ordered_search.proofs.Parting.{part_of_next}
 use Rattle.orc_split_set.specs.Looks.{root_loads}
