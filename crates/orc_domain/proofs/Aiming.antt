@@ -63,10 +63,18 @@ its_place b r (suc number) p low there e =
     let two = lt-ltb 1 b.links (omega (arith, there)) in
     λ i. (row i && two i) && e i
 
-module _ {D N : Type 0} {d : discipline.Ghosts D N} {k : MachineShape N} (s t : Stage d k) (r number : ℕ) (to : Option ℕ) (n : ℕ)
-    (m : Steps (LinkStore r (without_mark to) number) s n t) (is : Between s) (there : number < (bounds_in k).links) (fresh : names s.view.record_is.fresh r ≡ true)
-    (target : may_target (bounds_in k) s.view.record_is to ≡ true)
-    (other : (x : ℕ) → to ≡ Some x → names s.view.record_is.fresh x ≡ false) where
+-- a pass between calls stored a link of its fresh row
+pub record StoresFresh {D N : Type 0} {d : discipline.Ghosts D N} {k : MachineShape N} (s t : Stage d k) (r number : ℕ) (to : Option ℕ) (n : ℕ) : Type 0
+  where
+    pub makes : Steps (LinkStore r (without_mark to) number) s n t
+    pub is : Between s
+    pub there : number < (bounds_in k).links
+    pub fresh : names s.view.record_is.fresh r ≡ true
+    pub target : may_target (bounds_in k) s.view.record_is to ≡ true
+    pub other : (x : ℕ) → to ≡ Some x → names s.view.record_is.fresh x ≡ false
+
+module _ {D N : Type 0} {d : discipline.Ghosts D N} {k : MachineShape N} {s t : Stage d k} {r number : ℕ} {to : Option ℕ} {n : ℕ}
+    (a : StoresFresh s t r number to n) where
   abbrev b : Bounds
   b = bounds_in k
 
@@ -74,47 +82,47 @@ module _ {D N : Type 0} {d : discipline.Ghosts D N} {k : MachineShape N} (s t : 
   q = asks (LinkStore r (without_mark to) number)
 
   abbrev j : List (Step N)
-  j = s.view.journal ++ m.met
+  j = s.view.journal ++ a.makes.met
 
   abbrev g : ℕ
-  g = word_in (run_of (bounds_in k) (s.view.journal ++ m.met)) (link_at number r)
+  g = word_in (run_of (bounds_in k) (s.view.journal ++ a.makes.met)) (link_at number r)
 
   has_fresh : HasRow s.view.record_is r
-  has_fresh = or_right (any_holds s.view.record_is.slots r) (names s.view.record_is.fresh r) fresh
+  has_fresh = or_right (any_holds s.view.record_is.slots r) (names s.view.record_is.fresh r) a.fresh
 
   has_target : (o : Option ℕ) → may_target b s.view.record_is o ≡ true → HasTarget s.view.record_is o
   has_target None h = tt
   has_target (Some x) h = has_either (any_holds s.view.record_is.slots x) (names s.view.record_is.fresh x)
       (and_both (nat_lt x b.rows) (any_holds s.view.record_is.slots x) h).1
 
-  event : step_events q None s t n m
+  event : step_events q None s t n a.makes
       ≡ event_by s.view.agent (aim_act number ((ids_of b s.view).node r) (option_map (ids_of b s.view).node to)) None ∷ []
   event =
       let p = present_ids b j in
-      let mine : names (record_at (run_of b j) s.view.agent).fresh r ≡ true = ap (λ (e : Agent). names e.fresh r) (before_record q None s t n m) ∙ fresh in
-      let one = before_keep q None s t n m r has_fresh in
-      let two = same_node (ids_of b s.view) p s.view.record_is (before_keep q None s t n m) to (has_target to target) in
+      let mine : names (record_at (run_of b j) s.view.agent).fresh r ≡ true = ap (λ (e : Agent). names e.fresh r) (before_record q None s t n a.makes) ∙ a.fresh in
+      let one = before_keep q None s t n a.makes r has_fresh in
+      let two = same_node (ids_of b s.view) p s.view.record_is (before_keep q None s t n a.makes) to (has_target to a.target) in
       ap (λ (c : Bool). events_of (step_of s.view.agent q None) (if c then Some (aim_act number (p.node r) (option_map p.node to)) else None)) mine
       ∙ (aim_alone (step_of s.view.agent q None) number (p.node r) (option_map p.node to)
       ∙ (λ i. event_by s.view.agent (aim_act number (one i) (two i)) None ∷ []))
 
   stored : Stores b r number to s.view t.view
   stored = subst (λ es. Only es (seat s) (seat t)) event
-      (only q None s t n m (ap (λ (e : Agent). e.slots) m.record_is) (ap (λ (e : Agent). e.fresh) m.record_is))
+      (only q None s t n a.makes (ap (λ (e : Agent). e.slots) a.makes.record_is) (ap (λ (e : Agent). e.fresh) a.makes.record_is))
 
   -- what is pending then, by the word that was there
   store_inc : t.view.record_is.inc ≡ cond (same_target (named (g / 2)) to) None to
-  store_inc = ap (λ (e : Agent). e.inc) m.record_is ∙ ap (λ o. cond (same_target (named (g / 2)) to) o to) is.ready.inc
+  store_inc = ap (λ (e : Agent). e.inc) a.makes.record_is ∙ ap (λ o. cond (same_target (named (g / 2)) to) o to) a.is.ready.inc
 
   store_dec : t.view.record_is.dec ≡ cond (same_target (named (g / 2)) to) None (named (g / 2))
-  store_dec = ap (λ (e : Agent). e.dec) m.record_is ∙ ap (λ o. cond (same_target (named (g / 2)) to) o (named (g / 2))) is.ready.dec
+  store_dec = ap (λ (e : Agent). e.dec) a.makes.record_is ∙ ap (λ o. cond (same_target (named (g / 2)) to) o (named (g / 2))) a.is.ready.dec
 
   -- which is the one that the step answers
   pub store_up : t.view.record_is.inc ≡ cond (same_target (named (n / 2)) to) None to
-  store_up = subst (λ x. t.view.record_is.inc ≡ cond (same_target (named (x / 2)) to) None to) (sym m.answer) store_inc
+  store_up = subst (λ x. t.view.record_is.inc ≡ cond (same_target (named (x / 2)) to) None to) (sym a.makes.answer) store_inc
 
   pub store_down : t.view.record_is.dec ≡ cond (same_target (named (n / 2)) to) None (named (n / 2))
-  store_down = subst (λ x. t.view.record_is.dec ≡ cond (same_target (named (x / 2)) to) None (named (x / 2))) (sym m.answer) store_dec
+  store_down = subst (λ x. t.view.record_is.dec ≡ cond (same_target (named (x / 2)) to) None (named (x / 2))) (sym a.makes.answer) store_dec
 
   -- what is pending isn't the fresh row: nothing was linked to that before
   pub store_countable : IsCountable t.view.record_is
@@ -123,14 +131,14 @@ module _ {D N : Type 0} {d : discipline.Ghosts D N} {k : MachineShape N} (s t : 
       let same = same_target (named (g / 2)) to in
       let inc = store_inc in
       let dec = store_dec in
-      let place = its_place b r number (λ x. names e0.fresh x) (has_low s r has_fresh) there fresh in
+      let place = its_place b r number (λ x. names e0.fresh x) (has_low s r has_fresh) a.there a.fresh in
       record {
-        enrolled = ap (λ (e : Agent). e.enrolled) m.record_is ∙ is.ready.enrolled;
-        eight = ap (λ (e : Agent). length e.slots) m.record_is ∙ is.ready.eight;
-        due = ap (λ (e : Agent). e.due) m.record_is ∙ is.ready.due;
-        zero = ap (λ (e : Agent). slot_of e 0) m.record_is ∙ is.ready.zero;
-        others = λ x h. ap (λ (e : Agent). names e.fresh x) m.record_is ∙ ⊎_elim (λ e. other x (pending_is same to x (sym inc ∙ e)))
-            (λ e. old_other q None s t n m is (link_at number r) (λ y. names e0.fresh y) (λ y f. or_right (any_holds e0.slots y) (names e0.fresh y) f) place x
+        enrolled = ap (λ (e : Agent). e.enrolled) a.makes.record_is ∙ a.is.ready.enrolled;
+        eight = ap (λ (e : Agent). length e.slots) a.makes.record_is ∙ a.is.ready.eight;
+        due = ap (λ (e : Agent). e.due) a.makes.record_is ∙ a.is.ready.due;
+        zero = ap (λ (e : Agent). slot_of e 0) a.makes.record_is ∙ a.is.ready.zero;
+        others = λ x h. ap (λ (e : Agent). names e.fresh x) a.makes.record_is ∙ ⊎_elim (λ e. a.other x (pending_is same to x (sym inc ∙ e)))
+            (λ e. old_other q None s t n a.makes a.is (link_at number r) (λ y. names e0.fresh y) (λ y f. or_right (any_holds e0.slots y) (names e0.fresh y) f) place x
             (pending_is same (named (g / 2)) x (sym dec ∙ e))) h;
       }
 
@@ -138,9 +146,9 @@ module _ {D N : Type 0} {d : discipline.Ghosts D N} {k : MachineShape N} (s t : 
   no_self : (o : Option ℕ) → to ≡ o → (id : ℕ) → id ≡ (ids_of b s.view).node r → names_node (option_map (ids_of b s.view).node o) id ≡ false
   no_self None e id same = refl
   no_self (Some x) e id same = ne_eqb ((ids_of b s.view).node x) id (λ one.
-      let has : HasRow s.view.record_is x = subst (HasTarget s.view.record_is) e (has_target to target) in
+      let has : HasRow s.view.record_is x = subst (HasTarget s.view.record_is) e (has_target to a.target) in
       let row : x ≡ r = (mirrors s).apart x r (has_is_out s x has) (has_is_out s r has_fresh) (one ∙ same) in
-      true_false (names s.view.record_is.fresh x) (subst (λ y. names s.view.record_is.fresh y ≡ true) (sym row) fresh) (other x e))
+      true_false (names s.view.record_is.fresh x) (subst (λ y. names s.view.record_is.fresh y ≡ true) (sym row) a.fresh) (a.other x e))
 
   -- after it was counted
   module _ (u : Stage d k) (z : Becomes (bounds_in k) (record t.view.record_is { inc = None; dec = None }) t.view u.view) where
@@ -151,11 +159,11 @@ module _ {D N : Type 0} {d : discipline.Ghosts D N} {k : MachineShape N} (s t : 
     stored_untouched id e =
         let p = ids_of b s.view in
         let was : (seat s).fresh ≡ Some id = sym stored.fresh ∙ (sym z.only.fresh ∙ e) in
-        let its : Some (p.node r) ≡ Some id = sym (ap (option_map p.node) (names-some s.view.record_is.fresh r fresh)) ∙ was in
+        let its : Some (p.node r) ≡ Some id = sym (ap (option_map p.node) (names-some s.view.record_is.fresh r a.fresh)) ∙ was in
         let same : id ≡ p.node r = cc in
         still_untouched t u [] z.only.puts (λ y. refl) id
-        (untouched_at s t _ stored.puts id (ap (λ y. y || false) (aims_at_none number (p.node r) (option_map p.node to) id (no_self to refl id same))) (is.untouched id was))
+        (untouched_at s t _ stored.puts id (ap (λ y. y || false) (aims_at_none number (p.node r) (option_map p.node to) id (no_self to refl id same))) (a.is.untouched id was))
 
     pub stored_leaves : LeavesNothing s.view.agent s.view.journal u.view.journal
-    stored_leaves = leaves_then s.view.agent s.view.journal t.view.journal u.view.journal (leaves_one s t (LinkStore r (without_mark to) number) n m tt)
-        (subst (λ a. LeavesNothing a t.view.journal u.view.journal) m.agent z.leaves)
+    stored_leaves = leaves_then s.view.agent s.view.journal t.view.journal u.view.journal (leaves_one s t (LinkStore r (without_mark to) number) n a.makes tt)
+        (subst (λ x. LeavesNothing x t.view.journal u.view.journal) a.makes.agent z.leaves)

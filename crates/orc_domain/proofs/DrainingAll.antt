@@ -42,6 +42,20 @@ module _ {D N : Type 0} where
   abbrev Pass : (d : discipline.Ghosts D N) → machine.Ghosts Reclaiming N (MachineShape N) Request (Step N) Agent Agent → Type 0
   Pass d m = OrcPass D N (MachineShape N) Request (Step N) Agent Agent d m
 
+-- what is true once all passes have learned, drained one after another and learned again
+pub record Drained {D N : Type 0} {d : discipline.Ghosts D N} {m : machine.Ghosts Reclaiming N (MachineShape N) Request (Step N) Agent Agent}
+    (domain : OrcDomain D N) (ps qs : List (Pass d m)) : Type 0 where
+  pub all : AreAll domain qs
+  pub idle : AreIdle domain qs
+  pub settled : HaveNoBacklog qs
+  pub one_list : SawOneList qs
+  pub own : SawAll qs
+  pub rest : IsAtRest (run_of (domain_bounds domain) (whole_journal qs))
+  pub longest : IsNoLonger domain ps qs
+  pub quiet : AddsNoEvents domain ps qs
+  pub later : IsPrefix (whole_journal ps) (whole_journal qs)
+  pub heard : All (λ p. IsPrefix (journal_of p) (whole_journal qs)) ps
+
 module _ {D N : Type 0} {d : discipline.Ghosts D N} {m : machine.Ghosts Reclaiming N (MachineShape N) Request (Step N) Agent Agent}
     (domain : OrcDomain D N)
   where
@@ -177,22 +191,22 @@ module _ {D N : Type 0} {d : discipline.Ghosts D N} {m : machine.Ghosts Reclaimi
                           passes6 : All (λ p. IsPassOf domain p) (w6 ∷ ts)
                           passes6 = All-from_recursion (λ p. IsPassOf domain p) (w6 ∷ ts) (is6, others6)
 
-                          pub all_after : AreAll domain (w6 ∷ ts)
+                          all_after : AreAll domain (w6 ∷ ts)
                           all_after = record {
                             many = long6;
                             belong = passes6;
                             order = λ i p l. let e = number_at seat journal 0 (w6 ∷ ts) numbered6 i p l in omega (arith, e);
                           }
 
-                          pub idle_after : AreIdle domain (w6 ∷ ts)
+                          idle_after : AreIdle domain (w6 ∷ ts)
                           idle_after = All-from_recursion (λ p. IsIdle (seat p)) (w6 ∷ ts) (idle_all seat journal (w ∷ ws) (w6 ∷ ts) same6 idle_first)
 
-                          pub one_after : SawOneList (w6 ∷ ts)
+                          one_after : SawOneList (w6 ∷ ts)
                           one_after = All-from_recursion (λ p. journal p ≡ f) (w6 ∷ ts)
                               (pairwise_all (λ p q. HearsSteps seat journal p q × (journal q ≡ f)) (λ p. IsIdle (seat p)) (λ q. journal q ≡ f)
                               (λ p q h _. h.1) (w4 ∷ zs) (w6 ∷ ts) hear (idle_all seat journal (w2 ∷ ys) (w4 ∷ zs) same4 idle2))
 
-                          pub own_after : SawAll (w6 ∷ ts)
+                          own_after : SawAll (w6 ∷ ts)
                           own_after i p l = ap (steps_of (seat (slice_index_or (w6 ∷ ts) i p)).agent) (sym (one_after i p l))
 
                           reached : IsReachedState (run_of (domain_bounds domain) (journal w2))
@@ -207,7 +221,7 @@ module _ {D N : Type 0} {d : discipline.Ghosts D N} {m : machine.Ghosts Reclaimi
                           some : 0 < (domain_bounds domain).agents
                           some = let e = long2 in omega (arith, e)
 
-                          pub rest_after : IsAtRest (run_of (domain_bounds domain) f)
+                          rest_after : IsAtRest (run_of (domain_bounds domain) f)
                           rest_after = rests seat journal domain.board.words.shape (journal w2) (w2 ∷ ys) (w4 ∷ zs) all_turns numbered2 one_list
                               (domain_bounds domain).agents long2 w2 (w6 ∷ ts) f hear within some is6.board.keeps.now.below reached
                               (ap (λ (x : Bounds). x.agents) (bounds_run (domain_bounds domain) (journal w2)))
@@ -216,7 +230,7 @@ module _ {D N : Type 0} {d : discipline.Ghosts D N} {m : machine.Ghosts Reclaimi
                           nothing_after = nothing_more seat journal domain.board.words.shape (journal w2) (w2 ∷ ys) (w4 ∷ zs) all_turns numbered2 one_list
                               (domain_bounds domain).agents long2 w2 (w6 ∷ ts) f hear within some is6.board.keeps.now.below
 
-                          pub settled_after : HaveNoBacklog (w6 ∷ ts)
+                          settled_after : HaveNoBacklog (w6 ∷ ts)
                           settled_after i p l =
                               let q = slice_index_or (w6 ∷ ts) i p in
                               let g = passes6 i p l in
@@ -240,14 +254,14 @@ module _ {D N : Type 0} {d : discipline.Ghosts D N} {m : machine.Ghosts Reclaimi
                           heard_each [] (q ∷ qs) h = absurd h
                           heard_each (v ∷ vs) [] h = absurd h
 
-                          pub heard_after : All (λ p. IsPrefix (journal_of p) (whole_journal (w6 ∷ ts))) ps
+                          heard_after : All (λ p. IsPrefix (journal_of p) (whole_journal (w6 ∷ ts))) ps
                           heard_after = subst (All (λ p. IsPrefix (journal p) f)) (sym is)
                               (All-from_recursion (λ p. IsPrefix (journal p) f) (w ∷ ws) (heard_each (w ∷ ws) (w2 ∷ ys) heard))
 
                           first_more : IsPrefix (journal w) f
                           first_more = goes_on (journal w) (journal w2) f heard.0.0.more further
 
-                          pub later_after : IsPrefix (whole_journal ps) (whole_journal (w6 ∷ ts))
+                          later_after : IsPrefix (whole_journal ps) (whole_journal (w6 ∷ ts))
                           later_after = subst (λ z. IsPrefix (whole_journal z) f) (sym is) first_more
 
                           -- what is true of each list that a pass had seen is true of the one that all saw
@@ -257,10 +271,24 @@ module _ {D N : Type 0} {d : discipline.Ghosts D N} {m : machine.Ghosts Reclaimi
                               subst P (sym (no_more seat journal w w1 w2 ws xs ys r1 r2))
                               (among_all P (map journal (w ∷ ws)) (journal w1) (all_map seat journal P (w ∷ ws) a) r1.longest)
 
-                          pub longest_after : IsNoLonger domain ps (w6 ∷ ts)
+                          longest_after : IsNoLonger domain ps (w6 ∷ ts)
                           longest_after most h = subst (λ (z : List (Event N)). length z ≤ most) (sym nothing_after)
                               (one_of (λ z. length (project (domain_bounds domain) z) ≤ most) (subst (λ z. All (λ p. length (seat p).seen ≤ most) z) is h))
 
-                          pub quiet_after : AddsNoEvents domain ps (w6 ∷ ts)
+                          quiet_after : AddsNoEvents domain ps (w6 ∷ ts)
                           quiet_after j h = nothing_after ∙ ap (project (domain_bounds domain))
                               (one_of (λ z. z ≡ j) (subst (λ z. All (λ p. journal p ≡ j) z) is h))
+
+                          pub drained : Drained domain ps (w6 ∷ ts)
+                          drained = record {
+                            all = all_after;
+                            idle = idle_after;
+                            settled = settled_after;
+                            one_list = one_after;
+                            own = own_after;
+                            rest = rest_after;
+                            longest = longest_after;
+                            quiet = quiet_after;
+                            later = later_after;
+                            heard = heard_after;
+                          }

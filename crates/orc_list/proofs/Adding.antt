@@ -1,16 +1,15 @@
 -- A node for a key is linked where a search found that the key belongs.
-use Rattle.std.proofs.Common.{Bool, Err, List, None, Ok, Option, Result, Some, [], ap, arith, false, inl, inr, length, length-append, length-set, refl, subst, sym, true, ℕ, ◌%◌, ◌*◌, ◌++◌, ◌+◌, ◌==◌, ◌∙◌, ◌∷◌, ◌≡◌, ◌≢◌, ◌≤◌, ◌⊎◌}
-use Rattle.std.proofs.lemmas.Bool.{eqb-false, eqb-true}
+use Rattle.std.proofs.Common.{Bool, Err, List, None, Ok, Option, Result, Some, [], ap, arith, false, inl, inr, length, length-append, refl, subst, sym, true, ℕ, ◌%◌, ◌*◌, ◌++◌, ◌+◌, ◌∙◌, ◌∷◌, ◌≡◌, ◌≤◌, ◌⊎◌}
 use Rattle.std.specs.List.{slice_get, slice_set}
 use Rattle.orc_fault.specs.declared.Spent.{Spent as SpentRow}
 use Rattle.orc_heap.proofs.Calls.{Puts-trans}
 use Rattle.orc_heap.proofs.Hands.{free_in}
 use Rattle.orc_heap.proofs.Moved.{gives_in-append, moves_in-append}
-use Rattle.orc_heap.proofs.Slots.{get-set_other, get-set_same}
+use Rattle.orc_heap.proofs.Slots.{get-set_same}
 use Rattle.orc_heap.proofs.Stays.{allowed-left}
 use Rattle.orc_heap.specs.Allowed.{AllAllowed}
 use Rattle.orc_heap.specs.Calls.{Gives, Misses, event_of}
-use Rattle.orc_heap.specs.Hands.{AreHeld, Hand, Hands, HoldsId, IsApart, IsApartOf, IsHeldApart, hand}
+use Rattle.orc_heap.specs.Hands.{Hand, Hands, HoldsId, hand}
 use Rattle.orc_heap.specs.Heap.{HeapNumbers}
 use Rattle.orc_heap.specs.Moves.{gives_in, moves_in}
 use Rattle.orc_heap.specs.OwnEvents.{Only, Puts}
@@ -23,15 +22,14 @@ use Rattle.orc_heap.specs.declared.events.Place.{Place}
 use Rattle.orc_heap.specs.declared.events.Place.TheVariants.{Root}
 use Rattle.orc_history.specs.declared.set.SetEntry.{SetEntry}
 use Rattle.orc_history.specs.declared.set.SetEntry.TheVariants.{Added}
-use Rattle.orc_chain_rule.proofs.Later.{holds_later, nothing_yet}
 use Rattle.orc_ordered_chains.specs.Chains.{IsRun, link_over}
 use Rattle.orc_chain_rule.specs.ChainDiscipline.{ChainHolds, ChainMay, FollowsOn, IsAbove, entries_of}
 use Rattle.orc_chain_rule.specs.Watches.{node_to_add}
 use Rattle.orc_chain_rule.specs.declared.chain.ChainNote.{ChainNote}
-use Rattle.orc_ordered_search.specs.Inserts.{HasRoomFor, IsInFirst, count_of, slots_with}
+use Rattle.orc_ordered_search.specs.Inserts.{count_of, slots_with}
 use Rattle.orc_list.specs.Inserts.{AddEnds, AddOver, AddsAt, AddsNode, InsertEnds, Inserts, InsertsOn, KeepsNode, LeavesRunOff, LinkMissed, LinkRefused, LinksNode, LinksTo, SeesAbsent}
 use Rattle.orc_ordered_search.specs.Ways.{IsFew}
-use Rattle.orc_ordered_search.specs.Searches.{AllGone, HasRoom, HoldsIfAny, left_place, node_of}
+use Rattle.orc_ordered_search.specs.Searches.{AllGone, HoldsIfAny, left_place, node_of}
 use Rattle.orc_list.specs.Searches.{FindsAbsent, InHand, list_reading}
 use Rattle.orc_ordered_search.specs.Searches.{first_or, place_at, target_at}
 use Rattle.orc_list.specs.Turns.{Answers, Made, Tires}
@@ -60,7 +58,7 @@ made_since given s t u own ys es p none gives few q entries no_give short = reco
 }
 
 -- where a node is linked, by what the pass holds
-module _ (n : HeapNumbers) (root key : ℕ) (left first right : Option Hold) (node : Hold) (given : ℕ) (slots : Slots) (s t : Seat ChainNote)
+module _ {n : HeapNumbers} {root key : ℕ} {left first right : Option Hold} {node : Hold} {given : ℕ} {slots : Slots} {s t : Seat ChainNote}
     (a : AddsAt n root key left first right node given slots s t) where
   abbrev y : Hand
   y = hand first a.first_id
@@ -239,8 +237,8 @@ pub absent_id : (n : HeapNumbers) (root key : ℕ) (left first right : Option Ho
 unfolding absent_adds
 absent_id n root key left first right node slots s t is k f holds all = refl
 
-module _ (n : HeapNumbers) (root key : ℕ) (left first right : Option Hold) (s t u : Seat ChainNote) (f : FindsAbsent n root key left first right s t)
-    (one : IsFree s.slots 1) where
+module _ {n : HeapNumbers} {root key : ℕ} {left first right : Option Hold} {s t : Seat ChainNote} (u : Seat ChainNote)
+    (f : FindsAbsent n root key left first right s t) (one : IsFree s.slots 1) where
   pub give_free : IsFree t.slots 1
   give_free = free_in s.slots t.slots (hand left f.left_id ∷ hand first f.first_id ∷ hand right f.right_id ∷ []) 1 f.hands f.apart one
 

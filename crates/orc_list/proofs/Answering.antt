@@ -80,17 +80,16 @@ pub record ReadsLeft (n : HeapNumbers) (root key : ℕ) (left first right : Opti
   pub place_is : place_at t.slots root left ≡ left_place (key % n.roots) left f.left_id
   pub link_is : link_over (target_at t.slots (first_or first right)) ≡ f.behind.leads.from
 
-pub reads_left : (n : HeapNumbers) (root key : ℕ) → root ≡ key % n.roots → (left first right : Option Hold) (s t : Seat ChainNote)
-    (f : FindsAbsent n root key left first right s t)
-    → ReadsLeft n root key left first right s t f
-reads_left n root key is left first right s t f =
-    let y = hand first f.first_id in
-    let z = hand right f.right_id in
-    record {
-      place_is = place_of_hand s.slots t.slots root (key % n.roots) is left f.left_id (y ∷ z ∷ []) f.hands.held.0;
-      link_is = ap link_over (target_is s.slots t.slots first right f.first_id f.right_id (z ∷ []) [] f.hands.held.1.0 f.hands.held.1.1.0)
-          ∙ sym (from_is n root key left first f.left_id f.first_id (node_of right f.right_id) s f.own t f.behind.quiet.puts.part f.behind.leads);
-    }
+module _ {n : HeapNumbers} {root key : ℕ} {left first right : Option Hold} {s t : Seat ChainNote} (f : FindsAbsent n root key left first right s t) where
+  pub reads_left : root ≡ key % n.roots → ReadsLeft n root key left first right s t f
+  reads_left is =
+      let y = hand first f.first_id in
+      let z = hand right f.right_id in
+      record {
+        place_is = place_of_hand s.slots t.slots root (key % n.roots) is left f.left_id (y ∷ z ∷ []) f.hands.held.0;
+        link_is = ap link_over (target_is s.slots t.slots first right f.first_id f.right_id (z ∷ []) [] f.hands.held.1.0 f.hands.held.1.1.0)
+            ∙ sym (from_is n root key left first f.left_id f.first_id (node_of right f.right_id) s f.own t f.behind.quiet.puts.part f.behind.leads);
+      }
 
 -- what is in hand stays so at the load
 pub tested_hand : (n : HeapNumbers) (slots : Slots) (left first at next : Option Hold) (where_at : At) (want : Want) (noted : Option ChainNote)
@@ -188,17 +187,17 @@ pub record ReadsNode (n : HeapNumbers) (root key : ℕ) (left first : Option Hol
   pub next_held : HoldsIfAny t.slots next
   pub next_is : target_at t.slots next ≡ node_of next f.next_id
 
-pub reads_node : (n : HeapNumbers) (root key : ℕ) (left first : Option Hold) (node : Hold) (next : Option Hold) (s t : Seat ChainNote)
-    (f : FindsPresent n root key left first node next s t)
-    → ReadsNode n root key left first node next s t f
-reads_node n root key left first node next s t f =
-    let held = holds_of t.slots node f.id f.hands.held.1.1.0.0 in
-    record {
-      node_held = held.0;
-      id_is = held.1;
-      next_held = fourth_held s.slots t.slots (hand left f.left_id) (hand first f.first_id) (hand (Some node) f.id) next f.next_id [] f.hands;
-      next_is = target_of_hand s.slots t.slots next f.next_id [] f.hands.held.1.1.1.0;
-    }
+module _ {n : HeapNumbers} {root key : ℕ} {left first : Option Hold} {node : Hold} {next : Option Hold} {s t : Seat ChainNote}
+    (f : FindsPresent n root key left first node next s t) where
+  pub reads_node : ReadsNode n root key left first node next s t f
+  reads_node =
+      let held = holds_of t.slots node f.id f.hands.held.1.1.0.0 in
+      record {
+        node_held = held.0;
+        id_is = held.1;
+        next_held = fourth_held s.slots t.slots (hand left f.left_id) (hand first f.first_id) (hand (Some node) f.id) next f.next_id [] f.hands;
+        next_is = target_of_hand s.slots t.slots next f.next_id [] f.hands.held.1.1.1.0;
+      }
 
 pub present_allowed : (n : HeapNumbers) (root key : ℕ) (left first : Option Hold) (node : Hold) (next : Option Hold) (entry : SetEntry)
     (s t : Seat ChainNote) (f : FindsPresent n root key left first node next s t)

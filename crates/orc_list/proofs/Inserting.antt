@@ -1,16 +1,10 @@
 -- One turn of an insert after another, and its answer.
-use Rattle.std.proofs.Common.{Bool, Err, List, None, Option, Result, Some, [], ap, arith, inl, inr, refl, subst, sym, ℕ, ◌++◌, ◌+◌, ◌∙◌, ◌≡◌, ◌≤◌, ◌⊎◌, ◌∷◌}
-use Rattle.std.specs.List.{slice_get, slice_set}
+use Rattle.std.proofs.Common.{Bool, Err, List, None, Option, Result, [], arith, refl, subst, ℕ, ◌++◌, ◌+◌, ◌≡◌, ◌≤◌, ◌∷◌}
 use Rattle.orc_fault.specs.declared.Spent.{Spent as SpentRow}
-use Rattle.orc_heap.proofs.ByAnswer.{unless_fresh, unless_same}
-use Rattle.orc_heap.proofs.Hands.{holds_of}
-use Rattle.orc_heap.proofs.Slots.{get-set_same, set-back}
 use Rattle.orc_heap.specs.Allowed.{AllAllowed}
-use Rattle.orc_heap.specs.Calls.{unless_node}
-use Rattle.orc_heap.specs.Hands.{HoldsId}
 use Rattle.orc_heap.specs.Heap.{HeapNumbers}
-use Rattle.orc_heap.specs.Seats.{IsIdle, Seat, heap_of}
-use Rattle.orc_heap.specs.Slots.{Hold, SlotNode, Slots}
+use Rattle.orc_heap.specs.Seats.{Seat, heap_of}
+use Rattle.orc_heap.specs.Slots.{Hold}
 use Rattle.orc_heap.specs.declared.events.Event.{Event}
 use Rattle.orc_history.specs.declared.set.ListRefused.{ListRefused}
 use Rattle.orc_history.specs.declared.set.ListRefused.TheVariants.{Spent as RefusedSpent}
@@ -19,10 +13,10 @@ use Rattle.orc_history.specs.declared.set.SetEntry.TheVariants.{Added}
 use Rattle.orc_chain_rule.specs.ChainDiscipline.{ChainMay}
 use Rattle.orc_chain_rule.specs.declared.chain.ChainNote.{ChainNote}
 use Rattle.orc_list.specs.Answers.{InsertCall, InsertTires, InsertsTurns}
-use Rattle.orc_ordered_search.specs.Inserts.{EndsWith, HasRoomFor, count_of}
+use Rattle.orc_ordered_search.specs.Inserts.{EndsWith, HasRoomFor}
 use Rattle.orc_ordered_search.proofs.Inserting.{ends_go, ends_held as kept_held, few_given, keeps_ends}
-use Rattle.orc_list.specs.Inserts.{InsertEnds, Inserts, InsertsOn, KeepsNode, SeesAbsent}
-use Rattle.orc_ordered_search.specs.Searches.{HoldsIfAny, LetsGo, node_of}
+use Rattle.orc_list.specs.Inserts.{InsertEnds, Inserts, InsertsOn, SeesAbsent}
+use Rattle.orc_ordered_search.specs.Searches.{HoldsIfAny, LetsGo}
 use Rattle.orc_list.specs.declared.insert.InsertTurn.{InsertTurn}
 use Rattle.orc_list.specs.declared.insert.InsertTurn.TheVariants.{Answered, NoNode, Over, Spent}
 use Rattle.orc_list.proofs.Making.{made_most, made_next, made_on, over_next, over_none, over_on}

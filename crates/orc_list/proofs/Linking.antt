@@ -1,24 +1,19 @@
 -- A fresh node is aimed, and linked.
 use Rattle.std.proofs.Common.{Bool, Err, List, None, Ok, Option, Result, Some, [], ap, arith, false, inl, inr, refl, subst, sym, true, ℕ, ◌∙◌, ◌∷◌, ◌≡◌, ◌≢◌}
-use Rattle.std.proofs.lemmas.Bool.{eq-eqb, ne_eqb}
-use Rattle.std.specs.List.{list_any, slice_get}
-use Rattle.std.specs.Prelude.{IfErr, IfOk, ◌||◌}
+use Rattle.std.specs.Prelude.{IfErr, IfOk}
 use Rattle.orc_fault.specs.declared.Spent.{Spent as SpentRow}
 use Rattle.orc_heap.proofs.ByAnswer.{Swings-fresh, Swings-missed, Swings-moved, unless_same}
 use Rattle.orc_heap.proofs.Calls.{Puts-trans}
-use Rattle.orc_heap.proofs.Fresh.{touched, touched_by}
 use Rattle.orc_heap.proofs.Hands.{holds_of}
-use Rattle.orc_heap.proofs.Pieces.{linked_not_fresh, missed_fresh, own_node_puts}
+use Rattle.orc_heap.proofs.Pieces.{missed_fresh}
 use Rattle.orc_heap.specs.Allowed.{AllAllowed, AllowedLater}
 use Rattle.orc_heap.specs.Calls.{Misses, Swings, event_of, move_of, unless_node}
 use Rattle.orc_heap.specs.Hands.{HoldsId}
-use Rattle.orc_heap.specs.Heap.{HeapNumbers, Node, link_to}
-use Rattle.orc_heap.specs.Journals.{names_node, points_to}
+use Rattle.orc_heap.specs.Heap.{HeapNumbers, link_to}
 use Rattle.orc_heap.specs.OwnEvents.{Only, Puts}
 use Rattle.orc_heap.specs.Seats.{Seat, heap_of, link_in, place_in}
 use Rattle.orc_heap.specs.Slots.{Hold, Slots, id_in}
-use Rattle.orc_heap.specs.declared.events.Act.{Act}
-use Rattle.orc_heap.specs.declared.events.Act.TheVariants.{Aim, Fill, Give, Look, Miss, Move, AimSide}
+use Rattle.orc_heap.specs.declared.events.Act.TheVariants.{Aim, Miss, Move}
 use Rattle.orc_heap.specs.declared.events.Event.{Event}
 use Rattle.orc_heap.specs.declared.events.Link.{Link}
 use Rattle.orc_heap.specs.declared.events.Place.{Place}
@@ -28,14 +23,9 @@ use Rattle.orc_history.specs.declared.set.SetEntry.TheVariants.{Added}
 use Rattle.orc_chain_rule.proofs.Coming.{added_allowed}
 use Rattle.orc_ordered_chains.specs.Chains.{IsRun}
 use Rattle.orc_chain_rule.specs.ChainDiscipline.{ChainHolds, ChainMay, FollowsOn, IsAbove}
-use Rattle.orc_chain_rule.specs.Laws.Kept.{chain_fits, chain_keeps, chain_moves_linked}
-use Rattle.orc_chain_rule.specs.Laws.Kinds.{key_linked}
-use Rattle.orc_chain_rule.specs.Watches.{node_to_add}
 use Rattle.orc_chain_rule.specs.declared.chain.ChainNote.{ChainNote}
 use Rattle.orc_chain_rule.specs.declared.chain.ChainNote.TheVariants.{Entry}
 use Rattle.orc_list.specs.Inserts.{HoldsKey, LinkRefused, LinksTo}
-use Rattle.orc_ordered_search.specs.Ways.{AreLoads, IsLoad}
-use Rattle.orc_ordered_search.proofs.Held.{FreshIs}
 use Rattle.orc_list.proofs.Passing.{linked_off}
 use Rattle.orc_ordered_search.proofs.Quiets.{above_puts, below_puts, run_puts}
 use Rattle.orc_list.proofs.Ordered.{list_ordering}

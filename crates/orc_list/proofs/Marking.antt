@@ -1,16 +1,15 @@
 -- A node is marked, and a place is led past a run of marked nodes.
-use Rattle.std.proofs.Common.{Bool, List, None, Ok, Err, Option, Result, Some, [], ap, false, inl, inr, refl, subst, sym, true, ℕ, ◌∙◌, ◌∷◌, ◌≡◌}
+use Rattle.std.proofs.Common.{Bool, List, Ok, Err, Option, Result, Some, [], ap, false, inl, inr, refl, subst, sym, true, ℕ, ◌∙◌, ◌∷◌, ◌≡◌}
 use Rattle.std.specs.Prelude.{IfErr, IfOk}
 use Rattle.orc_fault.specs.declared.Spent.{Spent}
-use Rattle.orc_heap.proofs.ByAnswer.{Swings-fresh, Swings-missed, Swings-moved, unless_none}
-use Rattle.orc_heap.proofs.Pieces.{linked_not_fresh, missed_fresh, unless_other}
-use Rattle.orc_heap.proofs.Steps.{part_bounds}
+use Rattle.orc_heap.proofs.ByAnswer.{Swings-fresh, Swings-missed, Swings-moved}
+use Rattle.orc_heap.proofs.Pieces.{linked_not_fresh, missed_fresh}
 use Rattle.orc_heap.specs.Allowed.{AllowedLater}
-use Rattle.orc_heap.specs.Calls.{Misses, RefusesSwing, Swings, event_of, move_of, unless_node}
+use Rattle.orc_heap.specs.Calls.{Misses, Swings, event_of, move_of, unless_node}
 use Rattle.orc_heap.specs.Heap.{HeapNumbers, link_to}
 use Rattle.orc_heap.specs.OwnEvents.{Only, Puts}
 use Rattle.orc_heap.specs.Seats.{IsNotFresh, Seat, heap_of, link_in, place_in}
-use Rattle.orc_heap.specs.Slots.{Slots, id_in}
+use Rattle.orc_heap.specs.Slots.{id_in}
 use Rattle.orc_heap.specs.declared.events.Act.TheVariants.{Move}
 use Rattle.orc_heap.specs.declared.events.Event.{Event}
 use Rattle.orc_heap.specs.declared.events.Link.{Link}
@@ -19,21 +18,19 @@ use Rattle.orc_heap.specs.declared.events.Place.TheVariants.{Next}
 use Rattle.orc_heap.specs.declared.holds.At.{At}
 use Rattle.orc_heap.specs.declared.holds.At.TheVariants.{Node as AtNode, Root as AtRoot, Side as AtSide}
 use Rattle.orc_heap.specs.declared.holds.Want.{Want}
-use Rattle.orc_heap.specs.declared.holds.Want.TheVariants.{Node as WantNode, Null as WantNull}
 use Rattle.orc_history.specs.Journals.{Within}
-use Rattle.orc_history.specs.Parts.{InPart, part_begin}
+use Rattle.orc_history.specs.Parts.{InPart}
 use Rattle.orc_history.specs.declared.set.SetEntry.TheVariants.{Removed}
 use Rattle.orc_chain_rule.proofs.Coming.{removed_allowed, unlink_allowed}
 use Rattle.orc_chain_rule.specs.declared.chain.ChainNote.{ChainNote}
 use Rattle.orc_chain_rule.specs.declared.chain.ChainNote.TheVariants.{Entry, Unlink}
 use Rattle.orc_ordered_chains.specs.Chains.{IsRun, link_over}
 use Rattle.orc_chain_rule.specs.ChainDiscipline.{ChainHolds, ChainMay, HasKey, IsChainPlace}
-use Rattle.orc_chain_rule.specs.Laws.Kinds.{key_linked}
 use Rattle.orc_list.specs.Searches.{NextFollows}
 use Rattle.orc_list.specs.Turns.{Marks, TriesUnlink}
 use Rattle.orc_ordered_search.proofs.Held.{FreshIs}
 use mathlib.Core.List.{IsPrefix}
-use Rattle.std.proofs.Common.{append-nil, length, length-append, arith, ◌+◌, ◌++◌}
+use Rattle.std.proofs.Common.{length, ◌++◌}
 use Rattle.orc_list.proofs.Ordered.{list_ordering}
 use Rattle.orc_ordered_search.proofs.Marking.{part_fact, target_fresh, within_wider}
 

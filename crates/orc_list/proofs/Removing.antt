@@ -37,7 +37,7 @@ use Rattle.orc_ordered_search.specs.Searches.{AllGone, BeginsRun, HoldsIfAny, Qu
 use Rattle.orc_list.specs.Searches.{FindsPresent, InHand, NextFollows, list_reading}
 use Rattle.orc_ordered_search.specs.Ways.{IsFew}
 use Rattle.orc_ordered_search.specs.Searches.{first_or, place_at, target_at}
-use Rattle.orc_list.specs.Turns.{LeavesOff, Made, MarkStops, Marks, TakesKey, TakesOut, Tires, TriesUnlink}
+use Rattle.orc_list.specs.Turns.{LeavesOff, Made, MarkStops, Marks, TakesOut, Tires, TriesUnlink}
 use Rattle.orc_list.proofs.Answering.{from_is, head_of, place_of_hand, reads_node, target_is}
 use Rattle.orc_ordered_search.proofs.Held.{first_held, in_hand_on, present_hand, second_held}
 use Rattle.orc_list.proofs.Making.{made_after, made_on, missed, over_on}
@@ -138,7 +138,7 @@ left_apart n t root key id (Some h) left_id (low, mine, less, same) own = λ e.
     let is : left_id ≡ id = cc in
     omega (arith, key_one (heap_of n t) id low key (subst (λ (z : ℕ). HasKey (heap_of n t) z low) is mine) own, less)
 
-module _ (n : HeapNumbers) (root key : ℕ) (left first : Option Hold) (node : Hold) (next : Option Hold) (s t : Seat ChainNote)
+module _ {n : HeapNumbers} {root key : ℕ} {left first : Option Hold} {node : Hold} {next : Option Hold} {s t : Seat ChainNote}
     (f : FindsPresent n root key left first node next s t) where
   abbrev to : Option ℕ
   to = node_of next f.next_id
@@ -184,7 +184,7 @@ module _ (n : HeapNumbers) (root key : ℕ) (left first : Option Hold) (node : H
   pub marks_at : (done : Bool) (u : Seat ChainNote) → Marks key (id_in t.slots node) (target_at t.slots next) t done u
       → Marks key f.id (node_of next f.next_id) t done u
   marks_at done u m =
-      let r = reads_node n root key left first node next s t f in
+      let r = reads_node f in
       subst (λ (i : ℕ). Marks key i (node_of next f.next_id) t done u) r.id_is (subst (λ (o : Option ℕ). Marks key (id_in t.slots node) o t done u)
       r.next_is m)
 
@@ -198,7 +198,7 @@ module _ (n : HeapNumbers) (root key : ℕ) (left first : Option Hold) (node : H
   pub unlink_held : (u : Seat ChainNote) (h : Hold) → u.slots ≡ t.slots → Some h ≡ first_or first (Some node)
       → HoldsIfAny u.slots left × Holds u.slots h × HoldsIfAny u.slots next
   unlink_held u h same is =
-      let r = reads_node n root key left first node next s t f in
+      let r = reads_node f in
       let x = hand left f.left_id in
       let y = hand first f.first_id in
       let ks : List Hand = hand (Some node) f.id ∷ hand next f.next_id ∷ [] in
@@ -218,7 +218,7 @@ module _ (n : HeapNumbers) (root key : ℕ) (left first : Option Hold) (node : H
 
   unlink_at : (u : Seat ChainNote) (h : Hold) → u.slots ≡ t.slots → Some h ≡ first_or first (Some node) → UnlinkAt u h
   unlink_at u h same is =
-      let r = reads_node n root key left first node next s t f in
+      let r = reads_node f in
       let ks : List Hand = hand (Some node) f.id ∷ hand next f.next_id ∷ [] in
       let js : List Hand = hand next f.next_id ∷ [] in
       let target : target_at t.slots (Some h) ≡ head_of first f.first_id (Some f.id) =
@@ -254,7 +254,7 @@ module _ (n : HeapNumbers) (root key : ℕ) (left first : Option Hold) (node : H
   pub unlink_follows : (u : Seat ChainNote) → Marks key f.id (node_of next f.next_id) t true u → AllAllowed (ChainMay n) [] u.seen
       → (id : ℕ) × NextFollows n id (target_at u.slots next) u
   unlink_follows u m all =
-      let r = reads_node n root key left first node next s t f in
+      let r = reads_node f in
       let to_is : target_at u.slots next ≡ to = ap (λ (z : Slots). target_at z next) m.slots ∙ r.next_is in
       (f.id, subst (λ (o : Option ℕ). NextFollows n f.id o u) (sym to_is) (next_puts (list_ordering n) t u _ m.puts all f.id to f.follows))
 

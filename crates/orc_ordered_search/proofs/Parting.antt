@@ -9,6 +9,7 @@ use Rattle.orc_heap.specs.Allowed.{events_by}
 use Rattle.orc_heap.specs.OwnEvents.{Puts}
 use Rattle.orc_heap.specs.Seats.{Seat}
 use Rattle.orc_heap.specs.declared.events.Event.{Event}
+use Rattle.orc_heap.specs.declared.links.Links.{Ghosts as LinksOf}
 use Rattle.orc_history.specs.Journals.{Within, own_of}
 use Rattle.orc_history.specs.Parts.{first_step, part_begin}
 use Rattle.orc_ordered_search.specs.Causes.{WithinPart}
@@ -138,3 +139,33 @@ pub part_begun_seats : {N S : Type 0} (agent_of : S → ℕ) (events : List S �
     → part_begin agent_of s.agent j k < length k
 part_begun_seats agent_of events adds j k s t own p grows is_s is_t some =
     part_begun agent_of events adds s.agent j k p.part own grows (sym is_t ∙ (p.is ∙ ap (λ z. z ++ p.part) is_s)) p.own_is some
+
+-- a fact of a later call's piece, where the pass has put an event before that call, is one of the part of both calls
+pub part_of_later : {L D P S N : Type 0} (m : LinksOf L D P S N)
+    → ((links : L) (j : List S) (s : S) → (es : List (Event N)) × (m.events links (j ++ s ∷ []) ≡ m.events links j ++ es)
+    × (list_all (λ e. e.agent == m.agent_of s) es ≡ true))
+    → ((links : L) (p : P) → m.belongs links p → (m.seat links p).seen ≡ m.events links (m.journal p))
+    → (links : L) (p q r : P) (own : List (Event N)) → m.belongs links p → m.belongs links q → Puts (m.seat links p) own (m.seat links q) → 1 ≤ length own
+    → IsPrefix (m.journal p) (m.journal q) → IsPrefix (m.journal q) (m.journal r) → (fact : ℕ → List S → ℕ → ℕ → Type 0)
+    → Within (length (m.journal q)) (length (m.journal r)) (fact (m.seat links q).agent (m.journal r))
+    → WithinPart m.agent_of (m.seat links p).agent (m.journal p) (m.journal r) (fact (m.seat links p).agent (m.journal r))
+part_of_later m adds seen_is links p q r own in_p in_q puts some first second fact within =
+    let s = m.seat links p in
+    let t = m.seat links q in
+    let k = m.journal q in
+    let end = m.journal r in
+    let begun = part_begun_seats m.agent_of (m.events links) (adds links) (m.journal p) k s t own puts first (seen_is links p in_p) (seen_is links q in_q) some in
+    part_of_piece m.agent_of s.agent (fact s.agent) (m.journal p) k end first second begun
+    (subst (λ (x : ℕ). Within (length k) (length end) (fact x end)) puts.agent within)
+
+-- and so is a fact of its part, whether or not the pass has put an event before
+pub part_of_next : {L D P S N : Type 0} (m : LinksOf L D P S N) (links : L) (p q r : P) → (m.seat links q).agent ≡ (m.seat links p).agent
+    → IsPrefix (m.journal p) (m.journal q) → IsPrefix (m.journal q) (m.journal r) → (fact : ℕ → List S → ℕ → ℕ → Type 0)
+    → WithinPart m.agent_of (m.seat links q).agent (m.journal q) (m.journal r) (fact (m.seat links q).agent (m.journal r))
+    → WithinPart m.agent_of (m.seat links p).agent (m.journal p) (m.journal r) (fact (m.seat links p).agent (m.journal r))
+part_of_next m links p q r agent first second fact within =
+    let a = (m.seat links p).agent in
+    let k = m.journal q in
+    let end = m.journal r in
+    part_of_part m.agent_of a (fact a) (m.journal p) k end first second
+    (subst (λ (x : ℕ). WithinPart m.agent_of x k end (fact x end)) agent within)

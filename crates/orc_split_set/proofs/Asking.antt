@@ -1,20 +1,16 @@
--- A search for a key begins, and what it found is what the law of an answer asks for.
+-- A node has the values that its place tells, and what a search has put.
 use Rattle.std.proofs.Common.{List, None, Option, Some, ap, arith, refl, subst, suc, sym, zero, ℕ, ◌*◌, ◌+◌, ◌<◌, ◌++◌, ◌∙◌, ◌≡◌}
 use Rattle.orc_heap.proofs.SingleActs.{some_same}
 use Rattle.orc_heap.specs.Allowed.{events_by}
-use Rattle.orc_heap.specs.Heap.{Heap, HeapNumbers}
+use Rattle.orc_heap.specs.Heap.{Heap}
 use Rattle.orc_heap.specs.OwnEvents.{Puts}
 use Rattle.orc_heap.specs.declared.events.Event.{Event}
 use Rattle.orc_heap.specs.Seats.{Seat}
-use Rattle.orc_heap.specs.Slots.{Hold}
-use Rattle.orc_heap.specs.declared.events.Place.{Place}
 use Rattle.orc_ordered_chains.specs.Chains.{HasRank}
-use Rattle.orc_ordered_search.specs.Searches.{FindsAbsent, FindsPresent}
 use Rattle.orc_split_rule.proofs.Reversed.{reversed_same}
 use Rattle.orc_split_rule.specs.SplitDiscipline.{HasKey, HasValues, IsDummy}
 use Rattle.orc_split_rule.specs.SplitOrder.{dummy_place, key_place, place_of, reversed, split_order}
 use Rattle.orc_split_rule.specs.declared.split.SplitNote.{SplitNote}
-use Rattle.orc_split_set.specs.SplitSearches.{BeginsAt, split_reading}
 
 -- a place is that of one pair of values
 place_one : (a b s t : ℕ) → s < 2 → t < 2 → 2 * reversed a + s ≡ 2 * reversed b + t → (a ≡ b) × (s ≡ t)
@@ -45,23 +41,6 @@ key_of_place h id key r = values_of_place h id (key_place key) key 1 r refl (ome
 
 pub dummy_of_place : (h : Heap) (id bucket : ℕ) → HasRank split_order h id (dummy_place bucket) → IsDummy h id bucket
 dummy_of_place h id bucket r = values_of_place h id (dummy_place bucket) bucket 0 r (omega arith) (omega arith)
-
--- what a search for a key's place found, by the place that was computed
-
-pub absent_of : (n : HeapNumbers) (start : Place) (wanted key passed : ℕ) (left first right : Option Hold) (s t : Seat SplitNote) → wanted ≡ key_place key
-    → FindsAbsent (split_reading n) start wanted passed left first right s t → FindsAbsent (split_reading n) start (key_place key) passed left first right s t
-absent_of n start wanted key passed left first right s t is f =
-    subst (λ (w : ℕ). FindsAbsent (split_reading n) start w passed left first right s t) is f
-
-pub present_of : (n : HeapNumbers) (start : Place) (wanted key passed : ℕ) (left first : Option Hold) (node : Hold) (next : Option Hold) (s t : Seat SplitNote)
-    → wanted ≡ key_place key → FindsPresent (split_reading n) start wanted passed left first node next s t
-    → FindsPresent (split_reading n) start (key_place key) passed left first node next s t
-present_of n start wanted key passed left first node next s t is f =
-    subst (λ (w : ℕ). FindsPresent (split_reading n) start w passed left first node next s t) is f
-
-pub begins_of : (n : HeapNumbers) (start : Place) (wanted key : ℕ) (left : Option Hold) (s t : Seat SplitNote) → wanted ≡ key_place key
-    → BeginsAt n start (key_place key) left s t → BeginsAt n start wanted left s t
-begins_of n start wanted key left s t is b = subst (λ (w : ℕ). BeginsAt n start w left s t) (sym is) b
 
 -- what was put since a search began was put since the seat at which it did
 pub puts_since : (s t u : Seat SplitNote) (own : List (Event SplitNote)) → t.seen ≡ s.seen → t.agent ≡ s.agent → Puts s own u → Puts t own u

@@ -15,8 +15,8 @@ ghost use Rattle.orc_split_set.specs.Looks.{HasStart, LoadsFew, MayEnd, ReachesI
 ghost use Rattle.orc_split_set.specs.SplitSearches.{BeginsAt, IsAbsence, IsPresence, split_reading};
 
 use crate::begin::{Begun, begin};
-use crate::order::place_of;
-use crate::search::{Searched, search};
+use crate::node::NewNode;
+use crate::search::{Searched, search_for};
 use crate::spot::{let_all_go, link_of, link_to, place_from};
 use orc_fault::Again;
 use orc_heap::{At, Held, Links};
@@ -109,7 +109,7 @@ fn ask_from<L: Links<Rule = Split>>(
         → MayEnd (heap_of (L.numbers links.now) s) (key_place key) to → LoadsFew (search_loads nodes to + 1) s (L.seat links.now p.new) }
 {
     let agent = links.agent(p);
-    match search(links, p, place_of(key, 1), left) {
+    match search_for(links, p, NewNode::Key(key), left) {
         Searched::Over => None,
         Searched::Absent {
             left,

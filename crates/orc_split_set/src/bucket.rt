@@ -24,7 +24,7 @@ ghost use Rattle.orc_split_set.specs.SplitSearches.{BeginsAt, split_reading};
 use crate::begin::{Begun, begin_near};
 use crate::insert::add_node;
 use crate::node::NewNode;
-use crate::search::{Searched, search};
+use crate::search::{Searched, search_for};
 use crate::size::read_size;
 use crate::spot::let_all_go;
 use orc_fault::Spent;
@@ -219,7 +219,7 @@ fn root_from<L: Links<Rule = Split>>(
         → WithinPart L.agent_of (L.seat links.now p.old).agent (L.journal p.old) (L.journal p.new) (L.worn links.now (L.seat links.now p.old).agent why
         (L.journal p.new)) }
 {
-    match search(links, p, NewNode::Dummy(bucket).place(), left) {
+    match search_for(links, p, NewNode::Dummy(bucket), left) {
         Searched::Over => Rooted::Moved,
         Searched::Absent {
             left,

@@ -25,8 +25,7 @@ ghost use Rattle.orc_split_set.specs.Stops.{IsUnnamed};
 use crate::answer::enter_present;
 use crate::begin::{Begun, begin};
 use crate::node::NewNode;
-use crate::order::place_of;
-use crate::search::{Searched, search};
+use crate::search::{Searched, search_for};
 use crate::spot::{let_all_go, let_go, link_of, place_from};
 use orc_fault::Spent;
 use orc_heap::{Held, Links, Want};
@@ -219,7 +218,7 @@ fn insert_from<L: Links<Rule = Split>>(
         (L.journal p.new)) }
 {
     let agent = links.agent(p);
-    match search(links, p, place_of(key, 1), left) {
+    match search_for(links, p, NewNode::Key(key), left) {
         Searched::Over => (InsertTurn::Over, node),
         Searched::Absent {
             left,

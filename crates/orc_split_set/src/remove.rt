@@ -16,8 +16,8 @@ ghost use Rattle.orc_split_set.specs.SplitSearches.{BeginsAt, split_reading};
 
 use crate::answer::enter_absent;
 use crate::begin::{Begun, begin};
-use crate::order::place_of;
-use crate::search::{Searched, search};
+use crate::node::NewNode;
+use crate::search::{Searched, search_for};
 use crate::spot::{let_all_go, link_to, node_or, place_from};
 use orc_fault::Again;
 use orc_heap::{At, Held, Links, Want};
@@ -136,7 +136,7 @@ fn remove_from<L: Links<Rule = Split>>(
         → AnswersTurn (split_reading (L.numbers links.now)) (λ answer. SetEntry.Removed s.agent key answer) s result (L.seat links.now p.new) }
 {
     let agent = links.agent(p);
-    match search(links, p, place_of(key, 1), left) {
+    match search_for(links, p, NewNode::Key(key), left) {
         Searched::Over => None,
         Searched::Absent {
             left,

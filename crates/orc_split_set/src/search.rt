@@ -6,8 +6,10 @@ ghost use Rattle.orc_heap.specs.Seats.{Seat};
 ghost use Rattle.orc_heap.specs.declared.events.Place.{Place};
 ghost use Rattle.orc_ordered_search.specs.Searches.{FindsMoved, HasRoom, LooksOn, Passed, Stops, Walks, count_on};
 ghost use Rattle.orc_split_rule.specs.declared.split.SplitNote.{SplitNote};
+ghost use Rattle.orc_split_set.specs.NewNodes.{place_for};
 ghost use Rattle.orc_split_set.specs.SplitSearches.{BeginsAt, Finds, StepsTo, split_reading};
 
+use crate::node::NewNode;
 use crate::order::place_of;
 use crate::spot::{keep_first, let_all_go, let_go, place_from, slot_of, spare_slot};
 use orc_heap::{At, Held, Links, Looked};
@@ -296,7 +298,7 @@ fn start<L: Links<Rule = Split>>(
 }
 
 // Searches the chain for a place, from root 0 or from a dummy in hand. Places rise along it, so the search ends.
-pub(crate) fn search<L: Links<Rule = Split>>(
+fn search<L: Links<Rule = Split>>(
     links: &L,
     p: &mut L::Pass,
     wanted: u128,
@@ -322,4 +324,24 @@ pub(crate) fn search<L: Links<Rule = Split>>(
             Stepped::End(found) => return found,
         }
     }
+}
+
+// Searches the place where this node belongs.
+pub(crate) fn search_for<L: Links<Rule = Split>>(
+    links: &L,
+    p: &mut L::Pass,
+    wanted: NewNode,
+    left: Option<Held>,
+) -> Searched
+    requires pass { L.belongs links.now p.old }
+    requires roots { 0 < (L.numbers links.now).roots }
+    requires begins { (place : Place) × (s : Seat SplitNote) × HasRoom s.slots
+        × BeginsAt (L.numbers links.now) place (place_for wanted) left s (L.seat links.now p.old) }
+    ensures pass { L.belongs links.now p.new }
+    ensures later { IsPrefix (L.journal p.old) (L.journal p.new) }
+    ensures found { (place : Place) (s : Seat SplitNote) → HasRoom s.slots
+        → BeginsAt (L.numbers links.now) place (place_for wanted) left s (L.seat links.now p.old)
+        → Finds (L.numbers links.now) place (place_for wanted) s result (L.seat links.now p.new) }
+{
+    search(links, p, wanted.place(), left)
 }

@@ -18,7 +18,7 @@ ghost use Rattle.orc_split_set.specs.Stops.{StopsUnnamed, linked_by};
 
 use crate::insert::{add_node, turn_of};
 use crate::node::NewNode;
-use crate::search::{Searched, search};
+use crate::search::{Searched, search_for};
 use crate::spot::let_all_go;
 use orc_heap::{Held, Links};
 use orc_ordered_search::InsertTurn;
@@ -79,7 +79,7 @@ pub(crate) fn stop_a_bucket<L: Links<Rule = Split>>(
         → WithinPart L.agent_of (L.seat links.now p.old).agent (L.journal p.old) (L.journal p.new) (L.worn links.now (L.seat links.now p.old).agent why
         (L.journal p.new)) }
 {
-    match search(links, p, NewNode::Dummy(bucket).place(), None) {
+    match search_for(links, p, NewNode::Dummy(bucket), None) {
         Searched::Over => InsertTurn::Over,
         Searched::Absent {
             left,

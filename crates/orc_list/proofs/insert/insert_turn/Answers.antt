@@ -1,12 +1,11 @@
 -- By what the search found.
-use Rattle.std.proofs.Common.{Bool, false, length, subst, true, ℕ, ◌∙◌}
-use Rattle.orc_history.specs.Journals.{Within}
+use Rattle.std.proofs.Common.{Bool, false, subst, true, ℕ, ◌∙◌}
 use Rattle.orc_history.specs.declared.set.SetEntry.TheVariants.{Added}
 use Rattle.orc_list.specs.Turns.{Enters}
 use Rattle.orc_list.proofs.Adding.{keeps_answer, keeps_on}
 use Rattle.orc_ordered_search.proofs.Inserting.{has_room}
 use Rattle.orc_list.proofs.Making.{found_over}
-use Rattle.orc_ordered_search.proofs.Parting.{part_begun_seats, part_of_piece}
+use Rattle.orc_ordered_search.proofs.Parting.{part_of_later}
 use Rattle.orc_list.specs.Searches.{list_reading}
 use Rattle.orc_list.proofs.insert.insert_turn.Goals as goal
 
@@ -30,36 +29,18 @@ returns-in-Over-clause-inserted g c = λ slots room k.
 pub returns-in-Absent-clause-lacking : goal.returns-in-Absent-clause-lacking
 returns-in-Absent-clause-lacking g c = λ is.
     let d = c.args.links.now in
-    let s = g.L.Links.seat d c.args.p.now in
-    let t = g.L.Links.seat d c.search.new.p in
-    let j = g.L.Links.journal c.args.p.now in
-    let k = g.L.Links.journal c.search.new.p in
-    let m = g.L.Links.journal c.add_at.new.p in
     let e = c.in-Absent.ensures in
-    let f = c.add_at.ensures in
     let q = e.found.behind.quiet in
-    let is_s = g.met.L.Links.seen_is d c.args.p.now c.requires.pass in
-    let is_t = g.met.L.Links.seen_is d c.search.new.p e.pass in
-    let begun = part_begun_seats g.L.Links.agent_of (g.L.Links.events d) (g.met.L.Links.steps_add d) j k s t e.found.own q.puts e.later is_s is_t q.some in
-    let fact = subst (λ (x : ℕ). Within (length k) (length m) (g.L.Links.lacking d x m)) q.puts.agent (f.lacking is) in
-    part_of_piece g.L.Links.agent_of s.agent (g.L.Links.lacking d s.agent) j k m e.later f.later begun fact
+    part_of_later g.L.Links g.met.L.Links.steps_add g.met.L.Links.seen_is d c.args.p.now c.search.new.p c.add_at.new.p _ c.requires.pass e.pass q.puts q.some
+    e.later c.add_at.ensures.later (g.L.Links.lacking d) (c.add_at.ensures.lacking is)
 
 pub returns-in-Absent-clause-worn : goal.returns-in-Absent-clause-worn
 returns-in-Absent-clause-worn g c = λ why is.
     let d = c.args.links.now in
-    let s = g.L.Links.seat d c.args.p.now in
-    let t = g.L.Links.seat d c.search.new.p in
-    let j = g.L.Links.journal c.args.p.now in
-    let k = g.L.Links.journal c.search.new.p in
-    let m = g.L.Links.journal c.add_at.new.p in
     let e = c.in-Absent.ensures in
-    let f = c.add_at.ensures in
     let q = e.found.behind.quiet in
-    let is_s = g.met.L.Links.seen_is d c.args.p.now c.requires.pass in
-    let is_t = g.met.L.Links.seen_is d c.search.new.p e.pass in
-    let begun = part_begun_seats g.L.Links.agent_of (g.L.Links.events d) (g.met.L.Links.steps_add d) j k s t e.found.own q.puts e.later is_s is_t q.some in
-    let fact = subst (λ (x : ℕ). Within (length k) (length m) (g.L.Links.worn d x why m)) q.puts.agent (f.worn why is) in
-    part_of_piece g.L.Links.agent_of s.agent (g.L.Links.worn d s.agent why) j k m e.later f.later begun fact
+    part_of_later g.L.Links g.met.L.Links.steps_add g.met.L.Links.seen_is d c.args.p.now c.search.new.p c.add_at.new.p _ c.requires.pass e.pass q.puts q.some
+    e.later c.add_at.ensures.later (λ agent. g.L.Links.worn d agent why) (c.add_at.ensures.worn why is)
 
 pub returns-then-enter_present-clause-inserted : goal.returns-then-enter_present-clause-inserted
 returns-then-enter_present-clause-inserted g c = λ slots room k.

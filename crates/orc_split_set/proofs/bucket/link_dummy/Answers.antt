@@ -1,16 +1,61 @@
 -- By what came of the dummy.
-use Rattle.std.proofs.Common.{Bool, Err, Ok, Some, [], ap, append-nil, length, subst, sym, ℕ, ◌∙◌}
-use Rattle.orc_heap.specs.Seats.{heap_of}
+use Rattle.std.proofs.Common.{Bool, Err, Ok, Some, [], ap, append-nil, false, length, subst, sym, true, ℕ, ◌∙◌}
+use Rattle.orc_heap.specs.Seats.{Seat, heap_of}
 use Rattle.orc_history.specs.Journals.{Within}
 use Rattle.orc_ordered_search.specs.Inserts.{AddsNode, slots_with}
 use Rattle.orc_ordered_search.proofs.Held.{release_goes}
 use Rattle.orc_ordered_search.proofs.Inserting.{seen_holds}
 use Rattle.orc_ordered_search.proofs.Marking.{within_wider}
 use Rattle.orc_split_rule.specs.SplitDiscipline.{IsDummy}
+use Rattle.orc_split_rule.specs.declared.split.SplitNote.{SplitNote}
+use Rattle.orc_split_set.specs.Rootings.{HasDummy}
 use Rattle.orc_split_set.specs.SplitSearches.{split_reading}
 use Rattle.orc_split_set.proofs.Ordered.{split_ordering}
 use Rattle.orc_split_set.proofs.Rooting.{added_roots, dummy_held, missed_roots, refused_roots, spent_row}
+use Rattle.orc_split_set.proofs.bucket.link_dummy.Given.{Over}
+use Rattle.orc_split_set.proofs.bucket.link_dummy.Goals.{In-Err, In-Ok-false, In-Ok-true}
 use Rattle.orc_split_set.proofs.bucket.link_dummy.Goals as goal
+
+-- the dummy was linked
+linked : (g : Over) (c : In-Ok-true g) → let d = c.args.links.now in let n = g.L.Links.numbers d in let a = c.args in
+    (s : Seat SplitNote) (w : HasDummy n a.bucket a.left a.first a.right a.dummy s (g.L.Links.seat d a.p.now))
+    → AddsNode (split_reading n) a.bucket 0 [] a.dummy w.id 1 (slots_with s.slots (Some a.dummy) w.id) s (Ok true) (g.L.Links.seat d c.add_node.new.p)
+linked g c = λ s w.
+    let d = c.args.links.now in
+    let n = g.L.Links.numbers d in
+    let a = c.args in
+    let u = g.L.Links.seat d c.add_node.new.p in
+    let slots = slots_with s.slots (Some a.dummy) w.id in
+    let one = subst (λ (i : ℕ). AddsNode (split_reading n) a.bucket 0 [] a.dummy i 1 slots s (Ok c.in-Ok-true.field-0) u) w.id_is
+    (c.in-Ok-true.ensures.added w.start 1 slots s w.adds) in
+    subst (λ (b : Bool). AddsNode (split_reading n) a.bucket 0 [] a.dummy w.id 1 slots s (Ok b) u) c.in-Ok-true.field-0-test one
+
+-- the left place showed another link
+missed : (g : Over) (c : In-Ok-false g) → let d = c.args.links.now in let n = g.L.Links.numbers d in let a = c.args in
+    (s : Seat SplitNote) (w : HasDummy n a.bucket a.left a.first a.right a.dummy s (g.L.Links.seat d a.p.now))
+    → AddsNode (split_reading n) a.bucket 0 [] a.dummy w.id 1 (slots_with s.slots (Some a.dummy) w.id) s (Ok false) (g.L.Links.seat d c.add_node.new.p)
+missed g c = λ s w.
+    let d = c.args.links.now in
+    let n = g.L.Links.numbers d in
+    let a = c.args in
+    let u = g.L.Links.seat d c.add_node.new.p in
+    let slots = slots_with s.slots (Some a.dummy) w.id in
+    let one = subst (λ (i : ℕ). AddsNode (split_reading n) a.bucket 0 [] a.dummy i 1 slots s (Ok c.in-Ok-false.field-0) u) w.id_is
+    (c.in-Ok-false.ensures.added w.start 1 slots s w.adds) in
+    subst (λ (b : Bool). AddsNode (split_reading n) a.bucket 0 [] a.dummy w.id 1 slots s (Ok b) u) c.in-Ok-false.field-0-test one
+
+-- a row was worn
+refused : (g : Over) (c : In-Err g) → let d = c.args.links.now in let n = g.L.Links.numbers d in let a = c.args in
+    (s : Seat SplitNote) (w : HasDummy n a.bucket a.left a.first a.right a.dummy s (g.L.Links.seat d a.p.now))
+    → AddsNode (split_reading n) a.bucket 0 [] a.dummy w.id 1 (slots_with s.slots (Some a.dummy) w.id) s (Err c.in-Err.spent) (g.L.Links.seat d c.add_node.new.p)
+refused g c = λ s w.
+    let d = c.args.links.now in
+    let n = g.L.Links.numbers d in
+    let a = c.args in
+    let u = g.L.Links.seat d c.add_node.new.p in
+    let slots = slots_with s.slots (Some a.dummy) w.id in
+    subst (λ (i : ℕ). AddsNode (split_reading n) a.bucket 0 [] a.dummy i 1 slots s (Err c.in-Err.spent) u) w.id_is
+    (c.in-Err.ensures.added w.start 1 slots s w.adds)
 
 pub add_node-requires-clause-adds : goal.add_node-requires-clause-adds
 add_node-requires-clause-adds g c =
@@ -19,104 +64,69 @@ add_node-requires-clause-adds g c =
 
 pub anchor_and_go-requires-clause-dummy : goal.anchor_and_go-requires-clause-dummy
 anchor_and_go-requires-clause-dummy g c =
+    let (s, w) = c.requires.to_link in
+    let added = linked g (goal.at.anchor_and_go-requires-clause-dummy g c).In-Ok-true s w in
     let d = c.args.links.now in
     let n = g.L.Links.numbers d in
     let a = c.args in
-    let t = g.L.Links.seat d a.p.now in
     let u = g.L.Links.seat d c.add_node.new.p in
-    let (s, w) = c.requires.to_link in
-    let slots = slots_with s.slots (Some a.dummy) w.id in
-    let one = subst (λ (i : ℕ). AddsNode (split_reading n) a.bucket 0 [] a.dummy i 1 slots s (Ok c.in-Ok-true.field-0) u) w.id_is
-    (c.in-Ok-true.ensures.added w.start 1 slots s w.adds) in
-    let added = subst (λ (b : Bool). AddsNode (split_reading n) a.bucket 0 [] a.dummy w.id 1 slots s (Ok b) u) c.in-Ok-true.field-0-test one in
-    let held = dummy_held n a.bucket a.left a.first a.right a.dummy s t u w added.slots_are in
+    let held = dummy_held n a.bucket a.left a.first a.right a.dummy s (g.L.Links.seat d a.p.now) u w added.slots_are in
     let stands = c.in-Ok-true.ensures.stands w.adds.id w.adds.holds (ap (λ (b : Bool). Ok b) c.in-Ok-true.field-0-test) in
     (held.0, subst (λ (i : ℕ). IsDummy (heap_of n u) i a.bucket) (w.id_is ∙ sym held.1) stands)
 
 pub release-requires-clause-held : goal.release-requires-clause-held
 release-requires-clause-held g c =
-    let d = c.args.links.now in
-    let n = g.L.Links.numbers d in
-    let a = c.args in
-    let t = g.L.Links.seat d a.p.now in
-    let u = g.L.Links.seat d c.add_node.new.p in
     let (s, w) = c.requires.to_link in
-    let slots = slots_with s.slots (Some a.dummy) w.id in
-    let one = subst (λ (i : ℕ). AddsNode (split_reading n) a.bucket 0 [] a.dummy i 1 slots s (Ok c.in-Ok-false.field-0) u) w.id_is
-    (c.in-Ok-false.ensures.added w.start 1 slots s w.adds) in
-    let added = subst (λ (b : Bool). AddsNode (split_reading n) a.bucket 0 [] a.dummy w.id 1 slots s (Ok b) u) c.in-Ok-false.field-0-test one in
-    (dummy_held n a.bucket a.left a.first a.right a.dummy s t u w added.slots_are).0
+    let added = missed g (goal.at.release-requires-clause-held g c).In-Ok-false s w in
+    let d = c.args.links.now in
+    let a = c.args in
+    (dummy_held (g.L.Links.numbers d) a.bucket a.left a.first a.right a.dummy s (g.L.Links.seat d a.p.now) (g.L.Links.seat d c.add_node.new.p) w
+    added.slots_are).0
 
 pub release-requires-in-Err-clause-held : goal.release-requires-in-Err-clause-held
 release-requires-in-Err-clause-held g c =
-    let d = c.args.links.now in
-    let n = g.L.Links.numbers d in
-    let a = c.args in
-    let t = g.L.Links.seat d a.p.now in
-    let u = g.L.Links.seat d c.add_node.new.p in
     let (s, w) = c.requires.to_link in
-    let slots = slots_with s.slots (Some a.dummy) w.id in
-    let added = subst (λ (i : ℕ). AddsNode (split_reading n) a.bucket 0 [] a.dummy i 1 slots s (Err c.in-Err.spent) u) w.id_is
-    (c.in-Err.ensures.added w.start 1 slots s w.adds) in
-    (dummy_held n a.bucket a.left a.first a.right a.dummy s t u w added.slots_are).0
+    let added = refused g (goal.at.release-requires-in-Err-clause-held g c).In-Err s w in
+    let d = c.args.links.now in
+    let a = c.args in
+    (dummy_held (g.L.Links.numbers d) a.bucket a.left a.first a.right a.dummy s (g.L.Links.seat d a.p.now) (g.L.Links.seat d c.add_node.new.p) w
+    added.slots_are).0
 
 pub returns-in-Ok-true-clause-rooted : goal.returns-in-Ok-true-clause-rooted
 returns-in-Ok-true-clause-rooted g c = λ s w.
+    let added = linked g (goal.at.returns-in-Ok-true-clause-rooted g c).In-Ok-true s w in
     let d = c.args.links.now in
     let n = g.L.Links.numbers d in
-    let a = c.args in
-    let t = g.L.Links.seat d a.p.now in
-    let u = g.L.Links.seat d c.add_node.new.p in
-    let slots = slots_with s.slots (Some a.dummy) w.id in
-    let one = subst (λ (i : ℕ). AddsNode (split_reading n) a.bucket 0 [] a.dummy i 1 slots s (Ok c.in-Ok-true.field-0) u) w.id_is
-    (c.in-Ok-true.ensures.added w.start 1 slots s w.adds) in
-    let added = subst (λ (b : Bool). AddsNode (split_reading n) a.bucket 0 [] a.dummy w.id 1 slots s (Ok b) u) c.in-Ok-true.field-0-test one in
     let x = g.L.Links.seat d c.anchor_and_go.new.p in
     let k = c.anchor_and_go.ensures.anchored in
     let all = g.met.L.Links.allowed d c.anchor_and_go.new.p c.anchor_and_go.ensures.pass in
-    added_roots n a.bucket a.dummy w.id s u x w.room w.slot_is added.slots_are added c.anchor_and_go.result c.requires.bucket.0 c.requires.bucket.1 k
-    (seen_holds (split_ordering n) k.mid x [] k.gone.puts all) all
+    added_roots n c.args.bucket c.args.dummy w.id s (g.L.Links.seat d c.add_node.new.p) x w.room w.slot_is added.slots_are added c.anchor_and_go.result
+    c.requires.bucket.0 c.requires.bucket.1 k (seen_holds (split_ordering n) k.mid x [] k.gone.puts all) all
 
 pub returns-in-Ok-false-clause-rooted : goal.returns-in-Ok-false-clause-rooted
 returns-in-Ok-false-clause-rooted g c = λ s w.
+    let added = missed g (goal.at.returns-in-Ok-false-clause-rooted g c).In-Ok-false s w in
     let d = c.args.links.now in
-    let n = g.L.Links.numbers d in
-    let a = c.args in
-    let t = g.L.Links.seat d a.p.now in
     let u = g.L.Links.seat d c.add_node.new.p in
-    let slots = slots_with s.slots (Some a.dummy) w.id in
-    let one = subst (λ (i : ℕ). AddsNode (split_reading n) a.bucket 0 [] a.dummy i 1 slots s (Ok c.in-Ok-false.field-0) u) w.id_is
-    (c.in-Ok-false.ensures.added w.start 1 slots s w.adds) in
-    let added = subst (λ (b : Bool). AddsNode (split_reading n) a.bucket 0 [] a.dummy w.id 1 slots s (Ok b) u) c.in-Ok-false.field-0-test one in
     let x = g.L.Links.seat d c.release.new.p in
-    missed_roots n a.bucket a.dummy w.id s u x w.room w.slot_is added.slots_are added (release_goes a.dummy u x c.release.ensures.released)
+    missed_roots (g.L.Links.numbers d) c.args.bucket c.args.dummy w.id s u x w.room w.slot_is added.slots_are added
+    (release_goes c.args.dummy u x c.release.ensures.released)
 
 pub returns-in-Err-clause-rooted : goal.returns-in-Err-clause-rooted
 returns-in-Err-clause-rooted g c = λ s w.
+    let added = refused g (goal.at.returns-in-Err-clause-rooted g c).In-Err s w in
     let d = c.args.links.now in
-    let n = g.L.Links.numbers d in
-    let a = c.args in
-    let t = g.L.Links.seat d a.p.now in
     let u = g.L.Links.seat d c.add_node.new.p in
-    let slots = slots_with s.slots (Some a.dummy) w.id in
-    let added = subst (λ (i : ℕ). AddsNode (split_reading n) a.bucket 0 [] a.dummy i 1 slots s (Err c.in-Err.spent) u) w.id_is
-    (c.in-Err.ensures.added w.start 1 slots s w.adds) in
     let x = g.L.Links.seat d c.release-in-Err.new.p in
-    refused_roots n a.bucket a.dummy w.id s u x w.room w.slot_is added.slots_are c.in-Err.spent added
-    (release_goes a.dummy u x c.release-in-Err.ensures.released)
+    refused_roots (g.L.Links.numbers d) c.args.bucket c.args.dummy w.id s u x w.room w.slot_is added.slots_are c.in-Err.spent added
+    (release_goes c.args.dummy u x c.release-in-Err.ensures.released)
 
 pub returns-in-Ok-true-clause-worn : goal.returns-in-Ok-true-clause-worn
 returns-in-Ok-true-clause-worn g c = λ why is.
-    let d = c.args.links.now in
-    let n = g.L.Links.numbers d in
-    let a = c.args in
-    let t = g.L.Links.seat d a.p.now in
-    let u = g.L.Links.seat d c.add_node.new.p in
     let (s, w) = c.requires.to_link in
-    let slots = slots_with s.slots (Some a.dummy) w.id in
-    let one = subst (λ (i : ℕ). AddsNode (split_reading n) a.bucket 0 [] a.dummy i 1 slots s (Ok c.in-Ok-true.field-0) u) w.id_is
-    (c.in-Ok-true.ensures.added w.start 1 slots s w.adds) in
-    let added = subst (λ (b : Bool). AddsNode (split_reading n) a.bucket 0 [] a.dummy w.id 1 slots s (Ok b) u) c.in-Ok-true.field-0-test one in
+    let added = linked g (goal.at.returns-in-Ok-true-clause-worn g c).In-Ok-true s w in
+    let d = c.args.links.now in
+    let t = g.L.Links.seat d c.args.p.now in
     let j = g.L.Links.journal c.args.p.now in
     let k = g.L.Links.journal c.add_node.new.p in
     let m = g.L.Links.journal c.anchor_and_go.new.p in

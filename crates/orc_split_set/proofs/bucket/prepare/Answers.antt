@@ -1,7 +1,6 @@
 -- The read of the size, and then the bucket's root.
 use Rattle.std.proofs.Common.{arith, subst, sym, ◌%◌, ◌<◌, ◌∙◌, ℕ}
-use Rattle.orc_ordered_search.specs.Causes.{WithinPart}
-use Rattle.orc_ordered_search.proofs.Parting.{part_of_part}
+use Rattle.orc_ordered_search.proofs.Parting.{part_of_next}
 use Rattle.orc_split_rule.specs.SplitDiscipline.{greatest}
 use Rattle.orc_heap.specs.Seats.{heap_of}
 use Rattle.orc_split_set.specs.Looks.{HasStart, LoadsFew, root_loads}
@@ -48,26 +47,17 @@ returns-in-None-clause-prepared g c =
 pub returns-in-Some-clause-lacking : goal.returns-in-Some-clause-lacking
 returns-in-Some-clause-lacking g c = λ told.
     let d = c.args.links.now in
-    let s = g.L.Links.seat d c.args.p.now in
-    let j = g.L.Links.journal c.args.p.now in
-    let k = g.L.Links.journal c.read_size.new.p in
-    let m = g.L.Links.journal c.root_bucket.new.p in
     let e = c.in-Some.ensures in
     let f = c.root_bucket.ensures in
-    let fact = subst (λ (y : ℕ). WithinPart g.L.Links.agent_of y k m (g.L.Links.lacking d y m)) e.read.quiet.puts.agent (f.lacking told) in
-    part_of_part g.L.Links.agent_of s.agent (g.L.Links.lacking d s.agent) j k m e.later f.later fact
+    part_of_next g.L.Links d c.args.p.now c.read_size.new.p c.root_bucket.new.p e.read.quiet.puts.agent e.later f.later (g.L.Links.lacking d) (f.lacking told)
 
 pub returns-in-Some-clause-worn : goal.returns-in-Some-clause-worn
 returns-in-Some-clause-worn g c = λ why told.
     let d = c.args.links.now in
-    let s = g.L.Links.seat d c.args.p.now in
-    let j = g.L.Links.journal c.args.p.now in
-    let k = g.L.Links.journal c.read_size.new.p in
-    let m = g.L.Links.journal c.root_bucket.new.p in
     let e = c.in-Some.ensures in
     let f = c.root_bucket.ensures in
-    let fact = subst (λ (y : ℕ). WithinPart g.L.Links.agent_of y k m (g.L.Links.worn d y why m)) e.read.quiet.puts.agent (f.worn why told) in
-    part_of_part g.L.Links.agent_of s.agent (g.L.Links.worn d s.agent why) j k m e.later f.later fact
+    part_of_next g.L.Links d c.args.p.now c.read_size.new.p c.root_bucket.new.p e.read.quiet.puts.agent e.later f.later (λ agent. g.L.Links.worn d agent why)
+    (f.worn why told)
 
 pub returns-in-Some-clause-idle : goal.returns-in-Some-clause-idle
 returns-in-Some-clause-idle g c =

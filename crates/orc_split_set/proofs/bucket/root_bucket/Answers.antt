@@ -1,8 +1,7 @@
 -- By what the look of the bucket's root found.
-use Rattle.std.proofs.Common.{arith, refl, subst, ℕ, ◌≤◌}
-use Rattle.orc_ordered_search.specs.Causes.{WithinPart}
+use Rattle.std.proofs.Common.{arith, refl, ◌≤◌}
 use Rattle.orc_ordered_search.proofs.Held.{release_goes}
-use Rattle.orc_ordered_search.proofs.Parting.{part_of_part}
+use Rattle.orc_ordered_search.proofs.Parting.{part_of_next}
 use Rattle.orc_split_set.specs.Looks.{root_loads}
 use Rattle.orc_split_set.proofs.Crowding.{own_not_moved, own_sooner, seen_grows}
 use Rattle.orc_split_set.proofs.Looking.{few_none, few_then, look_agent, look_grows, root_few, start_shown}
@@ -71,32 +70,21 @@ returns-in-Moved-clause-rooted g c =
 pub returns-in-Stable-default-None-clause-lacking : goal.returns-in-Stable-default-None-clause-lacking
 returns-in-Stable-default-None-clause-lacking g c = λ told.
     let d = c.args.links.now in
-    let s = g.L.Links.seat d c.args.p.now in
-    let t = g.L.Links.seat d c.look.new.p in
-    let j = g.L.Links.journal c.args.p.now in
-    let k = g.L.Links.journal c.look.new.p in
-    let m = g.L.Links.journal c.root_near.new.p in
     let x = c.in-Stable-default-None in
-    let held = null_held (g.L.Links.numbers d) s t c.args.bucket x.field-0
-    (looks_none c.args.bucket 2 x.field-0 x.field-1 s t x.field-1-is x.ensures.looked) in
+    let held = null_held (g.L.Links.numbers d) (g.L.Links.seat d c.args.p.now) (g.L.Links.seat d c.look.new.p) c.args.bucket x.field-0
+    (looks_none c.args.bucket 2 x.field-0 x.field-1 _ _ x.field-1-is x.ensures.looked) in
     let f = c.root_near.ensures in
-    let fact = subst (λ (y : ℕ). WithinPart g.L.Links.agent_of y k m (g.L.Links.lacking d y m)) held.quiet.puts.agent (f.lacking told) in
-    part_of_part g.L.Links.agent_of s.agent (g.L.Links.lacking d s.agent) j k m x.ensures.later f.later fact
+    part_of_next g.L.Links d c.args.p.now c.look.new.p c.root_near.new.p held.quiet.puts.agent x.ensures.later f.later (g.L.Links.lacking d) (f.lacking told)
 
 pub returns-in-Stable-default-None-clause-worn : goal.returns-in-Stable-default-None-clause-worn
 returns-in-Stable-default-None-clause-worn g c = λ why told.
     let d = c.args.links.now in
-    let s = g.L.Links.seat d c.args.p.now in
-    let t = g.L.Links.seat d c.look.new.p in
-    let j = g.L.Links.journal c.args.p.now in
-    let k = g.L.Links.journal c.look.new.p in
-    let m = g.L.Links.journal c.root_near.new.p in
     let x = c.in-Stable-default-None in
-    let held = null_held (g.L.Links.numbers d) s t c.args.bucket x.field-0
-    (looks_none c.args.bucket 2 x.field-0 x.field-1 s t x.field-1-is x.ensures.looked) in
+    let held = null_held (g.L.Links.numbers d) (g.L.Links.seat d c.args.p.now) (g.L.Links.seat d c.look.new.p) c.args.bucket x.field-0
+    (looks_none c.args.bucket 2 x.field-0 x.field-1 _ _ x.field-1-is x.ensures.looked) in
     let f = c.root_near.ensures in
-    let fact = subst (λ (y : ℕ). WithinPart g.L.Links.agent_of y k m (g.L.Links.worn d y why m)) held.quiet.puts.agent (f.worn why told) in
-    part_of_part g.L.Links.agent_of s.agent (g.L.Links.worn d s.agent why) j k m x.ensures.later f.later fact
+    part_of_next g.L.Links d c.args.p.now c.look.new.p c.root_near.new.p held.quiet.puts.agent x.ensures.later f.later (λ agent. g.L.Links.worn d agent why)
+    (f.worn why told)
 
 pub returns-then-bucket-eq0-clause-few : goal.returns-then-bucket-eq0-clause-few
 returns-then-bucket-eq0-clause-few g c = λ has.

@@ -1,10 +1,9 @@
 -- Where the turn's search begins, and what it found.
-use Rattle.std.proofs.Common.{refl, subst, ℕ}
+use Rattle.std.proofs.Common.{refl}
 use Rattle.orc_history.specs.declared.set.SetEntry.TheVariants.{Added}
-use Rattle.orc_ordered_search.specs.Causes.{WithinPart}
 use Rattle.orc_ordered_search.proofs.Inserting.{has_room, keeps_on}
 use Rattle.orc_ordered_search.proofs.Making.{found_over}
-use Rattle.orc_ordered_search.proofs.Parting.{part_of_part}
+use Rattle.orc_ordered_search.proofs.Parting.{part_of_next}
 use Rattle.orc_ordered_search.proofs.Preceding.{inserts_after, keeps_after}
 use Rattle.orc_split_rule.specs.SplitDiscipline.{size_of}
 use Rattle.orc_split_rule.specs.SplitOrder.{bucket_of}
@@ -60,28 +59,17 @@ returns-in-From-clause-inserted g c = λ slots room k.
 pub returns-in-From-clause-lacking : goal.returns-in-From-clause-lacking
 returns-in-From-clause-lacking g c = λ told.
     let d = c.args.links.now in
-    let s = g.L.Links.seat d c.args.p.now in
-    let t = g.L.Links.seat d c.begin.new.p in
-    let j = g.L.Links.journal c.args.p.now in
-    let k = g.L.Links.journal c.begin.new.p in
-    let m = g.L.Links.journal c.insert_from.new.p in
-    let b = c.in-From.ensures.begun in
+    let x = c.in-From.ensures in
     let f = c.insert_from.ensures in
-    let fact = subst (λ (x : ℕ). WithinPart g.L.Links.agent_of x k m (g.L.Links.lacking d x m)) b.begins.begins.agent (f.lacking told) in
-    part_of_part g.L.Links.agent_of s.agent (g.L.Links.lacking d s.agent) j k m c.in-From.ensures.later f.later fact
+    part_of_next g.L.Links d c.args.p.now c.begin.new.p c.insert_from.new.p x.begun.begins.begins.agent x.later f.later (g.L.Links.lacking d) (f.lacking told)
 
 pub returns-in-From-clause-worn : goal.returns-in-From-clause-worn
 returns-in-From-clause-worn g c = λ why told.
     let d = c.args.links.now in
-    let s = g.L.Links.seat d c.args.p.now in
-    let t = g.L.Links.seat d c.begin.new.p in
-    let j = g.L.Links.journal c.args.p.now in
-    let k = g.L.Links.journal c.begin.new.p in
-    let m = g.L.Links.journal c.insert_from.new.p in
-    let b = c.in-From.ensures.begun in
+    let x = c.in-From.ensures in
     let f = c.insert_from.ensures in
-    let fact = subst (λ (x : ℕ). WithinPart g.L.Links.agent_of x k m (g.L.Links.worn d x why m)) b.begins.begins.agent (f.worn why told) in
-    part_of_part g.L.Links.agent_of s.agent (g.L.Links.worn d s.agent why) j k m c.in-From.ensures.later f.later fact
+    part_of_next g.L.Links d c.args.p.now c.begin.new.p c.insert_from.new.p x.begun.begins.begins.agent x.later f.later (λ agent. g.L.Links.worn d agent why)
+    (f.worn why told)
 
 pub returns-in-From-clause-counted : goal.returns-in-From-clause-counted
 returns-in-From-clause-counted g c = λ many is.

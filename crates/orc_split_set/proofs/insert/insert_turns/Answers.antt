@@ -2,11 +2,10 @@
 use Rattle.std.proofs.Common.{[], append-nil, arith, subst, ℕ, None, ◌≡◌}
 use Rattle.orc_heap.proofs.Pieces.{goes_on}
 use Rattle.orc_history.specs.declared.set.SetEntry.TheVariants.{Added}
-use Rattle.orc_ordered_search.specs.Causes.{WithinPart}
 use Rattle.orc_ordered_search.specs.Inserts.{Inserts, InsertsOn}
 use Rattle.orc_ordered_search.specs.declared.turn.InsertTurn.{InsertTurn}
 use Rattle.orc_ordered_search.proofs.Inserting.{inserts_done, inserts_next, inserts_none}
-use Rattle.orc_ordered_search.proofs.Parting.{part_of_part}
+use Rattle.orc_ordered_search.proofs.Parting.{part_of_next}
 use Rattle.orc_split_set.specs.SplitSearches.{split_reading}
 use Rattle.orc_split_set.proofs.Crowding.{seen_grows, turns_count}
 use Rattle.orc_split_set.proofs.insert.insert_turns.Goals as goal
@@ -60,26 +59,17 @@ returns-in_default-clause-inserted g c =
 pub returns-in_default-clause-lacking : goal.returns-in_default-clause-lacking
 returns-in_default-clause-lacking g c = λ is.
     let d = c.args.links.now in
-    let s = g.L.Links.seat d c.args.p.now in
-    let j = g.L.Links.journal c.args.p.now in
-    let k = g.L.Links.journal c.loop.p in
-    let m = g.L.Links.journal c.insert_turn-turn.new.p in
     let i = c.loop.invariant in
     let e = c.insert_turn-turn.ensures in
-    let fact = subst (λ (x : ℕ). WithinPart g.L.Links.agent_of x k m (g.L.Links.lacking d x m)) i.on.over.made.puts.agent (e.lacking is) in
-    part_of_part g.L.Links.agent_of s.agent (g.L.Links.lacking d s.agent) j k m i.later e.later fact
+    part_of_next g.L.Links d c.args.p.now c.loop.p c.insert_turn-turn.new.p i.on.over.made.puts.agent i.later e.later (g.L.Links.lacking d) (e.lacking is)
 
 pub returns-in_default-clause-worn : goal.returns-in_default-clause-worn
 returns-in_default-clause-worn g c = λ why is.
     let d = c.args.links.now in
-    let s = g.L.Links.seat d c.args.p.now in
-    let j = g.L.Links.journal c.args.p.now in
-    let k = g.L.Links.journal c.loop.p in
-    let m = g.L.Links.journal c.insert_turn-turn.new.p in
     let i = c.loop.invariant in
     let e = c.insert_turn-turn.ensures in
-    let fact = subst (λ (x : ℕ). WithinPart g.L.Links.agent_of x k m (g.L.Links.worn d x why m)) i.on.over.made.puts.agent (e.worn why is) in
-    part_of_part g.L.Links.agent_of s.agent (g.L.Links.worn d s.agent why) j k m i.later e.later fact
+    part_of_next g.L.Links d c.args.p.now c.loop.p c.insert_turn-turn.new.p i.on.over.made.puts.agent i.later e.later (λ agent. g.L.Links.worn d agent why)
+    (e.worn why is)
 
 pub returns-clause-inserted : goal.returns-clause-inserted
 returns-clause-inserted g c =

@@ -1,125 +1,100 @@
 -- By what the search found.
-use Rattle.std.proofs.Common.{None, length, subst, sym, ℕ}
 use Rattle.orc_heap.specs.declared.events.Place.TheVariants.{Root}
-use Rattle.orc_history.specs.Journals.{Within}
-use Rattle.orc_ordered_search.specs.Searches.{FindsAbsent, FindsPresent}
 use Rattle.orc_ordered_search.proofs.Held.{present_hand}
 use Rattle.orc_ordered_search.proofs.Inserting.{idle_room}
-use Rattle.orc_ordered_search.proofs.Parting.{part_begun_seats, part_of_piece}
+use Rattle.orc_ordered_search.proofs.Parting.{part_of_later}
+use Rattle.orc_ordered_search.specs.Searches.{FindsAbsent, FindsPresent}
 use Rattle.orc_split_rule.specs.SplitOrder.{dummy_place}
-use Rattle.orc_split_set.specs.SplitSearches.{BeginsAt, split_reading}
+use Rattle.orc_split_set.specs.SplitSearches.{split_reading}
 use Rattle.orc_split_set.proofs.Ordered.{split_ordering}
 use Rattle.orc_split_set.proofs.Rooting.{moved_roots}
 use Rattle.orc_split_set.proofs.Stopping.{begins_first, found_stops, moved_stops}
+use Rattle.orc_split_set.proofs.stop.stop_a_bucket.Given.{Over}
+use Rattle.orc_split_set.proofs.stop.stop_a_bucket.Goals.{In-Absent, In-Present}
 use Rattle.orc_split_set.proofs.stop.stop_a_bucket.Goals as goal
 
-pub search-requires-clause-begins : goal.search-requires-clause-begins
-search-requires-clause-begins g c =
+-- the dummy's place, without it
+absent : (g : Over) (c : In-Absent g) → let d = c.args.links.now in let x = c.in-Absent in
+    FindsAbsent (split_reading (g.L.Links.numbers d)) (Root 0) (dummy_place c.args.bucket) x.passed x.left x.first x.right (g.L.Links.seat d c.args.p.now)
+    (g.L.Links.seat d c.search_for.new.p)
+absent g c =
     let d = c.args.links.now in
-    let n = g.L.Links.numbers d in
     let s = g.L.Links.seat d c.args.p.now in
-    let begins = subst (λ (w : ℕ). BeginsAt n (Root 0) w None s s) (sym c.place.ensures) (begins_first n c.args.bucket s) in
-    (Root 0, s, (idle_room s c.requires.idle).room, begins)
+    c.in-Absent.ensures.found (Root 0) s (idle_room s c.requires.idle).room (begins_first (g.L.Links.numbers d) c.args.bucket s)
+
+-- and with it
+present : (g : Over) (c : In-Present g) → let d = c.args.links.now in let x = c.in-Present in
+    FindsPresent (split_reading (g.L.Links.numbers d)) (Root 0) (dummy_place c.args.bucket) x.passed x.left x.first x.node x.next
+    (g.L.Links.seat d c.args.p.now) (g.L.Links.seat d c.search_for.new.p)
+present g c =
+    let d = c.args.links.now in
+    let s = g.L.Links.seat d c.args.p.now in
+    c.in-Present.ensures.found (Root 0) s (idle_room s c.requires.idle).room (begins_first (g.L.Links.numbers d) c.args.bucket s)
+
+pub search_for-requires-clause-begins : goal.search_for-requires-clause-begins
+search_for-requires-clause-begins g c =
+    let d = c.args.links.now in
+    let s = g.L.Links.seat d c.args.p.now in
+    (Root 0, s, (idle_room s c.requires.idle).room, begins_first (g.L.Links.numbers d) c.args.bucket s)
 
 pub returns-in-Over-clause-stopped : goal.returns-in-Over-clause-stopped
 returns-in-Over-clause-stopped g c =
     let d = c.args.links.now in
     let n = g.L.Links.numbers d in
     let s = g.L.Links.seat d c.args.p.now in
-    let t = g.L.Links.seat d c.search.new.p in
-    let begins = subst (λ (w : ℕ). BeginsAt n (Root 0) w None s s) (sym c.place.ensures) (begins_first n c.args.bucket s) in
-    moved_stops n c.args.bucket s t
-    (moved_roots n c.args.bucket s t (c.in-Over.ensures.found (Root 0) s (idle_room s c.requires.idle).room begins) c.requires.idle.fresh)
+    let t = g.L.Links.seat d c.search_for.new.p in
+    let over = c.in-Over.ensures.found (Root 0) s (idle_room s c.requires.idle).room (begins_first n c.args.bucket s) in
+    moved_stops n c.args.bucket s t (moved_roots n c.args.bucket s t over c.requires.idle.fresh)
 
 pub add_and_stop-requires-clause-absent : goal.add_and_stop-requires-clause-absent
 add_and_stop-requires-clause-absent g c =
-    let d = c.args.links.now in
-    let n = g.L.Links.numbers d in
-    let s = g.L.Links.seat d c.args.p.now in
-    let t = g.L.Links.seat d c.search.new.p in
-    let room = idle_room s c.requires.idle in
-    let begins = subst (λ (w : ℕ). BeginsAt n (Root 0) w None s s) (sym c.place.ensures) (begins_first n c.args.bucket s) in
-    let x = c.in-Absent in
-    let f = subst (λ (w : ℕ). FindsAbsent (split_reading n) (Root 0) w x.passed x.left x.first x.right s t) c.place.ensures
-    (x.ensures.found (Root 0) s room.room begins) in
-    (Root 0, s, room, c.requires.idle.fresh, f)
+    let s = g.L.Links.seat c.args.links.now c.args.p.now in
+    (Root 0, s, idle_room s c.requires.idle, c.requires.idle.fresh, absent g (goal.at.add_and_stop-requires-clause-absent g c).In-Absent)
 
 pub returns-in-Absent-clause-stopped : goal.returns-in-Absent-clause-stopped
 returns-in-Absent-clause-stopped g c =
-    let d = c.args.links.now in
-    let n = g.L.Links.numbers d in
-    let s = g.L.Links.seat d c.args.p.now in
-    let t = g.L.Links.seat d c.search.new.p in
-    let room = idle_room s c.requires.idle in
-    let begins = subst (λ (w : ℕ). BeginsAt n (Root 0) w None s s) (sym c.place.ensures) (begins_first n c.args.bucket s) in
-    let x = c.in-Absent in
-    let f = subst (λ (w : ℕ). FindsAbsent (split_reading n) (Root 0) w x.passed x.left x.first x.right s t) c.place.ensures
-    (x.ensures.found (Root 0) s room.room begins) in
-    c.add_and_stop.ensures.stopped (Root 0) s room c.requires.idle.fresh f
+    let s = g.L.Links.seat c.args.links.now c.args.p.now in
+    c.add_and_stop.ensures.stopped (Root 0) s (idle_room s c.requires.idle) c.requires.idle.fresh
+    (absent g (goal.at.returns-in-Absent-clause-stopped g c).In-Absent)
 
 pub returns-in-Absent-clause-lacking : goal.returns-in-Absent-clause-lacking
 returns-in-Absent-clause-lacking g c = λ told.
     let d = c.args.links.now in
-    let n = g.L.Links.numbers d in
-    let s = g.L.Links.seat d c.args.p.now in
-    let t = g.L.Links.seat d c.search.new.p in
-    let room = idle_room s c.requires.idle in
-    let begins = subst (λ (w : ℕ). BeginsAt n (Root 0) w None s s) (sym c.place.ensures) (begins_first n c.args.bucket s) in
-    let x = c.in-Absent in
-    let q = (x.ensures.found (Root 0) s room.room begins).behind.quiet in
-    let j = g.L.Links.journal c.args.p.now in
-    let k = g.L.Links.journal c.search.new.p in
-    let m = g.L.Links.journal c.add_and_stop.new.p in
-    let is_s = g.met.L.Links.seen_is d c.args.p.now c.requires.pass in
-    let is_t = g.met.L.Links.seen_is d c.search.new.p x.ensures.pass in
-    let begun = part_begun_seats g.L.Links.agent_of (g.L.Links.events d) (g.met.L.Links.steps_add d) j k s t _ q.puts x.ensures.later is_s is_t q.some in
-    let fact = subst (λ (y : ℕ). Within (length k) (length m) (g.L.Links.lacking d y m)) q.puts.agent (c.add_and_stop.ensures.lacking told) in
-    part_of_piece g.L.Links.agent_of s.agent (g.L.Links.lacking d s.agent) j k m x.ensures.later c.add_and_stop.ensures.later begun fact
+    let q = (absent g (goal.at.returns-in-Absent-clause-lacking g c).In-Absent).behind.quiet in
+    let e = c.in-Absent.ensures in
+    let f = c.add_and_stop.ensures in
+    part_of_later g.L.Links g.met.L.Links.steps_add g.met.L.Links.seen_is d c.args.p.now c.search_for.new.p c.add_and_stop.new.p _ c.requires.pass
+    e.pass q.puts q.some e.later f.later (g.L.Links.lacking d) (f.lacking told)
 
 pub returns-in-Absent-clause-worn : goal.returns-in-Absent-clause-worn
 returns-in-Absent-clause-worn g c = λ why told.
     let d = c.args.links.now in
-    let n = g.L.Links.numbers d in
-    let s = g.L.Links.seat d c.args.p.now in
-    let t = g.L.Links.seat d c.search.new.p in
-    let room = idle_room s c.requires.idle in
-    let begins = subst (λ (w : ℕ). BeginsAt n (Root 0) w None s s) (sym c.place.ensures) (begins_first n c.args.bucket s) in
-    let x = c.in-Absent in
-    let q = (x.ensures.found (Root 0) s room.room begins).behind.quiet in
-    let j = g.L.Links.journal c.args.p.now in
-    let k = g.L.Links.journal c.search.new.p in
-    let m = g.L.Links.journal c.add_and_stop.new.p in
-    let is_s = g.met.L.Links.seen_is d c.args.p.now c.requires.pass in
-    let is_t = g.met.L.Links.seen_is d c.search.new.p x.ensures.pass in
-    let begun = part_begun_seats g.L.Links.agent_of (g.L.Links.events d) (g.met.L.Links.steps_add d) j k s t _ q.puts x.ensures.later is_s is_t q.some in
-    let fact = subst (λ (y : ℕ). Within (length k) (length m) (g.L.Links.worn d y why m)) q.puts.agent (c.add_and_stop.ensures.worn why told) in
-    part_of_piece g.L.Links.agent_of s.agent (g.L.Links.worn d s.agent why) j k m x.ensures.later c.add_and_stop.ensures.later begun fact
+    let q = (absent g (goal.at.returns-in-Absent-clause-worn g c).In-Absent).behind.quiet in
+    let e = c.in-Absent.ensures in
+    let f = c.add_and_stop.ensures in
+    part_of_later g.L.Links g.met.L.Links.steps_add g.met.L.Links.seen_is d c.args.p.now c.search_for.new.p c.add_and_stop.new.p _ c.requires.pass
+    e.pass q.puts q.some e.later f.later (λ agent. g.L.Links.worn d agent why) (f.worn why told)
 
 pub let_all_go-requires-clause-hands : goal.let_all_go-requires-clause-hands
 let_all_go-requires-clause-hands g c =
     let d = c.args.links.now in
     let n = g.L.Links.numbers d in
     let s = g.L.Links.seat d c.args.p.now in
-    let t = g.L.Links.seat d c.search.new.p in
-    let room = idle_room s c.requires.idle in
-    let begins = subst (λ (w : ℕ). BeginsAt n (Root 0) w None s s) (sym c.place.ensures) (begins_first n c.args.bucket s) in
-    let x = c.in-Present in
-    let f = subst (λ (w : ℕ). FindsPresent (split_reading n) (Root 0) w x.passed x.left x.first x.node x.next s t) c.place.ensures
-    (x.ensures.found (Root 0) s room.room begins) in
-    (s.slots, present_hand (split_ordering n) (Root 0) (dummy_place c.args.bucket) x.passed x.left x.first s t x.node x.next f)
+    let x = c.in-Present in (
+      s.slots,
+      present_hand (split_ordering n) (Root 0) (dummy_place c.args.bucket) x.passed x.left x.first s (g.L.Links.seat d c.search_for.new.p) x.node
+          x.next (present g (goal.at.let_all_go-requires-clause-hands g c).In-Present),
+    )
 
 pub returns-in-Present-clause-stopped : goal.returns-in-Present-clause-stopped
 returns-in-Present-clause-stopped g c =
+    let f = present g (goal.at.returns-in-Present-clause-stopped g c).In-Present in
     let d = c.args.links.now in
     let n = g.L.Links.numbers d in
     let s = g.L.Links.seat d c.args.p.now in
-    let t = g.L.Links.seat d c.search.new.p in
+    let t = g.L.Links.seat d c.search_for.new.p in
     let u = g.L.Links.seat d c.let_all_go.new.p in
-    let room = idle_room s c.requires.idle in
-    let begins = subst (λ (w : ℕ). BeginsAt n (Root 0) w None s s) (sym c.place.ensures) (begins_first n c.args.bucket s) in
     let x = c.in-Present in
-    let f = subst (λ (w : ℕ). FindsPresent (split_reading n) (Root 0) w x.passed x.left x.first x.node x.next s t) c.place.ensures
-    (x.ensures.found (Root 0) s room.room begins) in
     let hand = present_hand (split_ordering n) (Root 0) (dummy_place c.args.bucket) x.passed x.left x.first s t x.node x.next f in
     found_stops n c.args.bucket (Root 0) x.passed x.left x.first x.node x.next s t u f (c.let_all_go.ensures.gone s.slots hand) c.requires.idle.fresh
     (g.met.L.Links.allowed d c.let_all_go.new.p c.let_all_go.ensures.pass)

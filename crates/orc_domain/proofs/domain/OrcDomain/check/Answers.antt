@@ -7,7 +7,20 @@ use Rattle.orc_domain.proofs.Stages.{stage}
 use Rattle.orc_domain.proofs.Wearing.{check_can, checks, is_worn, is_worn_in}
 use Rattle.orc_domain.specs.Passes.{domain_bounds}
 use Rattle.orc_words.specs.Packed.{sequence_of}
+use Rattle.orc_domain.proofs.domain.OrcDomain.check.Given.{Over}
+use Rattle.orc_domain.proofs.domain.OrcDomain.check.Goals.{After-counter_load-counter}
 use Rattle.orc_domain.proofs.domain.OrcDomain.check.Goals as goal
+
+-- the load of the row's counter
+loaded : (g : Over) (c : After-counter_load-counter g) → let k = c.args.self.now.board.words.shape in
+    MakesPlain (domain_bounds c.args.self.now) (CounterLoad c.args.h.now.row Check) (stage g.D.Discipline k _ _ c.requires.belongs.keeps).view
+    c.counter_load-counter.result (stage g.D.Discipline k _ _ c.counter_load-counter.ensures.belongs.keeps).view
+loaded g c =
+    let k = c.args.self.now.board.words.shape in
+    let s = stage g.D.Discipline k _ _ c.requires.belongs.keeps in
+    let e = c.counter_load-counter.ensures in
+    let t = stage g.D.Discipline k _ _ e.belongs.keeps in
+    subst (λ r. MakesPlain (domain_bounds c.args.self.now) (CounterLoad r Check) s.view c.counter_load-counter.result t.view) c.row-row.ensures e.made
 
 pub counter_load-counter-requires-clause-allowed : goal.counter_load-counter-requires-clause-allowed
 counter_load-counter-requires-clause-allowed g c =
@@ -18,47 +31,37 @@ counter_load-counter-requires-clause-allowed g c =
 pub returns-then-sequence-limit-clause-checks : goal.returns-then-sequence-limit-clause-checks
 returns-then-sequence-limit-clause-checks g c =
     let k = c.args.self.now.board.words.shape in
-    let s = stage g.D.Discipline k _ _ c.requires.belongs.keeps in
-    let e = c.counter_load-counter.ensures in
-    let t = stage g.D.Discipline k _ _ e.belongs.keeps in
-    let n = c.counter_load-counter.result in
-    let m = subst (λ r. MakesPlain (domain_bounds c.args.self.now) (CounterLoad r Check) s.view n t.view) c.row-row.ensures e.made in
-    checks s c.args.h.now c.requires.held t n m
+    checks (stage g.D.Discipline k _ _ c.requires.belongs.keeps) c.args.h.now c.requires.held
+    (stage g.D.Discipline k _ _ c.counter_load-counter.ensures.belongs.keeps) c.counter_load-counter.result
+    (loaded g (goal.at.returns-then-sequence-limit-clause-checks g c).After-counter_load-counter)
 
 pub returns-then-sequence-limit-clause-spent : goal.returns-then-sequence-limit-clause-spent
 returns-then-sequence-limit-clause-spent g c =
+    let m = loaded g (goal.at.returns-then-sequence-limit-clause-spent g c).After-counter_load-counter in
     let k = c.args.self.now.board.words.shape in
-    let s = stage g.D.Discipline k _ _ c.requires.belongs.keeps in
-    let e = c.counter_load-counter.ensures in
-    let t = stage g.D.Discipline k _ _ e.belongs.keeps in
     let n = c.counter_load-counter.result in
-    let m = subst (λ r. MakesPlain (domain_bounds c.args.self.now) (CounterLoad r Check) s.view n t.view) c.row-row.ensures e.made in
     let is = c.if-sequence-limit.true in
     let one = c.limit.ensures in
     let two = c.shape.ensures in
     let high : (domain_bounds c.args.self.now).limit + 64 ≤ sequence_of n = grind arith in
-    is_worn s c.args.h.now c.requires.held t n m _ (λ i. record { row = c.row-row.ensures i; sequence = sequence_of n }) high
+    is_worn (stage g.D.Discipline k _ _ c.requires.belongs.keeps) c.args.h.now c.requires.held
+    (stage g.D.Discipline k _ _ c.counter_load-counter.ensures.belongs.keeps) n m _ (λ i. record { row = c.row-row.ensures i; sequence = sequence_of n }) high
 
 pub returns-then-sequence-limit-clause-worn : goal.returns-then-sequence-limit-clause-worn
 returns-then-sequence-limit-clause-worn g c =
+    let m = loaded g (goal.at.returns-then-sequence-limit-clause-worn g c).After-counter_load-counter in
     let k = c.args.self.now.board.words.shape in
-    let s = stage g.D.Discipline k _ _ c.requires.belongs.keeps in
-    let e = c.counter_load-counter.ensures in
-    let t = stage g.D.Discipline k _ _ e.belongs.keeps in
     let n = c.counter_load-counter.result in
-    let m = subst (λ r. MakesPlain (domain_bounds c.args.self.now) (CounterLoad r Check) s.view n t.view) c.row-row.ensures e.made in
     let is = c.if-sequence-limit.true in
     let one = c.limit.ensures in
     let two = c.shape.ensures in
     let high : (domain_bounds c.args.self.now).limit + 64 ≤ sequence_of n = grind arith in
-    is_worn_in s c.args.h.now c.requires.held t n m _ (λ i. record { row = c.row-row.ensures i; sequence = sequence_of n }) high
+    is_worn_in (stage g.D.Discipline k _ _ c.requires.belongs.keeps) c.args.h.now c.requires.held
+    (stage g.D.Discipline k _ _ c.counter_load-counter.ensures.belongs.keeps) n m _ (λ i. record { row = c.row-row.ensures i; sequence = sequence_of n }) high
 
 pub returns-clause-checks : goal.returns-clause-checks
 returns-clause-checks g c =
     let k = c.args.self.now.board.words.shape in
-    let s = stage g.D.Discipline k _ _ c.requires.belongs.keeps in
-    let e = c.counter_load-counter.ensures in
-    let t = stage g.D.Discipline k _ _ e.belongs.keeps in
-    let n = c.counter_load-counter.result in
-    let m = subst (λ r. MakesPlain (domain_bounds c.args.self.now) (CounterLoad r Check) s.view n t.view) c.row-row.ensures e.made in
-    checks s c.args.h.now c.requires.held t n m
+    checks (stage g.D.Discipline k _ _ c.requires.belongs.keeps) c.args.h.now c.requires.held
+    (stage g.D.Discipline k _ _ c.counter_load-counter.ensures.belongs.keeps) c.counter_load-counter.result
+    (loaded g (goal.at.returns-clause-checks g c).After-counter_load-counter)

@@ -1,10 +1,27 @@
 use Rattle.std.proofs.Common.{sym, ◌∙◌}
 use Rattle.std.specs.Prelude.{None, cond}
 use Rattle.orc_core.specs.RecordParts.{same_target}
-use Rattle.orc_domain.proofs.Aiming.{store_countable, store_down, store_up, stored_leaves, stored_untouched, stores}
+use Rattle.orc_domain.proofs.Aiming.{StoresFresh, store_countable, store_down, store_up, stored_leaves, stored_untouched, stores}
 use Rattle.orc_domain.proofs.Linking.{store_can}
-use Rattle.orc_domain.proofs.Stages.{Between, stage}
+use Rattle.orc_domain.proofs.Stages.{stage}
+use Rattle.orc_domain.proofs.domain.OrcDomain.store.Given.{Over}
+use Rattle.orc_domain.proofs.domain.OrcDomain.store.Goals.{After-link_store-old}
 use Rattle.orc_domain.proofs.domain.OrcDomain.store.Goals as goal
+
+-- the store
+stored : (g : Over) (c : After-link_store-old g) → let k = c.args.self.now.board.words.shape in
+    StoresFresh (stage g.D.Discipline k _ _ c.requires.belongs.keeps) (stage g.D.Discipline k _ _ c.link_store-old.ensures.belongs.keeps) c.args.row
+    c.args.number c.args.to c.link_store-old.result
+stored g c =
+    let r = c.requires in
+    record {
+      makes = c.link_store-old.ensures.makes;
+      is = record { ready = r.ready; untouched = r.untouched };
+      there = r.number;
+      fresh = r.fresh;
+      target = r.target;
+      other = r.other;
+    }
 
 pub link_store-old-requires-clause-allowed : goal.link_store-old-requires-clause-allowed
 link_store-old-requires-clause-allowed g c =
@@ -13,66 +30,32 @@ link_store-old-requires-clause-allowed g c =
     store_can s c.args.row c.args.number c.args.to r.number r.ready r.fresh r.target r.low
 
 pub complete-requires-clause-countable : goal.complete-requires-clause-countable
-complete-requires-clause-countable g c =
-    let k = c.args.self.now.board.words.shape in
-    let r = c.requires in
-    let e = c.link_store-old.ensures in
-    let s = stage g.D.Discipline k _ _ r.belongs.keeps in
-    let t = stage g.D.Discipline k _ _ e.belongs.keeps in
-    let is : Between s = record { ready = r.ready; untouched = r.untouched } in
-    store_countable s t c.args.row c.args.number c.args.to c.link_store-old.result e.makes is r.number r.fresh r.target r.other
+complete-requires-clause-countable g c = store_countable (stored g (goal.at.complete-requires-clause-countable g c).After-link_store-old)
 
 pub returns-clause-untouched : goal.returns-clause-untouched
 returns-clause-untouched g c =
-    let k = c.args.self.now.board.words.shape in
-    let r = c.requires in
-    let e = c.link_store-old.ensures in
-    let s = stage g.D.Discipline k _ _ r.belongs.keeps in
-    let t = stage g.D.Discipline k _ _ e.belongs.keeps in
-    let is : Between s = record { ready = r.ready; untouched = r.untouched } in
-    let u = stage g.D.Discipline k _ _ c.complete.ensures.belongs.keeps in
-    stored_untouched s t c.args.row c.args.number c.args.to c.link_store-old.result e.makes is r.number r.fresh r.target r.other u c.complete.ensures.becomes
+    let e = c.complete.ensures in
+    stored_untouched (stored g (goal.at.returns-clause-untouched g c).After-link_store-old)
+    (stage g.D.Discipline c.args.self.now.board.words.shape _ _ e.belongs.keeps) e.becomes
 
 pub returns-clause-stores : goal.returns-clause-stores
 returns-clause-stores g c =
-    let k = c.args.self.now.board.words.shape in
-    let r = c.requires in
-    let e = c.link_store-old.ensures in
-    let s = stage g.D.Discipline k _ _ r.belongs.keeps in
-    let t = stage g.D.Discipline k _ _ e.belongs.keeps in
-    let is : Between s = record { ready = r.ready; untouched = r.untouched } in
-    let u = stage g.D.Discipline k _ _ c.complete.ensures.belongs.keeps in
-    stores s t c.args.row c.args.number c.args.to c.link_store-old.result e.makes is r.number r.fresh r.target r.other u c.complete.ensures.becomes
+    let e = c.complete.ensures in
+    stores (stored g (goal.at.returns-clause-stores g c).After-link_store-old)
+    (stage g.D.Discipline c.args.self.now.board.words.shape _ _ e.belongs.keeps) e.becomes
 
 pub returns-clause-leaves : goal.returns-clause-leaves
 returns-clause-leaves g c =
-    let k = c.args.self.now.board.words.shape in
-    let r = c.requires in
-    let e = c.link_store-old.ensures in
-    let s = stage g.D.Discipline k _ _ r.belongs.keeps in
-    let t = stage g.D.Discipline k _ _ e.belongs.keeps in
-    let is : Between s = record { ready = r.ready; untouched = r.untouched } in
-    let u = stage g.D.Discipline k _ _ c.complete.ensures.belongs.keeps in
-    stored_leaves s t c.args.row c.args.number c.args.to c.link_store-old.result e.makes is r.number r.fresh r.target r.other u c.complete.ensures.becomes
+    let e = c.complete.ensures in
+    stored_leaves (stored g (goal.at.returns-clause-leaves g c).After-link_store-old)
+    (stage g.D.Discipline c.args.self.now.board.words.shape _ _ e.belongs.keeps) e.becomes
 
 pub complete-requires-clause-up : goal.complete-requires-clause-up
 complete-requires-clause-up g c =
-    let k = c.args.self.now.board.words.shape in
-    let r = c.requires in
-    let e = c.link_store-old.ensures in
-    let s = stage g.D.Discipline k _ _ r.belongs.keeps in
-    let t = stage g.D.Discipline k _ _ e.belongs.keeps in
-    let is : Between s = record { ready = r.ready; untouched = r.untouched } in
-    store_up s t c.args.row c.args.number c.args.to c.link_store-old.result e.makes is r.number r.fresh r.target r.other
+    store_up (stored g (goal.at.complete-requires-clause-up g c).After-link_store-old)
     ∙ ((λ i. cond (same_target (sym c.named.ensures i) c.args.to) None c.args.to) ∙ sym c.to_count-up.ensures.up)
 
 pub complete-requires-clause-down : goal.complete-requires-clause-down
 complete-requires-clause-down g c =
-    let k = c.args.self.now.board.words.shape in
-    let r = c.requires in
-    let e = c.link_store-old.ensures in
-    let s = stage g.D.Discipline k _ _ r.belongs.keeps in
-    let t = stage g.D.Discipline k _ _ e.belongs.keeps in
-    let is : Between s = record { ready = r.ready; untouched = r.untouched } in
-    store_down s t c.args.row c.args.number c.args.to c.link_store-old.result e.makes is r.number r.fresh r.target r.other
+    store_down (stored g (goal.at.complete-requires-clause-down g c).After-link_store-old)
     ∙ ((λ i. cond (same_target (sym c.named.ensures i) c.args.to) None (sym c.named.ensures i)) ∙ sym c.to_count-up.ensures.down)
