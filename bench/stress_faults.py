@@ -18,8 +18,8 @@ import sys
 import tempfile
 
 TOP = os.path.dirname(os.path.dirname(os.path.abspath(__file__)))
-# How many calls each thread makes.
-CALLS = '--calls 250'
+# How many calls each thread makes, and of how many rows, where a fault's own words don't say otherwise.
+USUAL = (('--calls', '500'), ('--rows', '2000'))
 # The fault; the words that it is driven with, of which the second is the container; and the file, what stands there once, and what
 # stands there instead.
 FAULTS = (
@@ -50,7 +50,7 @@ FAULTS = (
      'orc_list/src/insert.rt',
      '        Ok(true) => InsertTurn::Answered(true),',
      '        Ok(true) => InsertTurn::Answered(key % 16 != 1),'),
-    ('a remove answers true where another removed the key', '--container set --mix 34/33/33 --keys 2 --roots 1',
+    ('a remove answers true where another removed the key', '--container set --mix 34/33/33 --keys 2 --roots 1 --calls 2000',
      'orc_list/src/remove.rt',
      '    if !mark_node(links, p, key, &node, &next) {\n        let_all_go(links, p, left, first, Some(node), next);\n        return false;',
      '    if !mark_node(links, p, key, &node, &next) {\n        let_all_go(links, p, left, first, Some(node), next);\n        return true;'),
@@ -66,7 +66,7 @@ FAULTS = (
      'orc_split_set/src/answer.rt',
      '    match search(links, p, place_of(key, 1), left) {',
      '    match search(links, p, place_of(key, u64::from(key > 3)), left) {'),
-    ('a read mixes two versions', '--container cell --mix 34/33/33',
+    ('a read mixes two versions', '--container cell --calls 1000',
      'orc_cell/src/read.rt',
      '    let right = read_part(links, p, &At::Side(pair));\n    if confirm(links, p, &Want::Node(pair, false), left, right) {\n',
      '    let right = match links.look(p, &At::Root(PAIR), 3) {\n'
@@ -102,6 +102,15 @@ FAULTS = (
 def container_of(fault):
     """The container that a fault's runs drive."""
     return fault[1].split()[1]
+
+
+def completed(words):
+    """The words, with the usual ones that they leave out."""
+    words = words.split()
+    for option, value in USUAL:
+        if option not in words:
+            words += [option, value]
+    return words
 
 
 def copies(faults):
@@ -146,7 +155,7 @@ def ran(faults, seconds, runs):
                     name = f'{folder}/cases/{place}-{own}-{run}'
                     open(name, 'w', encoding='utf-8').close()
                     with open(f'{name}.args', 'w', encoding='utf-8') as it:
-                        it.write('\n'.join([*words.split(), *CALLS.split(), '--seed', str(run)]) + '\n')
+                        it.write('\n'.join([*completed(words), '--seed', str(run)]) + '\n')
         done = subprocess.run(['rt', 'try', '--seconds', str(seconds), '--cases', f'{folder}/cases'], cwd=f'{folder}/crates/stress',
                               stdin=subprocess.DEVNULL, capture_output=True, text=True)
     run = None

@@ -4,6 +4,7 @@
 mod agents;
 mod container;
 mod load;
+mod order;
 mod pairs;
 mod results;
 mod runs;
@@ -18,6 +19,3 @@ pub use results::{Counts, judge, print_figures, tell_missing};
 pub use runs::{Driven, Rest, drive};
 pub use settings::{Domain, Kind, Refused, Settings, Stop, settings_of};
 pub use tally::{Answer, Answers, Items, Tally};
-
-#[cfg(test)]
-mod tests;

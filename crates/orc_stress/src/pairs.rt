@@ -1,5 +1,6 @@
-//! Pairs that agents published and read, and what is wrong with them.
+//! Pairs that agents published and read, when they did, and what is wrong with them.
 
+use crate::order::Order;
 use std::alloc::{AllocError, Global};
 use std::sync::atomic::{AtomicU64, Ordering};
 
@@ -11,15 +12,25 @@ pub fn value_of(agent: u32, call: u32) -> u64 {
     (u64::from(agent) << 32) | u64::from(call).wrapping_add(1)
 }
 
-/// The pairs that agents' calls were answered by, each at the place of its call. Each agent writes its own places alone, and they
-/// are looked at once all are done.
+// The pair that a call was answered by, and when it ended; 0 where it wasn't answered.
+#[derive(Drop)]
+struct Noted {
+    left: AtomicU64,
+    right: AtomicU64,
+    ended: AtomicU64,
+}
+
+/// The pairs that agents' calls were answered by, each at the place of its call, with the time of a clock that all share, which goes
+/// on by one with each call. Each agent writes its own places alone, and they are looked at once all are done.
 #[derive(Drop)]
 pub struct PairLog {
     // of how many agents, and of how many calls of each
     agents: u64,
     each: u64,
-    // left and right in turn
-    parts: Vec<AtomicU64>,
+    clock: AtomicU64,
+    calls: Vec<Noted>,
+    // the values of one side, by the places of the calls that gave them, and no part behind them
+    order: Order,
 }
 
 impl PairLog {
@@ -30,47 +41,62 @@ impl PairLog {
     /// Where memory is refused.
     pub fn new(alloc: Global, agents: u32, calls: u32) -> Result<PairLog, AllocError> {
         let (agents, each) = (u64::from(agents), u64::from(calls.min(NOTED)));
-        let mut parts = Vec::new(alloc);
-        for _ in 0..agents.wrapping_mul(each).wrapping_mul(2) {
-            parts.push(AtomicU64::new(0))?;
+        let all = agents.wrapping_mul(each);
+        let mut calls = Vec::new(alloc);
+        for _ in 0..all {
+            calls.push(Noted {
+                left: AtomicU64::new(0),
+                right: AtomicU64::new(0),
+                ended: AtomicU64::new(0),
+            })?;
         }
         Ok(PairLog {
             agents,
             each,
-            parts,
+            clock: AtomicU64::new(1),
+            calls,
+            order: Order::new(alloc, all.wrapping_add(1), all.wrapping_add(2))?,
         })
     }
 
-    // Where the left part of a call's pair is noted, if it is.
+    // The place of a call, if it is noted.
     fn place(&self, agent: u64, call: u64) -> Option<usize> {
         if agent < self.agents && call < self.each {
-            let pair = agent.wrapping_mul(self.each).wrapping_add(call);
-            Some(pair.wrapping_mul(2) as usize)
+            Some(agent.wrapping_mul(self.each).wrapping_add(call) as usize)
         } else {
             None
         }
     }
 
-    /// Notes the pair that a call was answered by.
+    /// Notes that a call ended, and the pair that it was answered by.
     pub fn note(&self, agent: u32, call: u32, pair: (u64, u64)) {
         let Some(place) = self.place(u64::from(agent), u64::from(call)) else {
             return;
         };
-        if let Some(left) = self.parts.get(place) {
-            left.store(pair.0, Ordering::SeqCst);
-        }
-        if let Some(right) = self.parts.get(place.wrapping_add(1)) {
-            right.store(pair.1, Ordering::SeqCst);
+        if let Some(noted) = self.calls.get(place) {
+            let now = self.clock.fetch_add(1, Ordering::SeqCst);
+            noted.ended.store(now, Ordering::SeqCst);
+            noted.left.store(pair.0, Ordering::SeqCst);
+            noted.right.store(pair.1, Ordering::SeqCst);
         }
     }
 
     // The pair at a place; that of no part where nothing was noted.
     fn pair_at(&self, place: usize) -> (u64, u64) {
-        match (self.parts.get(place), self.parts.get(place.wrapping_add(1))) {
-            (Some(left), Some(right)) => {
-                (left.load(Ordering::SeqCst), right.load(Ordering::SeqCst))
-            }
-            _ => (0, 0),
+        match self.calls.get(place) {
+            Some(noted) => (
+                noted.left.load(Ordering::SeqCst),
+                noted.right.load(Ordering::SeqCst),
+            ),
+            None => (0, 0),
+        }
+    }
+
+    // When the call at a place ended, or 0 where nothing was noted.
+    fn time_at(&self, place: usize) -> u64 {
+        match self.calls.get(place) {
+            Some(noted) => noted.ended.load(Ordering::SeqCst),
+            None => 0,
         }
     }
 
@@ -94,8 +120,8 @@ impl PairLog {
     /// How many pairs are noted, but for those of no parts.
     pub fn noted(&self) -> u64 {
         let mut pairs: u64 = 0;
-        for pair in 0..self.parts.len() / 2 {
-            if self.pair_at(pair.wrapping_mul(2)) != (0, 0) {
+        for place in 0..self.calls.len() {
+            if self.pair_at(place) != (0, 0) {
                 pairs = pairs.wrapping_add(1);
             }
         }
@@ -104,48 +130,61 @@ impl PairLog {
 
     /// Whether each pair that is noted was published.
     pub fn all_published(&self) -> bool {
-        for pair in 0..self.parts.len() / 2 {
-            if !self.was_published(self.pair_at(pair.wrapping_mul(2))) {
+        for place in 0..self.calls.len() {
+            if !self.was_published(self.pair_at(place)) {
                 return false;
             }
         }
         true
     }
 
-    // Whether the agent gave a part of this side in a noted call from this one on: such a call is answered with what it gave.
-    fn gives_from(&self, agent: u64, from: u64, right: bool) -> bool {
-        for call in from..self.each {
+    // Tells the order that a call showed a part, which began and ended then, if the call that gave the part is noted.
+    fn show(&self, part: u64, begun: u64, ended: u64) {
+        let number = part % 4_294_967_296;
+        let place = if part == 0 {
+            Some(self.calls.len())
+        } else if number == 0 {
+            None
+        } else {
+            self.place(part >> 32, number - 1)
+        };
+        if let Some(place) = place {
+            self.order.show(place, begun, ended);
+        }
+    }
+
+    // Tells the order which parts of a side the agent's calls showed. Each began after the one before it had ended.
+    fn show_all(&self, agent: u64, right: bool) {
+        let mut begun: u64 = 1;
+        for call in 0..self.each {
             let Some(place) = self.place(agent, call) else {
-                return false;
+                return;
             };
-            let pair = self.pair_at(place);
-            let part = if right { pair.1 } else { pair.0 };
-            if part == (agent << 32) | call.wrapping_add(1) {
-                return true;
+            let (pair, ended) = (self.pair_at(place), self.time_at(place));
+            if ended > 0 {
+                self.show(if right { pair.1 } else { pair.0 }, begun, ended);
+                begun = ended.wrapping_add(1);
             }
         }
-        false
     }
 
-    // Whether the part is none that an agent had replaced: in no noted call after the one that gave it did that agent give another.
-    fn is_last(&self, part: u64, right: bool) -> bool {
+    // Whether the parts of a side can have stood there one after another, no part first and this one last.
+    fn side_is_in_order(&self, last: u64, right: bool) -> bool {
+        let now = self.clock.load(Ordering::SeqCst);
+        self.order.clear();
+        self.show(0, 0, 0);
+        self.show(last, now, now);
         for agent in 0..self.agents {
-            let next = if part == 0 {
-                0
-            } else if part >> 32 == agent {
-                part % 4_294_967_296
-            } else {
-                continue;
-            };
-            if self.gives_from(agent, next, right) {
-                return false;
-            }
+            self.show_all(agent, right);
         }
-        true
+        self.order.is_one()
     }
 
-    /// Whether a pair that is left was published, and neither of its parts had been replaced by the agent that gave it.
+    /// Whether a pair that is left was published, and the parts of each side can have stood there one after another, that which is
+    /// left last: none came before another and after it, as far as the times of calls tell.
     pub fn may_be_left(&self, pair: (u64, u64)) -> bool {
-        self.was_published(pair) && self.is_last(pair.0, false) && self.is_last(pair.1, true)
+        self.was_published(pair)
+            && self.side_is_in_order(pair.0, false)
+            && self.side_is_in_order(pair.1, true)
     }
 }

@@ -139,12 +139,12 @@ pub fn judge<R: Print>(
             "jobs came out of order",
         ),
         (
-            !mix.has_pairs() || tally.in_order,
-            "a part came back that the agent that gave it had replaced",
+            !mix.has_pairs() || driven.rest.in_order,
+            "the parts of a cell, up to those that are left, can't have stood there one after another",
         ),
         (
             driven.rest.are_pairs,
-            "a pair that was read was never published, or what is left isn't what was published last",
+            "a pair that was read was never published",
         ),
         (
             mix != Mix::Pairs || tally.answers.empty <= tally.unput,

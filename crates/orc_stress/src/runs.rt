@@ -30,9 +30,10 @@ pub struct Driven {
 pub struct Rest {
     /// The jobs that it took, or the keys that it found.
     pub items: Items,
-    /// Whether the jobs came in order, and nothing after them.
+    /// Whether the jobs came in order, and nothing after them; or the parts of each side of a cell can have stood there one after
+    /// another, those that are left last.
     pub in_order: bool,
-    /// Whether each pair that was read of a cell was published, and those parts are left that were last.
+    /// Whether each pair that was read of a cell was published.
     pub are_pairs: bool,
     /// Whether an insert and a removal of each key that wasn't found said that it wasn't there.
     pub agree: bool,
@@ -181,7 +182,8 @@ fn see_pairs<C: Container>(container: &C, p: &mut C::Pass, pairs: &PairLog) -> R
         _ => (false, VERSION),
     };
     Rest {
-        are_pairs: is_left && pairs.all_published(),
+        in_order: is_left,
+        are_pairs: pairs.all_published(),
         rows,
         ..Rest::new()
     }

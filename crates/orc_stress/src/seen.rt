@@ -102,47 +102,11 @@ impl Own {
     }
 }
 
-// The parts of one side of a cell that an agent has seen.
-#[derive(Clone, Copy, Debug, PartialEq, Eq)]
-struct Parts {
-    // the one that it saw last, or 0
-    now: u64,
-    // of each agent the call that gave the last one of its parts that was seen, plus one
-    numbers: [u64; 16],
-}
-
-impl Parts {
-    // None yet.
-    fn new() -> Parts {
-        Parts {
-            now: 0,
-            numbers: [0; 16],
-        }
-    }
-
-    // Whether the part is the one that was seen last, or was given by a later call than all of its agent that were seen. An agent
-    // sees the parts of a side in the order in which they came there, and each comes once.
-    fn goes_on(&mut self, part: u64) -> bool {
-        if part == self.now {
-            return true;
-        }
-        self.now = part;
-        let agent = ((part >> 32) % 16) as usize;
-        let number = part % 4_294_967_296;
-        let follows = number > self.numbers[agent];
-        self.numbers[agent] = number;
-        follows
-    }
-}
-
-// What one agent put into a queue and took from it last, its own keys of a set, and the parts of a cell that it saw last.
+// What one agent put into a queue and took from it last, and its own keys of a set.
 #[derive(Clone, Copy, Debug, PartialEq, Eq)]
 pub(crate) struct Seen {
     // of each producer the number of its job, plus one
     numbers: [u64; 16],
-    // the parts of a cell that came on each side
-    left: Parts,
-    right: Parts,
     // the position behind the one that was taken last
     taken: u64,
     // the position behind the one that was put last
@@ -155,8 +119,6 @@ impl Seen {
     pub(crate) fn new(agent: u32, plan: &Plan) -> Seen {
         Seen {
             numbers: [0; 16],
-            left: Parts::new(),
-            right: Parts::new(),
             taken: 0,
             put: 0,
             own: Own::new(agent, plan),
@@ -165,7 +127,7 @@ impl Seen {
 
     // Whether a job that was put has its position behind the agent's others, and one that was taken behind those that the agent
     // took before, and of its producer those come later that were put later. Each producer's positions rise, so all takers take
-    // its jobs in its order. Whether no part of a cell had been replaced on its side, as far as the agent has seen.
+    // its jobs in its order.
     pub(crate) fn follows(&mut self, outcome: &Outcome) -> bool {
         match outcome {
             Outcome::Put(_, at) => {
@@ -180,10 +142,6 @@ impl Seen {
                 self.numbers[producer] = number;
                 self.taken = at.wrapping_add(1);
                 follows
-            }
-            Outcome::Published(left, right) | Outcome::Saw(left, right) => {
-                let follows = self.left.goes_on(*left);
-                self.right.goes_on(*right) && follows
             }
             _ => true,
         }

@@ -126,8 +126,7 @@ pub struct Tally {
     pub(crate) places: Items,
     // how many jobs or keys weren't taken in, since the call was refused
     pub(crate) unput: u64,
-    // whether each agent put and took jobs in the order of their positions, and took those of a producer in its order; and saw no
-    // part of a cell come back that its agent had replaced
+    // whether each agent put and took jobs in the order of their positions, and took those of a producer in its order
     pub(crate) in_order: bool,
     // whether each answer about a key of the agent's own was what its calls had left
     pub(crate) is_true: bool,
