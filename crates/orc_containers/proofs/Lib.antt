@@ -1,0 +1,2 @@
+mod News
+mod Openings
