@@ -13,9 +13,9 @@ returns g c = record {
   balance = λ domain is.
       let j = rest_journal c.args.rest.now in
       let all : c.given.result ≡ given (new_machine (domain_bounds domain)) (plain j) =
-          c.given.ensures ∙ ap (λ d. given (new_machine (domain_bounds d)) (plain j)) is.domain_is in
+      c.given.ensures ∙ ap (λ d. given (new_machine (domain_bounds d)) (plain j)) is.domain_is in
       let out : c.linked.result ≡ rows_out (run_of (domain_bounds domain) j) =
-          c.linked.ensures ∙ ap (λ d. rows_out (run_of (domain_bounds d) j)) is.domain_is in
+      c.linked.ensures ∙ ap (λ d. rows_out (run_of (domain_bounds d) j)) is.domain_is in
       let freed : c.reused.result ≡ reused (plain j) = c.reused.ensures in
       omega (arith, all, out, freed, is.balance);
 }
