@@ -1,9 +1,10 @@
 -- A domain at rest: one pass has taken in all others.
-use Rattle.std.specs.Prelude.{List, ◌++◌, ◌≡◌}
+use Rattle.std.specs.Prelude.{List, ◌++◌, ◌+◌, ◌≡◌}
 use Rattle.orc_machine_rest.specs.Ends.{CountsOf}
 use Rattle.orc_machine_rest.specs.Looks.{gate_looks}
 use Rattle.orc_machine_rest.specs.declared.count.RowCounts.{RowCounts}
 use Rattle.orc_heap.specs.declared.discipline.Discipline as discipline
+use Rattle.orc_core.specs.Machine.{new_machine}
 use Rattle.orc_core.specs.declared.records.Agent.{Agent}
 use Rattle.orc_machine_board.specs.Passes.{TookInAll}
 use Rattle.orc_machine_board.specs.Rules.{run_of}
@@ -17,7 +18,9 @@ use Rattle.orc_domain.specs.declared.domain.OrcDomain.{OrcDomain}
 use Rattle.orc_domain.specs.declared.domain.OrcPass.{OrcPass}
 use Rattle.orc_domain.specs.declared.at_rest.OrcRest.{OrcRest}
 use Rattle.orc_rest.specs.Rest.{IsAtRest}
+use Rattle.orc_rest.specs.Reuse.{given, reused, rows_out}
 use Rattle.orc_shared_words.specs.declared.machine.Machine as machine
+use Rattle.orc_sound.specs.Journals.{plain}
 use Rattle.orc_sound.specs.declared.steps.Step.{Step}
 
 module _ {D N : Type 0} {d : discipline.Ghosts D N} {m : machine.Ghosts Reclaiming N (MachineShape N) Request (Step N) Agent Agent} where
@@ -42,3 +45,11 @@ module _ {D N : Type 0} {d : discipline.Ghosts D N} {m : machine.Ghosts Reclaimi
     pub journal : rest_journal rest ≡ whole_journal passes ++ gate_looks 0 (domain_bounds domain).rows
     pub at_rest : IsAtRest (run_of (domain_bounds domain) (rest_journal rest))
     pub counts_are : CountsOf (domain_bounds domain) (rest_journal rest) counts
+
+  -- this is the domain at rest: its board has shown one whole journal, in which what was given was freed or is out
+  pub record IsRestOf (domain : OrcDomain D N) (r : OrcRest D N d m) : Type 0 where
+    pub domain_is : rest_domain r ≡ domain
+    pub shown : IsShown r
+    pub at_rest : IsAtRest (run_of (domain_bounds domain) (rest_journal r))
+    pub balance : given (new_machine (domain_bounds domain)) (plain (rest_journal r))
+        ≡ reused (plain (rest_journal r)) + rows_out (run_of (domain_bounds domain) (rest_journal r))

@@ -2,6 +2,7 @@
 #![tactic(auto)]
 
 mod aims;
+mod as_domain;
 mod at_rest;
 mod changes;
 mod counts;

@@ -45,3 +45,8 @@ module _ {D N : Type 0} {d : discipline.Ghosts D N} {m : machine.Ghosts Plain N 
   -- the pass that is left is one of the domain's, so its board has shown this list
   abbrev pub IsShown : PlainRest D N d m → Type 0
   IsShown r = IsPassOf r.domain r.pass
+
+  -- this is the domain at rest, whose board has shown one whole list of events
+  pub record IsRestOf (domain : PlainDomain D N) (r : PlainRest D N d m) : Type 0 where
+    pub domain_is : rest_domain r ≡ domain
+    pub shown : IsShown r

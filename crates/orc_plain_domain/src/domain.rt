@@ -5,8 +5,8 @@ ghost use Rattle.orc_heap.specs.Moves.{gives_in};
 ghost use Rattle.orc_plain_domain.specs.Passes.{seat_of};
 
 use orc_heap::Discipline;
-use orc_shared_words::Machine;
 use orc_plain_board::{Plain, PlainBoard, PlainOp, PlainShape, PlainStep};
+use orc_shared_words::Machine;
 use orc_words::Shape;
 
 /// A domain of links in which each row is given once. It has no counts.

@@ -1,6 +1,7 @@
 //! Domains of links, over shared words.
 #![tactic(auto)]
 
+mod as_domain;
 mod domain;
 mod ends;
 mod laws;

@@ -1,0 +1,83 @@
+//! The domain from its making to its rest, as each domain offers it.
+
+ghost use Rattle.std.specs.Prelude.{◌≡◌, ◌+◌, [], All, IfOk, refl};
+ghost use Rattle.orc_any_domain.specs.Domains.{AreAllIdle, heap_numbers};
+ghost use Rattle.orc_heap.specs.Seeds.{SeedAllowed, opening_events};
+ghost use Rattle.orc_machine_board.specs.Rules.{run_of};
+ghost use Rattle.orc_domain.specs.Ends.{AreAll, AreIdle, SawAll, whole_journal};
+ghost use Rattle.orc_domain.specs.Passes.{domain_bounds, domain_opening, seat_of};
+ghost use Rattle.orc_domain.specs.Rest.{IsRestOf};
+ghost use Rattle.orc_rest.specs.Rest.{IsAtRest};
+ghost use Rattle.orc_words.specs.Bounds.{bounds_of};
+
+use crate::at_rest::OrcRest;
+use crate::domain::{OrcDomain, OrcPass};
+use orc_any_domain::{Counts, Domain};
+use orc_fault::NoMemory;
+use orc_heap::{Discipline, Links, Seed};
+use orc_words::Shape;
+use std::alloc::Global;
+
+// Lets all passes drain.
+fn drain_passes<D: Discipline>(domain: &OrcDomain<D>, passes: &mut Vec<OrcPass<D>>)
+    requires all { AreAll domain.now passes.old.items }
+    requires idle { AreIdle domain.now passes.old.items }
+    ensures all { AreAll domain.now passes.new.items }
+    ensures own { SawAll passes.new.items }
+    ensures rest { IsAtRest (run_of (domain_bounds domain.now) (whole_journal passes.new.items)) }
+{
+    domain.drain_all(passes.as_mut_slice());
+}
+
+impl<D: Discipline> Domain for OrcDomain<D> {
+    type Rest = OrcRest<D>;
+
+    ghost bounds = { λ d. domain_bounds d };
+
+    ghost rests = { λ d r. IsRestOf d r };
+
+    fn make(
+        alloc: Global,
+        shape: &Shape,
+        seed: Seed<D::Note>,
+    ) -> Result<(OrcDomain<D>, Vec<OrcPass<D>>), NoMemory>
+        requires holds { D.holds (heap_numbers (bounds_of shape.now)) [] }
+        requires seed { SeedAllowed D.may (heap_numbers (bounds_of shape.now)) seed }
+        ensures bounds { IfOk result (λ made. domain_bounds made.0 ≡ bounds_of shape.now) }
+        ensures opening { IfOk result (λ made. domain_opening made.0 ≡ opening_events seed) }
+        ensures idle { IfOk result (λ made. AreAllIdle ⟦<OrcDomain<D> as Links>⟧ made.0 made.1.items) }
+        ensures new { IfOk result (λ made. All (λ p. (seat_of made.0 p).seen ≡ opening_events seed) made.1.items) }
+    {
+        let made = OrcDomain::make(alloc, shape, seed)?;
+        Ok(made)
+    }
+
+    fn backlog(&self, p: &OrcPass<D>) -> u32 {
+        OrcDomain::backlog(self, p)
+    }
+
+    fn end(self, passes: Vec<OrcPass<D>>) -> OrcRest<D>
+        requires { AreAllIdle ⟦<OrcDomain<D> as Links>⟧ self passes.items }
+        ensures { IsRestOf self result }
+    {
+        let mut all = passes;
+        drain_passes(&self, &mut all);
+        self.rest(all)
+    }
+
+    fn counts(rest: &OrcRest<D>) -> Counts
+        ensures balance { (domain : _) → IsRestOf domain rest.now → result.given ≡ result.reused + result.linked }
+    {
+        Counts {
+            given: rest.given(),
+            reused: rest.reused(),
+            linked: rest.linked(),
+        }
+    }
+
+    ghost numbers_are = { λ d. refl };
+
+    ghost agents_are = { λ d. refl };
+
+    ghost rows_are = { λ d. refl };
+}

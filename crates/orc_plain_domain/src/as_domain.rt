@@ -1,0 +1,79 @@
+//! The domain from its making to its rest, as each domain offers it.
+
+ghost use Rattle.std.specs.Prelude.{◌≡◌, ◌+◌, [], All, IfOk, refl};
+ghost use Rattle.orc_any_domain.specs.Domains.{AreAllIdle, heap_numbers};
+ghost use Rattle.orc_heap.specs.Seeds.{SeedAllowed, opening_events};
+ghost use Rattle.orc_plain_domain.specs.Ends.{AreAll, AreIdle, FirstSawAll};
+ghost use Rattle.orc_plain_domain.specs.Passes.{domain_bounds, domain_opening, seat_of};
+ghost use Rattle.orc_plain_domain.specs.Rest.{IsRestOf};
+ghost use Rattle.orc_words.specs.Bounds.{bounds_of};
+
+use crate::domain::{PlainDomain, PlainPass, PlainRest};
+use orc_any_domain::{Counts, Domain};
+use orc_fault::NoMemory;
+use orc_heap::{Discipline, Links, Seed};
+use orc_words::Shape;
+use std::alloc::Global;
+
+// Lets all passes see what the others did.
+fn drain_passes<D: Discipline>(domain: &PlainDomain<D>, passes: &mut Vec<PlainPass<D>>)
+    requires all { AreAll domain.now passes.old.items }
+    requires idle { AreIdle domain.now passes.old.items }
+    ensures all { AreAll domain.now passes.new.items }
+    ensures own { FirstSawAll domain.now passes.new.items }
+{
+    domain.drain_all(passes.as_mut_slice());
+}
+
+impl<D: Discipline> Domain for PlainDomain<D> {
+    type Rest = PlainRest<D>;
+
+    ghost bounds = { λ d. domain_bounds d };
+
+    ghost rests = { λ d r. IsRestOf d r };
+
+    fn make(
+        alloc: Global,
+        shape: &Shape,
+        seed: Seed<D::Note>,
+    ) -> Result<(PlainDomain<D>, Vec<PlainPass<D>>), NoMemory>
+        requires holds { D.holds (heap_numbers (bounds_of shape.now)) [] }
+        requires seed { SeedAllowed D.may (heap_numbers (bounds_of shape.now)) seed }
+        ensures bounds { IfOk result (λ made. domain_bounds made.0 ≡ bounds_of shape.now) }
+        ensures opening { IfOk result (λ made. domain_opening made.0 ≡ opening_events seed) }
+        ensures idle { IfOk result (λ made. AreAllIdle ⟦<PlainDomain<D> as Links>⟧ made.0 made.1.items) }
+        ensures new { IfOk result (λ made. All (λ p. (seat_of made.0 p).seen ≡ opening_events seed) made.1.items) }
+    {
+        let made = PlainDomain::make(alloc, shape, seed)?;
+        Ok(made)
+    }
+
+    fn backlog(&self, _p: &PlainPass<D>) -> u32 {
+        0
+    }
+
+    fn end(self, passes: Vec<PlainPass<D>>) -> PlainRest<D>
+        requires { AreAllIdle ⟦<PlainDomain<D> as Links>⟧ self passes.items }
+        ensures { IsRestOf self result }
+    {
+        let mut all = passes;
+        drain_passes(&self, &mut all);
+        self.rest(all)
+    }
+
+    fn counts(rest: &PlainRest<D>) -> Counts
+        ensures balance { (domain : _) → IsRestOf domain rest.now → result.given ≡ result.reused + result.linked }
+    {
+        Counts {
+            given: rest.given(),
+            reused: rest.reused(),
+            linked: rest.linked(),
+        }
+    }
+
+    ghost numbers_are = { λ d. refl };
+
+    ghost agents_are = { λ d. refl };
+
+    ghost rows_are = { λ d. refl };
+}
