@@ -3,16 +3,21 @@
 
 ghost use Rattle.std.specs.Prelude.{◌≡◌, ◌<◌, ℕ, All, length, slice_index_or, true};
 
+use orc_containers::{new_queue, queue_at_rest};
+use orc_domain::{OrcDomain, OrcPass};
+use orc_fifo_rule::Fifo;
 use orc_history::SharedQueue;
-use orc_words::Shape;
-use reclaiming_uses::{ReclaimingQueue, ReclaimingQueuePass, queue_at_rest, reclaiming_queue_over};
+use orc_queue::Queue;
 use std::alloc::Global;
 use std::process::ExitCode;
 use std::sync::atomic::{AtomicU64, Ordering};
 use std::thread::{Threads, for_each_mut};
 
-// How often a row may be given.
-const LIMIT: u64 = 1 << 39;
+// A queue whose rows are given again.
+type JobQueue = Queue<OrcDomain<Fifo>>;
+
+// A thread's pass to it.
+type JobPass = OrcPass<Fifo>;
 
 // What all threads did: the sums of the jobs that were put, and of those that were taken, and how many jobs a thread took
 // from a lower position than the job before.
@@ -96,9 +101,9 @@ where
 }
 
 // Whether the passes are in order of agent.
-fn are_in_order(queue: &ReclaimingQueue, passes: &[ReclaimingQueuePass]) -> bool
+fn are_in_order(queue: &JobQueue, passes: &[JobPass]) -> bool
     ensures { result ≡ true → (i : ℕ) (p : _) → i < length passes.now
-        → ⟦<ReclaimingQueue as SharedQueue>⟧.agent_of queue.now (slice_index_or passes.now i p) ≡ i }
+        → ⟦<JobQueue as SharedQueue>⟧.agent_of queue.now (slice_index_or passes.now i p) ≡ i }
 {
     for place in 0..passes.len() {
         if queue.agent(&passes[place]) as usize != place {
@@ -110,8 +115,7 @@ fn are_in_order(queue: &ReclaimingQueue, passes: &[ReclaimingQueuePass]) -> bool
 
 // Makes a queue over 64 rows, lets two agents work, and brings the queue's domain to rest.
 fn run<R: Threads + Sync>(rt: &R, alloc: Global) -> Option<Outcome> {
-    let shape = Shape::new(64, 2, 2, LIMIT).ok()?; // 64 rows, front and back, two agents
-    let Ok((queue, mut passes)) = reclaiming_queue_over(alloc, &shape, 0) else {
+    let Ok((queue, mut passes)) = new_queue::<OrcDomain<Fifo>>(alloc, 64, 2) else {
         return None;
     };
     let work = Work::new();

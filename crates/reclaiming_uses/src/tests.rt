@@ -1,7 +1,5 @@
 //! The containers over domains that are reclaimed, run: on one thread, on several, and beside an agent that stopped.
 
-use super::*;
-
 mod calls;
 mod crew;
 mod four_threads;

@@ -7,8 +7,8 @@ use orc_chain_rule::Chain;
 use orc_fifo_rule::Fifo;
 use orc_heap::Links;
 use orc_history::{QueueRefused, SharedQueue, SharedSet};
-use orc_list::OneList;
 use orc_queue::Queue;
+use orc_set::Set;
 
 /// Whether, in a new queue from position 0 on, a put that found the tail behind helped it on, in a turn of its own: with one
 /// turn it used that up, and with two it put its job behind the one that had been left.
@@ -39,12 +39,12 @@ pub fn helps_a_lagging_tail_on<L: Links<Rule = Fifo>>(
 
 /// Whether, in an empty list, an insert went past two nodes that were marked and still linked, in one turn.
 pub fn goes_past_marked_nodes<L: Links<Rule = Chain>>(
-    list: &OneList<L>,
+    list: &Set<L>,
     passes: Vec<L::Pass>,
 ) -> bool
-    requires usable { All (λ p. ⟦<OneList<L> as SharedSet>⟧.usable list.now p) passes.items }
+    requires usable { All (λ p. ⟦<Set<L> as SharedSet>⟧.usable list.now p) passes.items }
     requires agents { (i : ℕ) (p : L.Pass) → i < length passes.items
-        → ⟦<OneList<L> as SharedSet>⟧.agent_of list.now (slice_index_or passes.items i p) ≡ i }
+        → ⟦<Set<L> as SharedSet>⟧.agent_of list.now (slice_index_or passes.items i p) ≡ i }
 {
     let Some((mut first, mut second)) = two_list_passes(list, passes) else {
         return false;
@@ -54,14 +54,14 @@ pub fn goes_past_marked_nodes<L: Links<Rule = Chain>>(
 
 // Adds 3, 5 and 9, leaves 3 and 5 marked, and adds 4.
 fn add_past_marked_nodes<L: Links<Rule = Chain>>(
-    list: &OneList<L>,
+    list: &Set<L>,
     first: &mut L::Pass,
     second: &mut L::Pass,
 ) -> bool
-    requires first { ⟦<OneList<L> as SharedSet>⟧.usable list.now first.old }
-    requires second { ⟦<OneList<L> as SharedSet>⟧.usable list.now second.old }
-    ensures first { ⟦<OneList<L> as SharedSet>⟧.usable list.now first.new }
-    ensures second { ⟦<OneList<L> as SharedSet>⟧.usable list.now second.new }
+    requires first { ⟦<Set<L> as SharedSet>⟧.usable list.now first.old }
+    requires second { ⟦<Set<L> as SharedSet>⟧.usable list.now second.old }
+    ensures first { ⟦<Set<L> as SharedSet>⟧.usable list.now first.new }
+    ensures second { ⟦<Set<L> as SharedSet>⟧.usable list.now second.new }
 {
     let three = list.insert(first, 3, 2);
     let five = list.insert(first, 5, 2);

@@ -1,6 +1,8 @@
 //! Each use, run.
 
-use super::*;
+use orc_containers::{Unmade, new_queue};
+use orc_fifo_rule::Fifo;
+use orc_plain_domain::PlainDomain;
 use orc_words::ShapeFault;
 use std::test::Fail;
 
@@ -14,7 +16,7 @@ mod watched;
 
 #[test]
 fn one_row_is_too_few_for_a_queue(rt: HostRuntime) -> Result<(), Fail> {
-    let Err(why) = plain_queue(rt.alloc(), 1, 17) else {
+    let Err(why) = new_queue::<PlainDomain<Fifo>>(rt.alloc(), 1, 17) else {
         panic!(rt; "one row is too few")
     };
     assert_eq!(rt; why, Unmade::Shape(ShapeFault::Rows(1)));

@@ -2,13 +2,13 @@
 
 ghost use Rattle.std.specs.Prelude.{◌≡◌, ◌+◌, ◌*◌, IfOk, length};
 ghost use Rattle.cell_tests.specs.Passes.{AreUsable};
-ghost use Rattle.orc_plain_domain.specs.Ends.{AreAll, AreIdle, FirstSawAll};
 ghost use Rattle.orc_plain_domain.specs.Passes.{domain_bounds};
 ghost use Rattle.orc_words.specs.Bounds.{bounds_of};
 
 use super::calls::{one_publishes, two_publish};
 use super::threads::{call_by_all, left_over};
-use orc_cell::CellRefused;
+use orc_cell::{Cell, CellRefused};
+use orc_containers::{cell_at_rest, cell_over};
 use orc_plain_domain::{PlainDomain, PlainPass};
 use orc_fault::NoMemory;
 use orc_heap::Links;
@@ -18,12 +18,13 @@ use orc_words::Shape;
 use std::alloc::Global;
 use std::test::Fail;
 use std::thread::Threads;
-use uses::{CellPass, DomainCell, cell_over};
 
 type Domain = PlainDomain<Pairs>;
 
+type Pass = PlainPass<Pairs>;
+
 // A new cell, and one pass an agent, in order.
-fn new_cell(alloc: Global, shape: &Shape) -> Result<(DomainCell, Vec<CellPass>), NoMemory>
+fn new_cell(alloc: Global, shape: &Shape) -> Result<(Cell<Domain>, Vec<Pass>), NoMemory>
     requires two { (bounds_of shape.now).links ≡ 2 }
     requires roots { (bounds_of shape.now).roots ≡ 1 + 2 * (bounds_of shape.now).agents }
     ensures usable { IfOk result (λ made. AreUsable ⟦<Domain as Links>⟧ made.0.links made.1.items) }
@@ -36,8 +37,8 @@ fn new_cell(alloc: Global, shape: &Shape) -> Result<(DomainCell, Vec<CellPass>),
 // Each agent makes its calls.
 fn call<R: Threads + Sync>(
     rt: &R,
-    cell: &DomainCell,
-    passes: &mut Vec<CellPass>,
+    cell: &Cell<Domain>,
+    passes: &mut Vec<Pass>,
     calls: u32,
     log: &PairLog,
 )
@@ -48,25 +49,12 @@ fn call<R: Threads + Sync>(
     call_by_all(rt, cell, passes.as_mut_slice(), calls, log);
 }
 
-// Lets all passes learn.
-fn drain_all(domain: &Domain, passes: &mut Vec<CellPass>)
-    requires all { AreAll domain.now passes.old.items }
-    requires idle { AreIdle domain.now passes.old.items }
-    ensures all { AreAll domain.now passes.new.items }
-    ensures own { FirstSawAll domain.now passes.new.items }
-{
-    domain.drain_all(passes.as_mut_slice());
-}
-
 // The numbers of the cell's domain at rest: the rows that were given, those that were freed, and those that are out.
-fn numbers_at_rest(cell: DomainCell, passes: Vec<CellPass>) -> (u64, u64, u32)
+fn numbers_at_rest(cell: Cell<Domain>, passes: Vec<Pass>) -> (u64, u64, u32)
     requires usable { AreUsable ⟦<Domain as Links>⟧ cell.links passes.items }
     requires all { length passes.items ≡ (domain_bounds cell.links).agents }
 {
-    let mut passes = passes;
-    let domain = cell.into_links();
-    drain_all(&domain, &mut passes);
-    let rest = domain.rest(passes);
+    let rest = cell_at_rest(cell, passes);
     (rest.given(), rest.reused(), rest.linked())
 }
 

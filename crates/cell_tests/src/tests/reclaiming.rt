@@ -7,39 +7,41 @@ ghost use Rattle.orc_words.specs.Bounds.{bounds_of};
 
 use super::calls::{one_publishes, two_publish};
 use super::threads::{call_by_all, left_over};
-use orc_cell::CellRefused;
+use orc_cell::{Cell, CellRefused};
+use orc_containers::{cell_at_rest, cell_over};
 use orc_fault::NoMemory;
 use orc_heap::Links;
 use orc_pairs_rule::Pairs;
-use orc_domain::OrcDomain;
+use orc_domain::{OrcDomain, OrcPass};
 use orc_stress::PairLog;
 use orc_words::Shape;
-use reclaiming_uses::{ReclaimingCell, ReclaimingCellPass, cell_at_rest, reclaiming_cell_over};
 use std::alloc::Global;
 use std::test::Fail;
 use std::thread::Threads;
 
 type Domain = OrcDomain<Pairs>;
 
+type Pass = OrcPass<Pairs>;
+
 // A new cell, and one pass an agent, in order.
 fn new_cell(
     alloc: Global,
     shape: &Shape,
-) -> Result<(ReclaimingCell, Vec<ReclaimingCellPass>), NoMemory>
+) -> Result<(Cell<Domain>, Vec<Pass>), NoMemory>
     requires two { (bounds_of shape.now).links ≡ 2 }
     requires roots { (bounds_of shape.now).roots ≡ 1 + 2 * (bounds_of shape.now).agents }
     ensures usable { IfOk result (λ made. AreUsable ⟦<Domain as Links>⟧ made.0.links made.1.items) }
     ensures many { IfOk result (λ made. length made.1.items ≡ (bounds_of shape.now).agents) }
     ensures all { IfOk result (λ made. (domain_bounds made.0.links).agents ≡ (bounds_of shape.now).agents) }
 {
-    reclaiming_cell_over(alloc, shape)
+    cell_over(alloc, shape)
 }
 
 // Each agent makes its calls.
 fn call<R: Threads + Sync>(
     rt: &R,
-    cell: &ReclaimingCell,
-    passes: &mut Vec<ReclaimingCellPass>,
+    cell: &Cell<Domain>,
+    passes: &mut Vec<Pass>,
     calls: u32,
     log: &PairLog,
 )
@@ -51,7 +53,7 @@ fn call<R: Threads + Sync>(
 }
 
 // The numbers of the cell's domain at rest: the rows that were given, those that were freed, and those that are linked.
-fn numbers_at_rest(cell: ReclaimingCell, passes: Vec<ReclaimingCellPass>) -> (u64, u64, u32)
+fn numbers_at_rest(cell: Cell<Domain>, passes: Vec<Pass>) -> (u64, u64, u32)
     requires usable { AreUsable ⟦<Domain as Links>⟧ cell.links passes.items }
     requires all { length passes.items ≡ (domain_bounds cell.links).agents }
 {

@@ -2,7 +2,10 @@
 
 ghost use Rattle.std.specs.Prelude.{◌≡◌, ◌<◌, ℕ, All, length, slice_index_or};
 
-use crate::{reclaiming_list_over, reclaiming_queue_over};
+use orc_containers::{queue_over, set_over};
+use orc_domain::OrcDomain;
+use orc_chain_rule::Chain;
+use orc_fifo_rule::Fifo;
 use orc_fault::Spent;
 use orc_history::{ListRefused, QueueRefused, SharedQueue, SharedSet};
 use orc_words::Shape;
@@ -18,7 +21,7 @@ fn a_tail_is_helped_on(alloc: Global, links: u32) -> Option<bool> {
     let Ok(shape) = Shape::with_links(8, 2, 2, 1 << 39, links) else {
         return None;
     };
-    let Ok((queue, passes)) = reclaiming_queue_over(alloc, &shape, 0) else {
+    let Ok((queue, passes)) = queue_over::<OrcDomain<Fifo>>(alloc, &shape, 0) else {
         return None;
     };
     Some(helps_a_lagging_tail_on(&queue, passes))
@@ -38,7 +41,7 @@ fn a_lagging_tail_is_helped_on(rt: HostRuntime) {
 #[test]
 fn an_insert_past_marked_nodes(rt: HostRuntime) -> Result<(), Fail> {
     let shape = Shape::new(8, 1, 2, 1 << 39)?;
-    let Ok((list, passes)) = reclaiming_list_over(rt.alloc(), &shape) else {
+    let Ok((list, passes)) = set_over::<OrcDomain<Chain>>(rt.alloc(), &shape) else {
         panic!(rt; "memory")
     };
     assert!(rt; goes_past_marked_nodes(&list, passes));
@@ -83,7 +86,7 @@ fn two_rows_are_used_again(alloc: Global, links: u32) -> Option<bool> {
     let Ok(shape) = Shape::with_links(2, 2, 1, 1 << 39, links) else {
         return None;
     };
-    let Ok((queue, passes)) = reclaiming_queue_over(alloc, &shape, FIRST) else {
+    let Ok((queue, passes)) = queue_over::<OrcDomain<Fifo>>(alloc, &shape, FIRST) else {
         return None;
     };
     Some(use_up_and_reuse(&queue, passes))
@@ -116,7 +119,7 @@ const TWO_ROWS: [(u64, SetCase); 9] = [
 #[test]
 fn a_row_is_used_again_for_another_key(rt: HostRuntime) -> Result<(), Fail> {
     let shape = Shape::new(2, 1, 1, 1 << 39)?;
-    let Ok((list, passes)) = reclaiming_list_over(rt.alloc(), &shape) else {
+    let Ok((list, passes)) = set_over::<OrcDomain<Chain>>(rt.alloc(), &shape) else {
         panic!(rt; "memory")
     };
     assert_eq!(rt; first_other_answer(&list, passes, &TWO_ROWS), None);
@@ -170,7 +173,7 @@ fn a_row_wears_out(alloc: Global, links: u32) -> Option<bool> {
     let Ok(shape) = Shape::with_links(16, 1, 1, 3, links) else {
         return None;
     };
-    let Ok((list, passes)) = reclaiming_list_over(alloc, &shape) else {
+    let Ok((list, passes)) = set_over::<OrcDomain<Chain>>(alloc, &shape) else {
         return None;
     };
     Some(wear_out(&list, passes))

@@ -4,13 +4,24 @@ ghost use Rattle.std.specs.Prelude.{◌≡◌, ◌<◌, ℕ, All, length, slice_
 ghost use Rattle.orc_heap.specs.Seats.{IsIdle};
 ghost use Rattle.orc_domain.specs.Passes.{IsPassOf, domain_bounds, seat_of};
 
-use crate::{
-    ReclaimingList, ReclaimingListPass, ReclaimingQueue, ReclaimingQueuePass, ReclaimingSet,
-    list_at_rest, queue_at_rest, set_at_rest,
-};
+use orc_chain_rule::Chain;
+use orc_containers::{queue_at_rest, set_at_rest};
+use orc_domain::{OrcDomain, OrcPass, OrcRest};
+use orc_fifo_rule::Fifo;
 use orc_heap::{Discipline, Links};
 use orc_history::{SharedQueue, SharedSet};
-use orc_domain::{OrcDomain, OrcPass, OrcRest};
+use orc_queue::Queue;
+use orc_set::Set;
+
+// A queue over such a domain, and an agent's pass to it.
+pub(super) type ReclaimingQueue = Queue<OrcDomain<Fifo>>;
+
+pub(super) type ReclaimingQueuePass = OrcPass<Fifo>;
+
+// A set over such a domain, and an agent's pass to it.
+pub(super) type ReclaimingSet = Set<OrcDomain<Chain>>;
+
+pub(super) type ReclaimingSetPass = OrcPass<Chain>;
 
 // What a domain at rest tells: how often rows were given and freed, and how many are linked.
 #[derive(Clone, Copy, Debug, PartialEq, Eq, Drop)]
@@ -79,11 +90,11 @@ pub(super) fn backlog_of_queue(queue: &ReclaimingQueue, passes: &[ReclaimingQueu
     backlog_of_all(queue.links(), passes)
 }
 
-// How many rows the passes of the list have still to work through.
-pub(super) fn backlog_of_list(list: &ReclaimingList, passes: &[ReclaimingListPass]) -> u32
-    requires { All (λ p. ⟦<ReclaimingList as SharedSet>⟧.usable list.now p) passes.now }
+// How many rows the passes of the set have still to work through.
+pub(super) fn backlog_of_set(set: &ReclaimingSet, passes: &[ReclaimingSetPass]) -> u32
+    requires { All (λ p. ⟦<ReclaimingSet as SharedSet>⟧.usable set.now p) passes.now }
 {
-    backlog_of_all(list.links(), passes)
+    backlog_of_all(set.links(), passes)
 }
 
 // The same, once each pass of the queue has drained alone.
@@ -96,7 +107,7 @@ pub(super) fn drained_queue(queue: &ReclaimingQueue, passes: &mut Vec<Reclaiming
 }
 
 // The same of a set.
-pub(super) fn drained_set(set: &ReclaimingSet, passes: &mut Vec<ReclaimingListPass>) -> u32
+pub(super) fn drained_set(set: &ReclaimingSet, passes: &mut Vec<ReclaimingSetPass>) -> u32
     requires usable { All (λ p. ⟦<ReclaimingSet as SharedSet>⟧.usable set.now p) passes.old.items }
     ensures usable { All (λ p. ⟦<ReclaimingSet as SharedSet>⟧.usable set.now p) passes.new.items }
     ensures many { length passes.new.items ≡ length passes.old.items }
@@ -118,19 +129,8 @@ pub(super) fn at_rest_queue(
     Some(numbers_of(&queue_at_rest(queue, passes)))
 }
 
-// Brings the list to rest, and answers its numbers; none where the passes aren't in order of agent.
-pub(super) fn at_rest_list(list: ReclaimingList, passes: Vec<ReclaimingListPass>) -> Option<Numbers>
-    requires usable { All (λ p. ⟦<ReclaimingList as SharedSet>⟧.usable list p) passes.items }
-    requires many { length passes.items ≡ (domain_bounds list.list.links).agents }
-{
-    if !are_in_order(list.links(), passes.as_slice()) {
-        return None;
-    }
-    Some(numbers_of(&list_at_rest(list, passes)))
-}
-
 // Brings the set to rest, and answers its numbers; none where the passes aren't in order of agent.
-pub(super) fn at_rest_set(set: ReclaimingSet, passes: Vec<ReclaimingListPass>) -> Option<Numbers>
+pub(super) fn at_rest_set(set: ReclaimingSet, passes: Vec<ReclaimingSetPass>) -> Option<Numbers>
     requires usable { All (λ p. ⟦<ReclaimingSet as SharedSet>⟧.usable set p) passes.items }
     requires many { length passes.items ≡ (domain_bounds set.list.links).agents }
 {

@@ -3,7 +3,10 @@
 ghost use Rattle.std.specs.Prelude.{◌≡◌, ◌<◌, All, length};
 
 use super::crew::{Numbers, at_rest_queue, at_rest_set, drained_queue, drained_set};
-use crate::{reclaiming_queue_over, reclaiming_set_over};
+use orc_containers::{queue_over, set_over};
+use orc_domain::OrcDomain;
+use orc_chain_rule::Chain;
+use orc_fifo_rule::Fifo;
 use orc_history::{SharedQueue, SharedSet};
 use orc_words::Shape;
 use std::test::Fail;
@@ -78,7 +81,7 @@ fn are_reused(rest: &Numbers, answered: u64) -> bool {
 #[test]
 fn a_queue_reuses_its_rows(rt: HostRuntime) -> Result<(), Fail> {
     let shape = Shape::new(64, 2, 4, 1 << 39)?;
-    let Ok((queue, mut passes)) = reclaiming_queue_over(rt.alloc(), &shape, 0) else {
+    let Ok((queue, mut passes)) = queue_over::<OrcDomain<Fifo>>(rt.alloc(), &shape, 0) else {
         panic!(rt; "memory")
     };
     let sums = QueueSums::new();
@@ -100,7 +103,7 @@ fn a_queue_reuses_its_rows(rt: HostRuntime) -> Result<(), Fail> {
 #[test]
 fn a_set_of_sixteen_buckets_reuses_its_rows(rt: HostRuntime) -> Result<(), Fail> {
     let shape = Shape::new(64, 16, 4, 1 << 39)?;
-    let Ok((set, mut passes)) = reclaiming_set_over(rt.alloc(), &shape) else {
+    let Ok((set, mut passes)) = set_over::<OrcDomain<Chain>>(rt.alloc(), &shape) else {
         panic!(rt; "memory")
     };
     let sums = SetSums::new();

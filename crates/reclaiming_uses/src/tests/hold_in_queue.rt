@@ -4,7 +4,8 @@ ghost use Rattle.std.specs.Prelude.{◌≡◌, ◌<◌, All, length};
 ghost use Rattle.std.specs.List.{AllByRecursion};
 
 use super::crew::{at_rest_queue, backlog_of_queue};
-use crate::reclaiming_queue_over;
+use orc_containers::queue_over;
+use orc_domain::OrcDomain;
 use orc_fifo_rule::Fifo;
 use orc_heap::{At, Links, Looked};
 use orc_history::SharedQueue;
@@ -92,7 +93,7 @@ fn by_three<L: Links<Rule = Fifo>>(
 #[test]
 fn a_hold_that_is_let_go_late(rt: HostRuntime) -> Result<(), Fail> {
     let shape = Shape::new(1_024, 2, 3, 1 << 39)?;
-    let Ok((queue, mut passes)) = reclaiming_queue_over(rt.alloc(), &shape, 0) else {
+    let Ok((queue, mut passes)) = queue_over::<OrcDomain<Fifo>>(rt.alloc(), &shape, 0) else {
         panic!(rt; "memory")
     };
     assert_eq!(rt; by_three(&queue, &mut passes), Some((601, 400)));

@@ -3,12 +3,13 @@
 ghost use Rattle.std.specs.Prelude.{◌≡◌, ◌<◌, All, length};
 ghost use Rattle.std.specs.List.{AllByRecursion};
 
-use super::crew::{at_rest_list, backlog_of_list};
-use crate::reclaiming_list_over;
+use super::crew::{at_rest_set, backlog_of_set};
+use orc_containers::set_over;
+use orc_domain::OrcDomain;
 use orc_chain_rule::Chain;
 use orc_heap::{At, Links, Looked};
 use orc_history::SharedSet;
-use orc_list::OneList;
+use orc_set::Set;
 use orc_words::Shape;
 use std::test::Fail;
 
@@ -45,18 +46,18 @@ fn take_out_the_last<S: SharedSet>(set: &S, p: &mut S::Pass) -> bool
 // They do so while an agent holds the node of 400, whose link leads to that of 401. It lets go late, without settling; and
 // then one of the others stops once it has marked 8.
 fn beside_a_hold<L: Links<Rule = Chain>>(
-    list: &OneList<L>,
+    list: &Set<L>,
     holder: &mut L::Pass,
     one: &mut L::Pass,
     two: &mut L::Pass,
 ) -> Option<(u64, u64)>
     requires root { 0 < (L.numbers list.now.list.links).roots }
-    requires holder { ⟦<OneList<L> as SharedSet>⟧.usable list.now holder.old }
-    requires one { ⟦<OneList<L> as SharedSet>⟧.usable list.now one.old }
-    requires two { ⟦<OneList<L> as SharedSet>⟧.usable list.now two.old }
-    ensures holder { ⟦<OneList<L> as SharedSet>⟧.usable list.now holder.new }
-    ensures one { ⟦<OneList<L> as SharedSet>⟧.usable list.now one.new }
-    ensures two { ⟦<OneList<L> as SharedSet>⟧.usable list.now two.new }
+    requires holder { ⟦<Set<L> as SharedSet>⟧.usable list.now holder.old }
+    requires one { ⟦<Set<L> as SharedSet>⟧.usable list.now one.old }
+    requires two { ⟦<Set<L> as SharedSet>⟧.usable list.now two.old }
+    ensures holder { ⟦<Set<L> as SharedSet>⟧.usable list.now holder.new }
+    ensures one { ⟦<Set<L> as SharedSet>⟧.usable list.now one.new }
+    ensures two { ⟦<Set<L> as SharedSet>⟧.usable list.now two.new }
 {
     let _before = list.insert(holder, 400, 1);
     let _last = list.insert(holder, 401, 1);
@@ -75,12 +76,12 @@ fn beside_a_hold<L: Links<Rule = Chain>>(
 
 // The first three of a list's passes do so.
 fn by_the_first_three<L: Links<Rule = Chain>>(
-    list: &OneList<L>,
+    list: &Set<L>,
     passes: &mut [L::Pass],
 ) -> Option<(u64, u64)>
     requires root { 0 < (L.numbers list.now.list.links).roots }
-    requires usable { AllByRecursion (λ p. ⟦<OneList<L> as SharedSet>⟧.usable list.now p) passes.old }
-    ensures usable { AllByRecursion (λ p. ⟦<OneList<L> as SharedSet>⟧.usable list.now p) passes.new }
+    requires usable { AllByRecursion (λ p. ⟦<Set<L> as SharedSet>⟧.usable list.now p) passes.old }
+    ensures usable { AllByRecursion (λ p. ⟦<Set<L> as SharedSet>⟧.usable list.now p) passes.new }
 {
     let (holder, others) = passes.split_first_mut()?;
     let (one, others) = others.split_first_mut()?;
@@ -90,12 +91,12 @@ fn by_the_first_three<L: Links<Rule = Chain>>(
 
 // The passes of a list do so.
 fn by_three<L: Links<Rule = Chain>>(
-    list: &OneList<L>,
+    list: &Set<L>,
     passes: &mut Vec<L::Pass>,
 ) -> Option<(u64, u64)>
     requires root { 0 < (L.numbers list.now.list.links).roots }
-    requires usable { All (λ p. ⟦<OneList<L> as SharedSet>⟧.usable list.now p) passes.old.items }
-    ensures usable { All (λ p. ⟦<OneList<L> as SharedSet>⟧.usable list.now p) passes.new.items }
+    requires usable { All (λ p. ⟦<Set<L> as SharedSet>⟧.usable list.now p) passes.old.items }
+    ensures usable { All (λ p. ⟦<Set<L> as SharedSet>⟧.usable list.now p) passes.new.items }
     ensures many { length passes.new.items ≡ length passes.old.items }
 {
     by_the_first_three(list, passes.as_mut_slice())
@@ -106,12 +107,12 @@ fn by_three<L: Links<Rule = Chain>>(
 #[test]
 fn a_marked_node_that_is_left_stays_linked(rt: HostRuntime) -> Result<(), Fail> {
     let shape = Shape::new(1_024, 1, 3, 1 << 39)?;
-    let Ok((list, mut passes)) = reclaiming_list_over(rt.alloc(), &shape) else {
+    let Ok((list, mut passes)) = set_over::<OrcDomain<Chain>>(rt.alloc(), &shape) else {
         panic!(rt; "memory")
     };
     assert_eq!(rt; by_three(&list, &mut passes), Some((400, 300)));
-    assert_eq!(rt; backlog_of_list(&list, passes.as_slice()), 1);
-    let Some(rest) = at_rest_list(list, passes) else {
+    assert_eq!(rt; backlog_of_set(&list, passes.as_slice()), 1);
+    let Some(rest) = at_rest_set(list, passes) else {
         panic!(rt; "passes in order")
     };
     assert_eq!(rt; (rest.given, rest.reused, rest.linked), (402, 302, 100));

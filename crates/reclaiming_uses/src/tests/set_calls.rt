@@ -1,6 +1,8 @@
 //! The bucketed set's calls, on one thread.
 
-use crate::{reclaiming_list_over, reclaiming_set_over};
+use orc_containers::set_over;
+use orc_domain::OrcDomain;
+use orc_chain_rule::Chain;
 use orc_history::ListRefused::NoNode;
 use orc_words::Shape;
 use std::test::Fail;
@@ -36,7 +38,7 @@ const SHARED: [(u64, SetCase); 22] = [
 #[test]
 fn keys_that_share_a_bucket_and_keys_that_do_not(rt: HostRuntime) -> Result<(), Fail> {
     let shape = Shape::new(5, 257, 1, 1 << 39)?;
-    let Ok((set, passes)) = reclaiming_set_over(rt.alloc(), &shape) else {
+    let Ok((set, passes)) = set_over::<OrcDomain<Chain>>(rt.alloc(), &shape) else {
         panic!(rt; "memory")
     };
     assert_eq!(rt; first_other_answer(&set, passes, &SHARED), None);
@@ -62,11 +64,7 @@ const ONE_BUCKET: [(u64, SetCase); 12] = [
 #[test]
 fn one_bucket_is_one_list(rt: HostRuntime) -> Result<(), Fail> {
     let shape = Shape::new(3, 1, 1, 1 << 39)?;
-    let Ok((list, of_list)) = reclaiming_list_over(rt.alloc(), &shape) else {
-        panic!(rt; "memory")
-    };
-    assert_eq!(rt; first_other_answer(&list, of_list, &ONE_BUCKET), None);
-    let Ok((set, of_set)) = reclaiming_set_over(rt.alloc(), &shape) else {
+    let Ok((set, of_set)) = set_over::<OrcDomain<Chain>>(rt.alloc(), &shape) else {
         panic!(rt; "memory")
     };
     assert_eq!(rt; first_other_answer(&set, of_set, &ONE_BUCKET), None);

@@ -2,7 +2,9 @@
 //! gate judges its own by them.
 
 use super::watched::{Call, Watch, Watched, run_watched};
-use crate::set_over;
+use orc_chain_rule::Chain;
+use orc_containers::set_over;
+use orc_plain_domain::PlainDomain;
 use orc_board::Gate;
 use orc_words::Shape;
 use std::sync::atomic::{AtomicU64, Ordering};
@@ -98,7 +100,7 @@ impl Gate for Judge<'_> {
 fn a_gate_is_called_before_each_line_and_each_take(rt: HostRuntime) -> Result<(), Fail> {
     let alloc = rt.alloc();
     let shape = Shape::new(16, 16, 4, 1)?;
-    let Ok((inner, set_passes)) = set_over(alloc, &shape) else {
+    let Ok((inner, set_passes)) = set_over::<PlainDomain<Chain>>(alloc, &shape) else {
         panic!(rt; "memory")
     };
     let begun = Begun {

@@ -1,6 +1,9 @@
 //! The list's calls on one thread, over a domain that gives each row once.
 
-use crate::{SetCase, each_sees_the_others, first_other_answer, one_list_over};
+use crate::{SetCase, each_sees_the_others, first_other_answer};
+use orc_chain_rule::Chain;
+use orc_containers::set_over;
+use orc_plain_domain::PlainDomain;
 use orc_fault::Again;
 use orc_history::ListRefused;
 use orc_words::Shape;
@@ -39,7 +42,7 @@ const CASES: [(u64, SetCase); 25] = [
 #[test]
 fn keys_of_one_list_and_refused_calls(rt: HostRuntime) -> Result<(), Fail> {
     let shape = Shape::new(5, 1, 1, 1 << 39)?;
-    let Ok((list, passes)) = one_list_over(rt.alloc(), &shape) else {
+    let Ok((list, passes)) = set_over::<PlainDomain<Chain>>(rt.alloc(), &shape) else {
         panic!(rt; "memory")
     };
     list.members();
@@ -50,7 +53,7 @@ fn keys_of_one_list_and_refused_calls(rt: HostRuntime) -> Result<(), Fail> {
 #[test]
 fn both_see_what_both_add(rt: HostRuntime) -> Result<(), Fail> {
     let shape = Shape::new(8, 1, 2, 1 << 39)?;
-    let Ok((list, passes)) = one_list_over(rt.alloc(), &shape) else {
+    let Ok((list, passes)) = set_over::<PlainDomain<Chain>>(rt.alloc(), &shape) else {
         panic!(rt; "memory")
     };
     assert!(rt; each_sees_the_others(&list, passes));

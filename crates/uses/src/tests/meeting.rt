@@ -2,7 +2,9 @@
 //! dequeues of a take.
 
 use super::watched::{Call, Watch, run_watched};
-use crate::set_over;
+use orc_chain_rule::Chain;
+use orc_containers::set_over;
+use orc_plain_domain::PlainDomain;
 use orc_board::{OpenGate, PostWord, TakeReply, TakeWord};
 use orc_words::Shape;
 use std::sync::atomic::{AtomicU64, Ordering};
@@ -100,7 +102,7 @@ impl Watch for Between<'_> {
 fn the_calls_of_three_agents_are_made_at_once(rt: HostRuntime) -> Result<(), Fail> {
     let alloc = rt.alloc();
     let shape = Shape::new(16, 16, 4, 1)?;
-    let Ok((set, set_passes)) = set_over(alloc, &shape) else {
+    let Ok((set, set_passes)) = set_over::<PlainDomain<Chain>>(alloc, &shape) else {
         panic!(rt; "memory")
     };
     let file = b"post,0,bytes,x\npost,1,bytes,x\n";
@@ -125,7 +127,7 @@ fn the_calls_of_three_agents_are_made_at_once(rt: HostRuntime) -> Result<(), Fai
 fn a_rush_job_comes_between_the_two_dequeues_of_a_take(rt: HostRuntime) -> Result<(), Fail> {
     let alloc = rt.alloc();
     let shape = Shape::new(16, 16, 3, 1)?;
-    let Ok((set, set_passes)) = set_over(alloc, &shape) else {
+    let Ok((set, set_passes)) = set_over::<PlainDomain<Chain>>(alloc, &shape) else {
         panic!(rt; "memory")
     };
     let flags = Flags {

@@ -1,6 +1,9 @@
 //! The queue's calls on one thread, over a domain that gives each row once.
 
-use crate::{QueueCase, each_takes_the_others, first_other_reply, queue_over};
+use crate::{QueueCase, each_takes_the_others, first_other_reply};
+use orc_containers::queue_over;
+use orc_fifo_rule::Fifo;
+use orc_plain_domain::PlainDomain;
 use orc_fault::Again;
 use orc_history::QueueRefused;
 use orc_words::Shape;
@@ -9,7 +12,7 @@ use std::test::Fail;
 #[test]
 fn both_take_what_both_put(rt: HostRuntime) -> Result<(), Fail> {
     let shape = Shape::new(8, 2, 2, 1 << 39)?;
-    let Ok((queue, passes)) = queue_over(rt.alloc(), &shape, 0) else {
+    let Ok((queue, passes)) = queue_over::<PlainDomain<Fifo>>(rt.alloc(), &shape, 0) else {
         panic!(rt; "memory")
     };
     assert!(rt; each_takes_the_others(&queue, passes));
@@ -33,7 +36,7 @@ const CASES: [(u64, QueueCase); 10] = [
 #[test]
 fn calls_without_turns_and_without_rows(rt: HostRuntime) -> Result<(), Fail> {
     let shape = Shape::new(2, 2, 1, 1 << 39)?;
-    let Ok((queue, passes)) = queue_over(rt.alloc(), &shape, 0) else {
+    let Ok((queue, passes)) = queue_over::<PlainDomain<Fifo>>(rt.alloc(), &shape, 0) else {
         panic!(rt; "memory")
     };
     queue.members();

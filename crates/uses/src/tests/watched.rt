@@ -3,7 +3,9 @@
 ghost use Rattle.std.specs.Prelude.{◌≡◌, ◌+◌, ◌<◌, ◌≤◌, ℕ, [], All, IfOk, length, slice_index_or};
 ghost use Rattle.orc_jobs.specs.GoodLines.{AreGood};
 
-use crate::{Unmade, plain_queue};
+use orc_containers::{Unmade, new_queue};
+use orc_fifo_rule::Fifo;
+use orc_plain_domain::PlainDomain;
 use orc_board::{Gate, Replies};
 use orc_fault::{Again, NoMemory};
 use orc_history::{LearnQueue, LearnSet, ListRefused, QueueRefused, SharedQueue, SharedSet};
@@ -195,8 +197,8 @@ where
 {
     let agents = 1 + posters + takers;
     let lines = lines_of(alloc, text)?;
-    let (inner, queue_passes) = plain_queue(alloc, 16, agents)?;
-    let (rush_inner, rush_passes) = plain_queue(alloc, 16, agents)?;
+    let (inner, queue_passes) = new_queue::<PlainDomain<Fifo>>(alloc, 16, agents)?;
+    let (rush_inner, rush_passes) = new_queue::<PlainDomain<Fifo>>(alloc, 16, agents)?;
     let (watch, rush_watch) = watches;
     let queue = Watched { inner, watch };
     let rush = Watched {

@@ -5,9 +5,3 @@ first_other_answer-requires-clause-usable g c = c.in-Ok.ensures.usable
 
 pub first_other_answer-requires-clause-agents : goal.first_other_answer-requires-clause-agents
 first_other_answer-requires-clause-agents g c = c.in-Ok.ensures.agents
-
-pub first_other_answer-requires-2-clause-usable : goal.first_other_answer-requires-2-clause-usable
-first_other_answer-requires-2-clause-usable g c = c.in-Ok-reclaiming_set_over.ensures.usable
-
-pub first_other_answer-requires-2-clause-agents : goal.first_other_answer-requires-2-clause-agents
-first_other_answer-requires-2-clause-agents g c = c.in-Ok-reclaiming_set_over.ensures.agents
