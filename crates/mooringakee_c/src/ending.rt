@@ -11,8 +11,8 @@ ghost use Rattle.orc_shared_words.specs.Lists.{EachAt};
 ghost use Rattle.mooringakee_c.specs.Ending.{ArePlacesOf, TellsRows};
 
 use given_back::{GivenBack, Keeps, Unfinished};
-use orc_heap::{Discipline, Links};
 use orc_domain::{OrcDomain, OrcPass};
+use orc_heap::{Discipline, Links};
 use std::alloc::Global;
 
 /// The rule of passes that are given back: each is one of the domain, and idle.

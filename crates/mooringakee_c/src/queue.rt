@@ -9,11 +9,11 @@ ghost use Rattle.mooringakee_c.specs.declared.seat.Seat.{Seat};
 use crate::answer::Answer;
 use crate::ending::{Counts, Places, end};
 use given_back::Unfinished;
+use orc_domain::{OrcDomain, OrcPass};
 use orc_fifo_rule::Fifo;
 use orc_heap::Links;
 use orc_history::{QueueRefused, SharedQueue};
 use orc_queue::Queue;
-use orc_domain::{OrcDomain, OrcPass};
 use std::alloc::Global;
 use std::sync::Arc;
 

@@ -11,8 +11,8 @@ ghost use Rattle.orc_domain.specs.Rest.{IsShown, rest_domain, rest_journal};
 ghost use Rattle.orc_rest.specs.Rest.{IsAtRest};
 ghost use Rattle.orc_sound.specs.declared.steps.Step.{Step};
 
-use orc_heap::Discipline;
 use orc_domain::{OrcDomain, OrcPass, OrcRest};
+use orc_heap::Discipline;
 
 /// Lets all passes of a domain drain, which have to be idle and in order of agent, and ends the sharing. What they had seen goes on
 /// without an event. It takes no memory.

@@ -9,13 +9,13 @@ ghost use Rattle.orc_run.specs.Domains.{empty_seed, most_buckets, queue_seed, ru
 use crate::lists::{ListsPass, RunLists};
 use crate::queue::{QueuePass, RunQueue};
 use crate::split::{RunSplit, SplitPass};
+use orc_domain::OrcDomain;
 use orc_fault::NoMemory;
 use orc_fifo_rule::FifoNote;
 use orc_heap::Seed;
 use orc_history::{LearnQueue, LearnSet, SharedQueue, SharedSet};
 use orc_list::List;
 use orc_queue::Queue;
-use orc_domain::OrcDomain;
 use orc_set::Set;
 use orc_split_set::SplitSet;
 use orc_words::Shape;

@@ -15,10 +15,10 @@ ghost use Rattle.orc_workers.specs.Desks.{AreIdle as AreIdleDesks, HaveSeenTheSa
 use crate::desks::{Passes, passes_apart};
 use crate::queue::{QueuePass, RunQueue};
 use orc_board::Desk;
+use orc_domain::{OrcDomain, OrcPass, OrcRest};
 use orc_fifo_rule::Fifo;
 use orc_heap::Discipline;
 use orc_history::{SharedQueue, SharedSet};
-use orc_domain::{OrcDomain, OrcPass, OrcRest};
 
 /// Both queues at rest, and the passes of the set.
 #[derive(Drop)]

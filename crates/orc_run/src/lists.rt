@@ -10,9 +10,9 @@ ghost use Rattle.orc_domain.specs.Laws.Passes.{all_allowed, all_below, all_obey}
 ghost use Rattle.orc_domain.specs.Passes.{domain_bounds, domain_numbers, journal_of, seat_of};
 
 use orc_chain_rule::{Chain, ChainNote};
+use orc_domain::{OrcDomain, OrcPass};
 use orc_fault::Again;
 use orc_history::{LearnSet, ListRefused, SharedSet};
-use orc_domain::{OrcDomain, OrcPass};
 use orc_set::Set;
 use orc_sound::Step;
 

@@ -11,11 +11,11 @@ ghost use Rattle.orc_domain.specs.Laws.Lasting.{lacking_later};
 ghost use Rattle.orc_domain.specs.Laws.Passes.{all_allowed, all_below, all_obey, begins_so};
 ghost use Rattle.orc_domain.specs.Passes.{domain_bounds, domain_numbers, domain_opening, journal_of, seat_of};
 
+use orc_domain::{OrcDomain, OrcPass};
 use orc_fault::Again;
 use orc_fifo_rule::{Fifo, FifoNote};
 use orc_history::{LearnQueue, QueueRefused, SharedQueue};
 use orc_queue::Queue;
-use orc_domain::{OrcDomain, OrcPass};
 use orc_sound::Step;
 
 /// Michael and Scott's queue over a reclaiming domain.

@@ -9,9 +9,9 @@ ghost use Rattle.orc_domain.specs.Laws.Lasting.{lacking_later, worn_later};
 ghost use Rattle.orc_domain.specs.Laws.Passes.{all_allowed, all_below, all_obey};
 ghost use Rattle.orc_domain.specs.Passes.{domain_bounds, domain_numbers, journal_of, seat_of};
 
+use orc_domain::{OrcDomain, OrcPass};
 use orc_fault::Again;
 use orc_history::{LearnSet, ListRefused, SharedSet};
-use orc_domain::{OrcDomain, OrcPass};
 use orc_sound::Step;
 use orc_split_rule::{Split, SplitNote};
 use orc_split_set::SplitSet;

@@ -6,10 +6,10 @@ ghost use Rattle.orc_projection.specs.Mirror.{numbers_of};
 ghost use Rattle.orc_words.specs.Bounds.{bounds_of};
 ghost use Rattle.stress.specs.Passes.{AreAllIdle};
 
-use orc_plain_domain::{PlainDomain, PlainPass};
+use orc_domain::{OrcDomain, OrcPass};
 use orc_fault::NoMemory;
 use orc_heap::{Discipline, Links, Seed};
-use orc_domain::{OrcDomain, OrcPass};
+use orc_plain_domain::{PlainDomain, PlainPass};
 use orc_stress::Counts;
 use orc_words::Shape;
 use std::alloc::Global;

@@ -38,10 +38,7 @@ pub fn helps_a_lagging_tail_on<L: Links<Rule = Fifo>>(
 }
 
 /// Whether, in an empty list, an insert went past two nodes that were marked and still linked, in one turn.
-pub fn goes_past_marked_nodes<L: Links<Rule = Chain>>(
-    list: &Set<L>,
-    passes: Vec<L::Pass>,
-) -> bool
+pub fn goes_past_marked_nodes<L: Links<Rule = Chain>>(list: &Set<L>, passes: Vec<L::Pass>) -> bool
     requires usable { All (λ p. ⟦<Set<L> as SharedSet>⟧.usable list.now p) passes.items }
     requires agents { (i : ℕ) (p : L.Pass) → i < length passes.items
         → ⟦<Set<L> as SharedSet>⟧.agent_of list.now (slice_index_or passes.items i p) ≡ i }

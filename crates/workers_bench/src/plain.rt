@@ -3,12 +3,12 @@
 ghost use Rattle.std.specs.Prelude.{◌≡◌, ◌<◌, ℕ, [], All, IfOk, length, slice_index_or};
 
 use orc_chain_rule::Chain;
-use orc_plain_domain::{PlainDomain, PlainPass};
 use orc_fault::NoMemory;
 use orc_fifo_rule::{Fifo, FifoNote};
 use orc_heap::Seed;
 use orc_history::{LearnQueue, LearnSet, SharedQueue, SharedSet};
 use orc_list::List;
+use orc_plain_domain::{PlainDomain, PlainPass};
 use orc_queue::Queue;
 use orc_set::Set;
 use orc_words::{Shape, ShapeFault};

@@ -9,10 +9,10 @@ use super::calls::{one_publishes, two_publish};
 use super::threads::{call_by_all, left_over};
 use orc_cell::{Cell, CellRefused};
 use orc_containers::{cell_at_rest, cell_over};
+use orc_domain::{OrcDomain, OrcPass};
 use orc_fault::NoMemory;
 use orc_heap::Links;
 use orc_pairs_rule::Pairs;
-use orc_domain::{OrcDomain, OrcPass};
 use orc_stress::PairLog;
 use orc_words::Shape;
 use std::alloc::Global;
@@ -24,10 +24,7 @@ type Domain = OrcDomain<Pairs>;
 type Pass = OrcPass<Pairs>;
 
 // A new cell, and one pass an agent, in order.
-fn new_cell(
-    alloc: Global,
-    shape: &Shape,
-) -> Result<(Cell<Domain>, Vec<Pass>), NoMemory>
+fn new_cell(alloc: Global, shape: &Shape) -> Result<(Cell<Domain>, Vec<Pass>), NoMemory>
     requires two { (bounds_of shape.now).links ≡ 2 }
     requires roots { (bounds_of shape.now).roots ≡ 1 + 2 * (bounds_of shape.now).agents }
     ensures usable { IfOk result (λ made. AreUsable ⟦<Domain as Links>⟧ made.0.links made.1.items) }

@@ -6,8 +6,8 @@ ghost use Rattle.orc_heap.specs.Seats.{HoldsFresh, HoldsTarget, HoldsWant, IsIdl
 ghost use Rattle.orc_heap.specs.Slots.{Holds, IsFree};
 ghost use Rattle.orc_shared_words.specs.Lists.{EachAt};
 
-use orc_plain_domain::twins::Twins;
 use orc_heap::{At, Held, Links, Want};
+use orc_plain_domain::twins::Twins;
 
 // Swings root 0, and answers whether that came about.
 fn swing_root<L: Links<Rule = Twins>>(links: &L, p: &mut L::Pass, from: &Want, to: &Want) -> bool

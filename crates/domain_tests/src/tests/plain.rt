@@ -6,9 +6,9 @@ ghost use Rattle.orc_plain_domain.specs.Passes.{domain_numbers};
 
 use super::calls::first_links;
 use super::nodes::first_gives;
+use orc_heap::{AnyFit, Discipline, Seed};
 use orc_plain_domain::twins::Twins;
 use orc_plain_domain::{PlainDomain, PlainPass};
-use orc_heap::{AnyFit, Discipline, Seed};
 use orc_words::Shape;
 use std::test::Fail;
 

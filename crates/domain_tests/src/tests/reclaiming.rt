@@ -10,9 +10,9 @@ use super::calls::first_links;
 use super::nodes::{
     first_gives, held_meanwhile, learn_both, on_two_threads, sees_each, value_at_root, with_a_node,
 };
-use orc_plain_domain::twins::Twins;
-use orc_heap::{AnyFit, Discipline, Seed};
 use orc_domain::{OrcDomain, OrcPass};
+use orc_heap::{AnyFit, Discipline, Seed};
+use orc_plain_domain::twins::Twins;
 use orc_words::Shape;
 use std::test::Fail;
 

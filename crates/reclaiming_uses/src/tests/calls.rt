@@ -2,11 +2,11 @@
 
 ghost use Rattle.std.specs.Prelude.{◌≡◌, ◌<◌, ℕ, All, length, slice_index_or};
 
+use orc_chain_rule::Chain;
 use orc_containers::{queue_over, set_over};
 use orc_domain::OrcDomain;
-use orc_chain_rule::Chain;
-use orc_fifo_rule::Fifo;
 use orc_fault::Spent;
+use orc_fifo_rule::Fifo;
 use orc_history::{ListRefused, QueueRefused, SharedQueue, SharedSet};
 use orc_words::Shape;
 use std::alloc::Global;

@@ -3,9 +3,9 @@
 ghost use Rattle.std.specs.Prelude.{◌≡◌, ◌<◌, All, length};
 
 use super::crew::{Numbers, at_rest_queue, at_rest_set, drained_queue, drained_set};
+use orc_chain_rule::Chain;
 use orc_containers::{queue_over, set_over};
 use orc_domain::OrcDomain;
-use orc_chain_rule::Chain;
 use orc_fifo_rule::Fifo;
 use orc_history::{SharedQueue, SharedSet};
 use orc_words::Shape;

@@ -4,9 +4,9 @@ ghost use Rattle.std.specs.Prelude.{◌≡◌, ◌<◌, All, length};
 ghost use Rattle.std.specs.List.{AllByRecursion};
 
 use super::crew::{at_rest_set, backlog_of_set};
+use orc_chain_rule::Chain;
 use orc_containers::set_over;
 use orc_domain::OrcDomain;
-use orc_chain_rule::Chain;
 use orc_heap::{At, Links, Looked};
 use orc_history::SharedSet;
 use orc_set::Set;
@@ -90,10 +90,7 @@ fn by_the_first_three<L: Links<Rule = Chain>>(
 }
 
 // The passes of a list do so.
-fn by_three<L: Links<Rule = Chain>>(
-    list: &Set<L>,
-    passes: &mut Vec<L::Pass>,
-) -> Option<(u64, u64)>
+fn by_three<L: Links<Rule = Chain>>(list: &Set<L>, passes: &mut Vec<L::Pass>) -> Option<(u64, u64)>
     requires root { 0 < (L.numbers list.now.list.links).roots }
     requires usable { All (λ p. ⟦<Set<L> as SharedSet>⟧.usable list.now p) passes.old.items }
     ensures usable { All (λ p. ⟦<Set<L> as SharedSet>⟧.usable list.now p) passes.new.items }

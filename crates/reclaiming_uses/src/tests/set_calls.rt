@@ -1,8 +1,8 @@
 //! The bucketed set's calls, on one thread.
 
+use orc_chain_rule::Chain;
 use orc_containers::set_over;
 use orc_domain::OrcDomain;
-use orc_chain_rule::Chain;
 use orc_history::ListRefused::NoNode;
 use orc_words::Shape;
 use std::test::Fail;

@@ -8,10 +8,10 @@ use super::calls::{
     Doubled, Unnamed, one_doubles, one_finds_ends, the_next_anchors, the_next_doubles,
 };
 use super::threads::{OWN_KEYS, Sums, double_by_all};
+use orc_domain::{OrcDomain, OrcPass};
 use orc_fault::NoMemory;
 use orc_heap::{Links, Seed};
 use orc_history::SharedSet;
-use orc_domain::{OrcDomain, OrcPass};
 use orc_split_rule::Split;
 use orc_split_set::SplitSet;
 use orc_words::Shape;

@@ -6,9 +6,9 @@ ghost use Rattle.orc_plain_domain.specs.Passes.{IsPassOf, domain_numbers, seat_o
 ghost use Rattle.uses.specs.Ready.{IsReady};
 
 use links_example::{OwnRoots, PushRefused, through_a_stack};
-use orc_plain_domain::{PlainDomain, PlainPass};
 use orc_fault::NoMemory;
 use orc_heap::{Links, Seed};
+use orc_plain_domain::{PlainDomain, PlainPass};
 use orc_words::Shape;
 use std::alloc::Global;
 use std::test::Fail;

@@ -2,10 +2,10 @@
 //! gate judges its own by them.
 
 use super::watched::{Call, Watch, Watched, run_watched};
+use orc_board::Gate;
 use orc_chain_rule::Chain;
 use orc_containers::set_over;
 use orc_plain_domain::PlainDomain;
-use orc_board::Gate;
 use orc_words::Shape;
 use std::sync::atomic::{AtomicU64, Ordering};
 use std::test::Fail;

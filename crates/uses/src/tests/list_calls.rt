@@ -3,9 +3,9 @@
 use crate::{SetCase, each_sees_the_others, first_other_answer};
 use orc_chain_rule::Chain;
 use orc_containers::set_over;
-use orc_plain_domain::PlainDomain;
 use orc_fault::Again;
 use orc_history::ListRefused;
+use orc_plain_domain::PlainDomain;
 use orc_words::Shape;
 use std::test::Fail;
 

@@ -2,10 +2,10 @@
 //! dequeues of a take.
 
 use super::watched::{Call, Watch, run_watched};
+use orc_board::{OpenGate, PostWord, TakeReply, TakeWord};
 use orc_chain_rule::Chain;
 use orc_containers::set_over;
 use orc_plain_domain::PlainDomain;
-use orc_board::{OpenGate, PostWord, TakeReply, TakeWord};
 use orc_words::Shape;
 use std::sync::atomic::{AtomicU64, Ordering};
 use std::test::Fail;

@@ -2,10 +2,10 @@
 
 use crate::{QueueCase, each_takes_the_others, first_other_reply};
 use orc_containers::queue_over;
-use orc_fifo_rule::Fifo;
-use orc_plain_domain::PlainDomain;
 use orc_fault::Again;
+use orc_fifo_rule::Fifo;
 use orc_history::QueueRefused;
+use orc_plain_domain::PlainDomain;
 use orc_words::Shape;
 use std::test::Fail;
 

@@ -3,8 +3,8 @@
 use crate::{SetCase, first_other_answer};
 use orc_chain_rule::Chain;
 use orc_containers::set_over;
-use orc_plain_domain::PlainDomain;
 use orc_history::ListRefused;
+use orc_plain_domain::PlainDomain;
 use orc_words::Shape;
 use std::test::Fail;
 

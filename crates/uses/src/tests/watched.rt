@@ -3,13 +3,13 @@
 ghost use Rattle.std.specs.Prelude.{◌≡◌, ◌+◌, ◌<◌, ◌≤◌, ℕ, [], All, IfOk, length, slice_index_or};
 ghost use Rattle.orc_jobs.specs.GoodLines.{AreGood};
 
-use orc_containers::{Unmade, new_queue};
-use orc_fifo_rule::Fifo;
-use orc_plain_domain::PlainDomain;
 use orc_board::{Gate, Replies};
+use orc_containers::{Unmade, new_queue};
 use orc_fault::{Again, NoMemory};
+use orc_fifo_rule::Fifo;
 use orc_history::{LearnQueue, LearnSet, ListRefused, QueueRefused, SharedQueue, SharedSet};
 use orc_jobs::{Lines, MOST_BYTES, read_jobs};
+use orc_plain_domain::PlainDomain;
 use orc_workers::{fresh_desks, run_at_desks};
 use std::alloc::Global;
 use std::sync::Wait;
