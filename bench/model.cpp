@@ -2,12 +2,18 @@
 // choices, no answers. The words lie as in the domain's table, and each call makes the loads and the locked steps that the
 // domain makes where nobody disturbs it:
 //
+//   an enqueue                     10 loads, 13 locked steps
+//   a dequeue                      14 + 8 x agents loads, 14 locked steps: it frees the dummy, and scans all slots for it
+//   a search that visits n nodes   3 + 4 n loads, 2 + 2 n locked steps
+//
+// Without the steps that save others, in which a handover word is exchanged without a look, and a swing counts down behind slot 0:
+//
 //   an enqueue                     8 loads, 18 locked steps
-//   a dequeue                      10 + 8 x agents loads, 20 locked steps: it frees the dummy, and scans all slots for it
+//   a dequeue                      10 + 8 x agents loads, 20 locked steps
 //   a search that visits n nodes   2 + 3 n loads, 3 + 3 n locked steps
 //
 // model queue AGENTS CALLS: enqueues and dequeues in turn. model list KEYS CALLS: searches of a list of so many keys, each second
-// number up to twice as many. Prints calls a second.
+// number up to twice as many. With a fourth word all, without the steps that save others. Prints calls a second.
 #include <atomic>
 #include <chrono>
 #include <cstdint>
@@ -24,7 +30,8 @@ constexpr Number RETIRED = 1 << 23;
 constexpr Number ONE_MORE = 16777217;
 constexpr Number ONE_LESS = 16777215;
 
-struct Table {
+// The domain's words. SAVES: with the steps that save others.
+template <bool SAVES> struct Table {
   Number roots;
   Number agents;
   std::vector<std::atomic<Number>> words;
@@ -51,8 +58,24 @@ struct Table {
 
   Number unlock(Number at) {
     slot(0, at).store(0);
-    return handover(at).exchange(0);
+    return take_in(handover(at));
   }
+
+  // Takes a word's number out, which is looked at first.
+  Number take_in(std::atomic<Number> &word) {
+    if (SAVES && word.load() == 0) return 0;
+    return word.exchange(0);
+  }
+
+  // Counts the links to a row down by one, behind slot 0 or under a hold of another slot.
+  Number count_down(Number row) {
+    if (SAVES) return counter(row).fetch_add(ONE_LESS) + ONE_LESS;
+    publish(0, row);
+    return counter(row).fetch_add(ONE_LESS) + ONE_LESS;
+  }
+
+  // What follows a count down.
+  Number counted_down() { return SAVES ? 0 : unlock(0); }
 };
 
 Number link_to(Number row) { return 2 * (row + 1); }
@@ -64,8 +87,8 @@ void change(std::atomic<Number> &word, Number from, Number to) {
   if (!word.compare_exchange_strong(from, to)) std::abort();
 }
 
-struct Queue {
-  Table table;
+template <bool SAVES> struct Queue {
+  Table<SAVES> table;
   Number free_row = 1;
 
   explicit Queue(Number agents) : table(2, agents) {
@@ -96,11 +119,10 @@ struct Queue {
     table.counter(row).fetch_add(ONE_MORE);
 
     if (table.counter(row).load() >> 63) std::abort();
-    table.publish(0, last);
     change(table.root(1), tail, link_to(row));
     table.counter(row).fetch_add(ONE_MORE);
-    table.counter(last).fetch_add(ONE_LESS);
-    Number handed = table.unlock(0);
+    table.count_down(last);
+    Number handed = table.counted_down();
     handed |= table.unlock(1);
     handed |= table.unlock(2);
     if (handed) std::abort();
@@ -119,12 +141,11 @@ struct Queue {
     if (table.second(row).load() == 0) std::abort();
 
     if (table.counter(row).load() >> 63) std::abort();
-    table.publish(0, dummy);
     change(table.root(0), head, link);
     table.counter(row).fetch_add(ONE_MORE);
-    Number count = table.counter(dummy).fetch_add(ONE_LESS) + ONE_LESS;
+    Number count = table.count_down(dummy);
     change(table.counter(dummy), count, count + RETIRED);
-    Number handed = table.unlock(0);
+    Number handed = table.counted_down();
     handed |= table.unlock(2);
     handed |= table.unlock(1);
 
@@ -132,7 +153,7 @@ struct Queue {
     for (Number agent = 0; agent < table.agents; agent++)
       for (Number slot = 0; slot < 8; slot++) handed |= table.slot(agent, slot).load();
     if (handed || table.counter(dummy).load() != start) std::abort();
-    table.next(dummy).exchange(0);
+    if (table.take_in(table.next(dummy)) != link) std::abort();
     table.publish(0, row);
     table.counter(row).fetch_add(ONE_LESS);
     if (table.unlock(0)) std::abort();
@@ -143,8 +164,8 @@ struct Queue {
   }
 };
 
-struct List {
-  Table table;
+template <bool SAVES> struct List {
+  Table<SAVES> table;
 
   // The greatest key lies in the first row.
   explicit List(Number keys) : table(1, 1) {
@@ -203,26 +224,31 @@ struct Draws {
   }
 };
 
-int main(int count, char **words) {
-  if (count != 4) return 2;
-  Number size = std::strtoull(words[2], nullptr, 10);
-  Number calls = std::strtoull(words[3], nullptr, 10);
-  Number sum = 0;
+// The calls' sum, and the seconds that they took.
+template <bool SAVES> double run(const char *container, Number size, Number calls, Number &sum) {
   auto begun = std::chrono::steady_clock::now();
-  if (!std::strcmp(words[1], "queue")) {
-    Queue queue(size);
+  if (!std::strcmp(container, "queue")) {
+    Queue<SAVES> queue(size);
     begun = std::chrono::steady_clock::now();
     for (Number call = 0; call < calls; call += 2) {
       queue.enqueue(call);
       sum += queue.dequeue();
     }
   } else {
-    List list(size);
+    List<SAVES> list(size);
     Draws draws;
     begun = std::chrono::steady_clock::now();
     for (Number call = 0; call < calls; call++) sum += list.contains(draws.below(2 * size));
   }
-  std::chrono::duration<double> time = std::chrono::steady_clock::now() - begun;
+  return std::chrono::duration<double>(std::chrono::steady_clock::now() - begun).count();
+}
+
+int main(int count, char **words) {
+  if (count < 4 || count > 5 || (count == 5 && std::strcmp(words[4], "all"))) return 2;
+  Number size = std::strtoull(words[2], nullptr, 10);
+  Number calls = std::strtoull(words[3], nullptr, 10);
+  Number sum = 0;
+  double seconds = count == 5 ? run<false>(words[1], size, calls, sum) : run<true>(words[1], size, calls, sum);
   std::fprintf(stderr, "sum %llu\n", static_cast<unsigned long long>(sum));
-  std::printf("%.0f\n", static_cast<double>(calls) / time.count());
+  std::printf("%.0f\n", static_cast<double>(calls) / seconds);
 }

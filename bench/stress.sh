@@ -69,12 +69,13 @@ def modelled(words):
                              for _ in range(ROUNDS))
 
 print('One agent works over the reclaiming domain, against the same atomic steps in C++; million calls a second')
-row('Calls', 'Agents', 'Steps of a call', 'Speed', 'C++', 'C++ to this')
+row('Calls', 'Agents', 'Steps of a call', 'Speed', 'C++', 'C++ to this', 'C++ with all steps', 'That to this')
 for agents in (1, 4, 16):
     [(mine, _)] = speeds('--whole --container queue --domain reclaiming --threads 1 --calls 500000 --agents %d' % agents)
-    bare = modelled('queue %d 500000' % agents)
-    row('enqueue, dequeue', agents, '8 + 18, %d + 20' % (10 + 8 * agents), million(mine), million(bare), '%.2f' % (bare / mine))
+    bare, more = modelled('queue %d 500000' % agents), modelled('queue %d 500000 all' % agents)
+    row('enqueue, dequeue', agents, '10 + 13, %d + 14' % (14 + 8 * agents), million(mine), million(bare), '%.2f' % (bare / mine),
+        million(more), '%.2f' % (more / mine))
 [(mine, _)] = speeds('--whole --container list --domain reclaiming --threads 1 --calls 100000 --keys 256')
-bare = modelled('list 128 100000')
-row('list of 128 keys', 1, '2 + 3 n + 3 + 3 n', million(mine), million(bare), '%.2f' % (bare / mine))
+bare, more = modelled('list 128 100000'), modelled('list 128 100000 all')
+row('list of 128 keys', 1, '3 + 4 n + 2 + 2 n', million(mine), million(bare), '%.2f' % (bare / mine), million(more), '%.2f' % (more / mine))
 PY
