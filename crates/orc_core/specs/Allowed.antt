@@ -1,9 +1,9 @@
 -- Where a step is allowed. But for Enroll, it is a fact about the agent's own record.
 -- After OrcGC (Correia, Ramalhete and Felber 2021); the conditions are this project's own.
-use Rattle.std.specs.Prelude.{ℕ, ◌+◌, ◌*◌, Bool, true, false, not, ◌&&◌, ◌||◌, ◌==◌, nat_lt, Option, Some, None, is_none}
+use Rattle.std.specs.Prelude.{ℕ, ◌*◌, Bool, true, false, not, ◌&&◌, ◌||◌, ◌==◌, nat_lt, Option, Some, None, is_none}
 use Rattle.orc_words.specs.declared.place.Word.{Word}
 use Rattle.orc_words.specs.declared.place.Word.TheVariants.{Root, Next, Side}
-use Rattle.orc_words.specs.Bounds.{Bounds}
+use Rattle.orc_words.specs.Bounds.{Bounds, link_limit}
 use Rattle.orc_core.specs.declared.records.Agent.{Agent}
 use Rattle.orc_core.specs.declared.records.Reading.{Reading}
 use Rattle.orc_core.specs.declared.ops.CounterUse.TheVariants.{Check, Start, End}
@@ -81,10 +81,10 @@ fits b e a (Clear k) d = nat_lt k 8 && not (is_empty (slot_of d k)) && not (hold
 fits b e a (Arm r) d = nat_lt r b.rows && is_empty (slot_of d 0) && (names d.dec r || (scans d.scan r && not (scan_empty d.scan)))
 fits b e a (LinkCas p f t) d =
     may_place b p (λ r. any_holds d.slots r && not (names d.fresh r)) && is_empty (slot_of d 0) && may_target b d f.to && may_target b d t.to &&
-    may_change d (b.limit + 64) f.to t.to
+    may_change d (link_limit b) f.to t.to
 fits b e a (LinkStore r l n) d =
     nat_lt r b.rows && nat_lt n b.links && is_empty (slot_of d 0) &&
-    ((names d.fresh r && may_target b d l.to && may_change d (b.limit + 64) None l.to) || (doom_at d.doom r n && is_none l.to && not l.mark))
+    ((names d.fresh r && may_target b d l.to && may_change d (link_limit b) None l.to) || (doom_at d.doom r n && is_none l.to && not l.mark))
 fits b e a (Inc r) d = nat_lt r b.rows && names d.inc r
 fits b e a (Dec r) d = nat_lt r b.rows && names d.dec r && holds (slot_of d 0) r
 fits b e a (SetRetired r q) d = nat_lt r b.rows && nat_lt q 1099511627776 && (is_due d.due r q || names d.fresh r)

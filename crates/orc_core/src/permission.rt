@@ -119,7 +119,7 @@ fn may_swing(shape: &Shape, agent: &Agent, place: Word, from: RowLink, to: RowLi
         && agent.slot(0).is_empty()
         && may_target(shape, agent, from.to)
         && may_target(shape, agent, to.to)
-        && may_change(agent, shape.limit() + 64, from.to, to.to)
+        && may_change(agent, shape.link_limit(), from.to, to.to)
 }
 
 fn may_store(shape: &Shape, agent: &Agent, row: u32, number: u32, link: RowLink) -> bool
@@ -130,7 +130,7 @@ fn may_store(shape: &Shape, agent: &Agent, row: u32, number: u32, link: RowLink)
         && agent.slot(0).is_empty()
         && ((agent.is_fresh(row)
             && may_target(shape, agent, link.to)
-            && may_change(agent, shape.limit() + 64, None, link.to))
+            && may_change(agent, shape.link_limit(), None, link.to))
             || (doom_at(agent.doom, row, number) && link.to.is_none() && !link.mark))
 }
 

@@ -4,18 +4,15 @@ use Rattle.orc_core.specs.Counts.{links_to}
 use Rattle.orc_core.specs.Machine.{Machine, record_at, word_in}
 use Rattle.orc_core.specs.RecordParts.{holds, names, slot_of}
 use Rattle.orc_heap.specs.Acts.{IsFresh, IsKnown}
-use Rattle.orc_heap.specs.Heap.{Heap, HeapNumbers, Node, shown}
+use Rattle.orc_heap.specs.Heap.{Heap, Node, shown}
 use Rattle.orc_heap.specs.declared.events.Place.TheVariants.{Next as NodePlace, Root as RootPlace, Side as SidePlace}
 use Rattle.orc_projection.specs.PresentIds.{PresentIds, node_link}
 use Rattle.orc_sound.specs.Doomed.{cuts_past}
 use Rattle.orc_sound.specs.Linked.{IsOut}
-use Rattle.orc_words.specs.Bounds.{Bounds}
 use Rattle.orc_words.specs.Packed.{link_of}
 use Rattle.orc_words.specs.declared.place.Word.TheVariants.{First, Next, Root, Second, Side}
-
 -- the numbers of the heap that a table of these bounds shows
-abbrev pub numbers_of : Bounds → HeapNumbers
-numbers_of b = record { roots = b.roots; links = b.links }
+pub use Rattle.orc_any_domain.specs.Domains.{heap_numbers as numbers_of}
 
 -- an Aim, an AimSide or a Move made a link to the node
 pub record IsNamed (h : Heap) (id : ℕ) : Type 0 where

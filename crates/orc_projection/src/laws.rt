@@ -2,7 +2,7 @@
 
 ghost use Rattle.std.specs.Prelude.{◌≡◌, ◌↔◌, ◌++◌, ◌+◌, ◌*◌, ◌<◌, ◌≤◌, List, Some, length, slice_get, ℕ};
 ghost use Rattle.std.specs.Option.{option_map};
-ghost use Rattle.orc_words.specs.Bounds.{Bounds, IsShape};
+ghost use Rattle.orc_words.specs.Bounds.{Bounds, IsShape, link_limit};
 ghost use Rattle.orc_words.specs.Packed.{link_of, sequence_of};
 ghost use Rattle.orc_words.specs.Places.{link_at};
 ghost use Rattle.orc_words.specs.declared.place.Word.TheVariants.{Counter, Root};
@@ -51,7 +51,7 @@ pub fn a_worn_row_was_linked<N>()
         < b.limit + 2 * links_made (project b steps) ((present_ids b steps).node r) }
     ensures worn { (b : Bounds) (steps : List (Step N)) (r : ℕ) → IsShape b → IsLawfulJournal (new_machine b) steps
         → let m = run (new_machine b) (plain steps) in
-        IsOut m r → b.limit + 64 ≤ sequence_of (word_in m (Counter r))
+        IsOut m r → link_limit b ≤ sequence_of (word_in m (Counter r))
         → 33 ≤ links_made (project b steps) ((present_ids b steps).node r) }
 {}
 

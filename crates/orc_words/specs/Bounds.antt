@@ -1,5 +1,5 @@
 -- The numbers of a table, and the ranges that they must keep.
-use Rattle.std.specs.Prelude.{◌≡◌, ℕ, ◌^◌, ◌≤◌}
+use Rattle.std.specs.Prelude.{◌≡◌, ℕ, ◌+◌, ◌^◌, ◌≤◌}
 use Rattle.orc_words.specs.declared.shape.Shape.{Shape}
 use Rattle.orc_words.specs.declared.shape.ShapeFault.{ShapeFault}
 use Rattle.orc_words.specs.declared.shape.ShapeFault.TheVariants.{Rows, Roots, Agents, Limit, Links}
@@ -15,6 +15,10 @@ pub record Bounds : Type 0 where
 -- the numbers of a shape
 abbrev pub bounds_of : Shape → Bounds
 bounds_of s = record { rows = s.rows; roots = s.roots; agents = s.agents; limit = s.limit; links = s.links }
+
+-- from which sequence on a row is linked no more
+abbrev pub link_limit : Bounds → ℕ
+link_limit b = b.limit + 64
 
 -- n is at least low and at most high
 abbrev pub IsBetween : ℕ → ℕ → ℕ → Type 0

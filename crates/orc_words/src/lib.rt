@@ -16,4 +16,4 @@ pub use packed::{
     pack_gate, pack_link, read_counter, read_gate, read_link,
 };
 pub use place::{Word, different_words_have_different_places, link_of_row, place_of};
-pub use shape::{Shape, ShapeFault};
+pub use shape::{HIGHEST_LIMIT, Shape, ShapeFault};

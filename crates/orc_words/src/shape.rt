@@ -2,6 +2,12 @@
 
 ghost use Rattle.std.specs.Prelude.{◌≡◌, ◌≤◌, ◌^◌};
 
+/// The highest limit that a shape may have: 2^39.
+pub const HIGHEST_LIMIT: u64 = 549_755_813_888;
+
+/// How far above its limit a sequence may still rise before its row is linked no more.
+const LINK_SLACK: u64 = 64;
+
 /// The sizes of a table, the limit of its lives and sequences, and the number of links of a row.
 #[derive(Clone, Copy, Debug, PartialEq, Eq)]
 pub struct Shape {
@@ -34,7 +40,7 @@ pub enum ShapeFault {
 
 impl Shape {
     ghost use Rattle.std.specs.Prelude.{IfOk, IfErr};
-    ghost use Rattle.orc_words.specs.Bounds.{Bounds, bounds_of, IsShape, IsFirstFault};
+    ghost use Rattle.orc_words.specs.Bounds.{Bounds, bounds_of, IsShape, IsFirstFault, link_limit};
     ghost use Rattle.orc_words.specs.Places.{places, words_of_rows};
 
     /// A shape of 2 to 65,535 rows, 1 to 257 roots and 1 to 16 agents, with a limit of 1 to 2^39. Its rows have one link.
@@ -54,7 +60,7 @@ impl Shape {
         if !(1..=16).contains(&agents) {
             return Err(ShapeFault::Agents(agents));
         }
-        if !(1..=549_755_813_888).contains(&limit) {
+        if !(1..=HIGHEST_LIMIT).contains(&limit) {
             return Err(ShapeFault::Limit(limit));
         }
         Ok(Shape {
@@ -119,6 +125,13 @@ impl Shape {
         ensures { result ≡ (bounds_of self.now).limit }
     {
         self.limit
+    }
+
+    /// From which sequence on a row is linked no more.
+    pub fn link_limit(&self) -> u64
+        ensures { result ≡ link_limit (bounds_of self.now) }
+    {
+        self.limit + LINK_SLACK
     }
 
     /// The number of links of a row, 1 or 2.
