@@ -3,6 +3,7 @@
 mod calls;
 mod heap;
 mod job;
+mod moving;
 mod nodes;
 mod plain;
 mod plain_board;

@@ -12,7 +12,7 @@ use std::alloc::Global;
 
 /// How many rows were given and freed, each as often as it was, and how many are out.
 #[derive(Clone, Copy, Debug, PartialEq, Eq, Drop)]
-pub struct Counts {
+pub struct RowCounts {
     pub given: u64,
     pub reused: u64,
     pub linked: u32,
@@ -58,7 +58,7 @@ pub trait Domain: Links {
         ensures { rests self result };
 
     /// How many rows were given and freed, each as often as it was, and how many are out: what was given was freed or is out.
-    fn counts(rest: &Self::Rest) -> Counts
+    fn counts(rest: &Self::Rest) -> RowCounts
         ensures balance { (domain : Self) → rests domain rest.now → result.given ≡ result.reused + result.linked };
 
     // the heap's numbers, the agents and the rows are those of the sizes

@@ -2,5 +2,7 @@
 #![tactic(auto)]
 
 mod domain;
+mod learning;
 
-pub use domain::{Counts, Domain};
+pub use domain::{Domain, RowCounts};
+pub use learning::learn_all;

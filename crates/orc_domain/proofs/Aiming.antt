@@ -23,13 +23,12 @@ use Rattle.orc_machine_board.specs.declared.machine.MachineShape.{MachineShape}
 use Rattle.orc_machine_board.specs.declared.machine.Request.{Request}
 use Rattle.orc_projection.proofs.Links.{names-some}
 use Rattle.orc_projection.specs.Projection.{events_of, present_ids}
-use Rattle.orc_domain.proofs.Counting.{leaves_one, leaves_then}
 use Rattle.orc_domain.proofs.Filling.{has_is_out}
 use Rattle.orc_domain.proofs.Held.{has_low, mirrors}
 use Rattle.orc_domain.proofs.Linking.{old_other}
 use Rattle.orc_domain.proofs.Protecting.{true_false}
 use Rattle.orc_domain.proofs.Seats.{before_keep, only, step_events}
-use Rattle.orc_domain.proofs.Stages.{Between, Stage, Steps, before_record, seat}
+use Rattle.orc_domain.proofs.Stages.{Between, Stage, Steps, before_record, seat, leaves_by, leaves_then}
 use Rattle.orc_domain.proofs.Untouched.{still_untouched, untouched_at}
 use Rattle.orc_domain.specs.Changes.{Becomes, IsCountable, Stores}
 use Rattle.orc_machine_rest.specs.OwnSteps.{LeavesNothing}
@@ -165,5 +164,6 @@ module _ {D N : Type 0} {d : discipline.Ghosts D N} {k : MachineShape N} {s t : 
         (untouched_at s t _ stored.puts id (ap (λ y. y || false) (aims_at_none number (p.node r) (option_map p.node to) id (no_self to refl id same))) (a.is.untouched id was))
 
     pub stored_leaves : LeavesNothing s.view.agent s.view.journal u.view.journal
-    stored_leaves = leaves_then s.view.agent s.view.journal t.view.journal u.view.journal (leaves_one s t (LinkStore r (without_mark to) number) n a.makes tt)
+    stored_leaves = leaves_then s.view.agent s.view.journal t.view.journal u.view.journal
+        (leaves_by (asks (LinkStore r (without_mark to) number)) None s t n a.makes tt)
         (subst (λ x. LeavesNothing x t.view.journal u.view.journal) a.makes.agent z.leaves)

@@ -1,10 +1,9 @@
 -- What a change of a link leaves pending is counted, step by step.
-use Rattle.std.proofs.Common.{Bool, List, None, Option, Some, [], ap, arith, cond, eq-eqb, false, get_or-set_same, inr, length, refl, subst, sym, true, ℕ, ◌++◌, ◌<◌, ◌^◌, ◌∙◌, ◌≡◌, ◌∷◌}
+use Rattle.std.proofs.Common.{Bool, List, None, Option, Some, [], ap, arith, cond, eq-eqb, false, get_or-set_same, inr, length, refl, subst, sym, true, ℕ, ◌<◌, ◌^◌, ◌∙◌, ◌≡◌, ◌∷◌}
 use Rattle.std.proofs.lemmas.Bool.{lt-ltb, or_right}
 use Rattle.std.specs.Prelude.{map, nat_lt, not, slice_get, slice_index_or, slice_set, ◌&&◌, ◌==◌, ◌||◌}
 use Rattle.orc_core.specs.Allowed.{in_order, may}
 use Rattle.orc_core.specs.RecordParts.{any_holds, holds, holds_fresh, is_due, is_empty, names, saw, scan_empty, scans, slot_of}
-use Rattle.orc_core.specs.declared.ops.Op.{Op}
 use Rattle.orc_core.specs.declared.ops.Op.TheVariants.{Arm, Clear, Dec, DecHeld, Inc, SetRetired, TakeIn}
 use Rattle.orc_core.specs.declared.records.Agent.{Agent}
 use Rattle.orc_core.specs.declared.records.Reading.{Reading}
@@ -26,32 +25,19 @@ use Rattle.orc_domain.proofs.Protecting.{same_then}
 use Rattle.orc_domain.proofs.Searching.{idle_none}
 use Rattle.orc_domain.proofs.Seats.{only, sets}
 use Rattle.orc_domain.proofs.Setting.{clear_may, set_same, set_twice}
-use Rattle.orc_machine_rest.proofs.TakenIn.{done_none, done_then}
-use Rattle.orc_domain.proofs.Stages.{Stage, Steps, done_one, seat}
+use Rattle.orc_domain.proofs.Stages.{Stage, Steps, leaves_by, leaves_none, leaves_then, seat}
 use Rattle.orc_machine_board.proofs.Licences.{has_either}
 use Rattle.orc_domain.specs.Calls.{SameParts, Unlocks}
 use Rattle.orc_domain.specs.Changes.{Becomes, IsCountable}
-use Rattle.orc_machine_rest.proofs.Joins.{takes_in_both}
-use Rattle.orc_machine_rest.specs.OwnSteps.{LeavesNothing, TakesInCleared}
+use Rattle.orc_machine_rest.specs.OwnSteps.{LeavesNothing}
 use Rattle.orc_domain.specs.Seats.{IsCalm, SetsSlot, seat_by, slot_by}
 use Rattle.orc_sound.proofs.ForRuns.{run_sound}
 use Rattle.orc_sound.proofs.Journals.{plain_lawful}
 use Rattle.orc_sound.specs.Journals.{plain}
 use Rattle.orc_sound.specs.Linked.{changes}
-use Rattle.orc_sound.specs.declared.steps.Step.{Step}
 use Rattle.orc_words.specs.Bounds.{Bounds}
 
 module _ {N : Type 0} where
-  pub leaves_none : (a : ℕ) (j : List (Step N)) → LeavesNothing a j j
-  leaves_none a j = record { ops = []; done = done_none a j; taken_in = tt }
-
-  pub leaves_then : (a : ℕ) (x y z : List (Step N)) → LeavesNothing a x y → LeavesNothing a y z → LeavesNothing a x z
-  leaves_then a x y z p q = record {
-    ops = p.ops ++ q.ops;
-    done = done_then a x y z p.ops q.ops p.done q.done;
-    taken_in = takes_in_both p.ops q.ops p.taken_in q.taken_in;
-  }
-
   -- two parts, one after the other
   pub becomes_then : (b : Bounds) (d e f : Agent) (s t u : MachineView N) → Becomes b d s t → Becomes b e t u → SameParts f e → Becomes b f s u
   becomes_then b d e f s t u p q same = record {
@@ -163,10 +149,6 @@ module _ {D N : Type 0} {d : discipline.Ghosts D N} {k : MachineShape N} (s : St
       let its : names x.dec r ≡ true = ap (λ o. names o r) dec ∙ named_self r in
       λ i. ((agent i && on i) && first i) && ((row i && its i) && held i)
 
-  -- one step leaves nothing, unless it clears a slot
-  pub leaves_one : (t : Stage d k) (op : Op) (n : ℕ) → Steps op s n t → TakesInCleared (op ∷ []) → LeavesNothing s.view.agent s.view.journal t.view.journal
-  leaves_one t op n m in_order = record { ops = op ∷ []; done = done_one (asks op) None s t n m; taken_in = in_order }
-
   -- the bit of the due row was tried
   pub tries : (t : Stage d k) (r : Reading) (n : ℕ) → Steps (SetRetired r.row r.number) s n t → names s.view.record_is.fresh r.row ≡ false
       → Becomes (bounds_in k) (record s.view.record_is { due = None }) s.view t.view
@@ -185,7 +167,7 @@ module _ {D N : Type 0} {d : discipline.Ghosts D N} {k : MachineShape N} (s : St
           doom = ap (λ (e : Agent). e.doom) m.record_is;
           scan = ap (λ (e : Agent). e.scan) m.record_is;
         };
-        leaves = leaves_one t (SetRetired r.row r.number) n m tt;
+        leaves = leaves_by (asks (SetRetired r.row r.number)) None s t n m tt;
       }
 
 -- the increment, and the try that may follow
@@ -207,7 +189,7 @@ module _ {D N : Type 0} {d : discipline.Ghosts D N} {k : MachineShape N} (s t : 
           doom = z.same.doom ∙ ap (λ (e : Agent). e.doom) m.record_is;
           scan = z.same.scan ∙ ap (λ (e : Agent). e.scan) m.record_is;
         };
-        leaves = leaves_then s.view.agent s.view.journal t.view.journal u.view.journal (leaves_one s t (Inc r) n m tt)
+        leaves = leaves_then s.view.agent s.view.journal t.view.journal u.view.journal (leaves_by (asks (Inc r)) None s t n m tt)
             (subst (λ a. LeavesNothing a t.view.journal u.view.journal) m.agent z.leaves);
       }
 
@@ -230,7 +212,7 @@ module _ {D N : Type 0} {d : discipline.Ghosts D N} {k : MachineShape N} (s t : 
           doom = z.same.doom ∙ ap (λ (e : Agent). e.doom) m.record_is;
           scan = z.same.scan ∙ ap (λ (e : Agent). e.scan) m.record_is;
         };
-        leaves = leaves_then s.view.agent s.view.journal t.view.journal u.view.journal (leaves_one s t (DecHeld r) n m tt)
+        leaves = leaves_then s.view.agent s.view.journal t.view.journal u.view.journal (leaves_by (asks (DecHeld r)) None s t n m tt)
             (subst (λ a. LeavesNothing a t.view.journal u.view.journal) m.agent z.leaves);
       }
 
@@ -294,8 +276,8 @@ module _ {D N : Type 0} {d : discipline.Ghosts D N} {k : MachineShape N} (s t : 
           let x = s.view.record_is in
           let in_slot = sets (asks (Arm r)) None s t n m 0 (Held r) (ap (λ (e : Agent). e.slots) m.record_is) (ap (λ (e : Agent). e.fresh) m.record_is) in
           let counted = only (asks (Dec r)) None t u o m2 (ap (λ (e : Agent). e.slots) m2.record_is) (ap (λ (e : Agent). e.fresh) m2.record_is) in
-          let to_t = leaves_one s t (Arm r) n m tt in
-          let to_u = subst (λ a. LeavesNothing a t.view.journal u.view.journal) m.agent (leaves_one t u (Dec r) o m2 tt) in
+          let to_t = leaves_by (asks (Arm r)) None s t n m tt in
+          let to_u = subst (λ a. LeavesNothing a t.view.journal u.view.journal) m.agent (leaves_by (asks (Dec r)) None t u o m2 tt) in
           let two = m2.agent ∙ m.agent in
           let to_v = subst (λ a. LeavesNothing a u.view.journal v.view.journal) two z.leaves in
           let last : LeavesNothing v.view.agent v.view.journal w.view.journal =

@@ -1,14 +1,14 @@
 -- All passes of a domain learn, drain one after another, and learn again.
-use Rattle.std.proofs.Common.{All, List, [], ap, arith, length, refl, subst, suc, sym, ◌++◌, ◌+◌, ◌<◌, ◌≤◌, ◌∙◌, ◌∷◌, ◌≡◌, ◌≢◌}
+use Rattle.std.proofs.Common.{All, List, [], ap, arith, length, refl, subst, suc, sym, ℕ, ◌++◌, ◌+◌, ◌<◌, ◌≤◌, ◌∙◌, ◌∷◌, ◌≡◌, ◌≢◌}
 use Rattle.std.proofs.lemmas.List.Elements.{All-from_recursion, recursion_from_All}
 use Rattle.std.specs.List.{AllByRecursion}
-use Rattle.std.specs.Prelude.{cond, is_some, map, slice_index_or, ◌||◌}
+use Rattle.std.specs.Prelude.{cond, is_some, slice_index_or, ◌||◌}
 use mathlib.Core.List.{IsPrefix}
 use Rattle.orc_machine_rest.specs.Drains.{Drains}
 use Rattle.orc_core.specs.Machine.{record_at}
 use Rattle.orc_core.specs.declared.records.Agent.{Agent}
-use Rattle.orc_plain_domain.proofs.Rounds.{pairwise_all, pairwise_join, pairwise_long, pairwise_map}
-use Rattle.orc_plain_domain.specs.Ends.{Pairwise}
+use Rattle.orc_any_domain.proofs.Rounds.{idle_all, one_of_all, pairwise_all, pairwise_join, pairwise_long, pairwise_map, same_trans}
+use Rattle.orc_any_domain.specs.Learning.{Hears, HearsAll, HoldsSame, LearnsAll, Pairwise}
 use Rattle.orc_heap.proofs.Pieces.{goes_on}
 use Rattle.orc_heap.specs.OwnEvents.{Only}
 use Rattle.orc_heap.specs.Seats.{IsIdle, Seat}
@@ -22,10 +22,10 @@ use Rattle.orc_machine_board.specs.declared.machine.MachineShape.{MachineShape}
 use Rattle.orc_machine_board.specs.declared.machine.Reclaiming.{Reclaiming}
 use Rattle.orc_machine_board.specs.declared.machine.Request.{Request}
 use Rattle.orc_projection.specs.Projection.{project}
-use Rattle.orc_domain.proofs.Hearing.{agents_differ, all_hear, all_map, among_all, idle_all, no_more, numbered_all, round_within, same_trans}
-use Rattle.orc_domain.proofs.InTurn.{goes_further, nothing_more, number_at, numbered_by, rests, turns_same}
+use Rattle.orc_domain.proofs.Numbered.{agents_differ, number_at, numbered_all, numbered_by}
+use Rattle.orc_domain.proofs.InTurn.{goes_further, nothing_more, rests, turns_same}
 use Rattle.orc_domain.proofs.NextDrain.{drains_next}
-use Rattle.orc_domain.specs.Drains.{AreNumbered, DrainInTurn, HearsSteps, HearsWithin, HoldsSame, StepsRound}
+use Rattle.orc_domain.specs.Drains.{AreNumbered, DrainInTurn}
 use Rattle.orc_domain.specs.Ends.{AddsNoEvents, AreAll, AreIdle, HaveNoBacklog, IsNoLonger, SawAll, SawOneList, whole_journal}
 use Rattle.orc_domain.specs.Passes.{IsPassOf, domain_bounds, journal_of, seat_of}
 use Rattle.orc_domain.specs.declared.domain.OrcDomain.{OrcDomain}
@@ -37,6 +37,9 @@ use Rattle.orc_sound.proofs.Journals.{plain_lawful}
 use Rattle.orc_sound.specs.Journals.{plain}
 use Rattle.orc_sound.specs.declared.steps.Step.{Step}
 use Rattle.orc_words.specs.Bounds.{Bounds}
+
+abbrev by : {N : Type 0} → Step N → ℕ
+by s = s.agent
 
 module _ {D N : Type 0} where
   abbrev Pass : (d : discipline.Ghosts D N) → machine.Ghosts Reclaiming N (MachineShape N) Request (Step N) Agent Agent → Type 0
@@ -73,222 +76,200 @@ module _ {D N : Type 0} {d : discipline.Ghosts D N} {m : machine.Ghosts Reclaimi
         same_all : AreAll domain (w ∷ ws)
         same_all = subst (AreAll domain) is all
 
-        numbered : AreNumbered seat journal 0 (w ∷ ws)
-        numbered = numbered_by seat journal 0 (w ∷ ws) (λ i p l. let e = same_all.order i p l in omega (arith, e))
+        numbered : AreNumbered seat 0 (w ∷ ws)
+        numbered = numbered_by seat 0 (w ∷ ws) (λ i p l. let e = same_all.order i p l in omega (arith, e))
 
         idle_first : AllByRecursion (λ p. IsIdle (seat p)) (w ∷ ws)
         idle_first = recursion_from_All (λ p. IsIdle (seat p)) (w ∷ ws) (subst (AreIdle domain) is idle)
 
-        differ : (v : Pass d m) (vs : List (Pass d m)) → AreNumbered seat journal 0 (v ∷ vs) → AllByRecursion (λ p. (seat v).agent ≢ (seat p).agent) vs
-        differ v vs k = let e = k.0 in agents_differ seat journal (seat v).agent 1 vs (omega (arith, e)) k.1
-
-        round_same : (v x : Pass d m) (vs xs : List (Pass d m)) → StepsRound seat journal v x vs xs → Pairwise (HoldsSame seat journal) (v ∷ vs) (x ∷ xs)
-        round_same v x vs xs r = (
-          r.first.same,
-          pairwise_map (HearsWithin seat journal (journal v) (journal x)) (HoldsSame seat journal)
-              (λ y z h. h.hears.same) vs xs r.others,
-        )
+        differ : (v : Pass d m) (vs : List (Pass d m)) → AreNumbered seat 0 (v ∷ vs) → AllByRecursion (λ p. (seat v).agent ≢ (seat p).agent) vs
+        differ v vs k = let e = k.0 in agents_differ seat (seat v).agent 1 vs (omega (arith, e)) k.1
 
         pub first_differs : AllByRecursion (λ p. (seat w).agent ≢ (seat p).agent) ws
         first_differs = differ w ws numbered
 
-        module _ (w1 : Pass d m) (xs : List (Pass d m)) (r1 : StepsRound seat journal w w1 ws xs) where
-          same1 : Pairwise (HoldsSame seat journal) (w ∷ ws) (w1 ∷ xs)
-          same1 = round_same w w1 ws xs r1
+        module _ (w2 : Pass d m) (ys : List (Pass d m)) (l2 : LearnsAll seat by journal w w2 ws ys) where
+          heard : Pairwise (HearsAll seat by journal (journal w2)) (w ∷ ws) (w2 ∷ ys)
+          heard = l2.each
 
-          pub second_differs : AllByRecursion (λ p. (seat w1).agent ≢ (seat p).agent) xs
-          second_differs = differ w1 xs (numbered_all seat journal 0 (w ∷ ws) (w1 ∷ xs) same1 numbered)
+          same2 : Pairwise (HoldsSame seat) (w ∷ ws) (w2 ∷ ys)
+          same2 = pairwise_map (HearsAll seat by journal (journal w2)) (HoldsSame seat) (λ p q h. h.hears.same)
+              (w ∷ ws) (w2 ∷ ys) heard
 
-          module _ (w2 : Pass d m) (ys : List (Pass d m)) (r2 : StepsRound seat journal w1 w2 xs ys) where
-            heard : Pairwise (λ p q. HearsSteps seat journal p q × (journal q ≡ journal w2)) (w ∷ ws) (w2 ∷ ys)
-            heard = all_hear seat journal w w1 w2 ws xs ys r1 r2
+          numbered2 : AreNumbered seat 0 (w2 ∷ ys)
+          numbered2 = numbered_all seat 0 (w ∷ ws) (w2 ∷ ys) same2 numbered
 
-            same2 : Pairwise (HoldsSame seat journal) (w ∷ ws) (w2 ∷ ys)
-            same2 = pairwise_map (λ p q. HearsSteps seat journal p q × (journal q ≡ journal w2)) (HoldsSame seat journal) (λ p q h. h.0.same)
-                (w ∷ ws) (w2 ∷ ys) heard
+          pub idle2 : AllByRecursion (λ p. IsIdle (seat p)) (w2 ∷ ys)
+          idle2 = idle_all seat (w ∷ ws) (w2 ∷ ys) same2 idle_first
 
-            numbered2 : AreNumbered seat journal 0 (w2 ∷ ys)
-            numbered2 = numbered_all seat journal 0 (w ∷ ws) (w2 ∷ ys) same2 numbered
+          one_list : AllByRecursion (λ p. journal p ≡ journal w2) (w2 ∷ ys)
+          one_list = pairwise_all (HearsAll seat by journal (journal w2)) (λ p. IsIdle (seat p)) (λ q. journal q ≡ journal w2)
+              (λ p q h _. h.seen) (w ∷ ws) (w2 ∷ ys) heard idle_first
 
-            pub idle2 : AllByRecursion (λ p. IsIdle (seat p)) (w2 ∷ ys)
-            idle2 = idle_all seat journal (w ∷ ws) (w2 ∷ ys) same2 idle_first
+          long2 : length (w2 ∷ ys) ≡ (domain_bounds domain).agents
+          long2 = pairwise_long (HoldsSame seat) (w ∷ ws) (w2 ∷ ys) same2 ∙ same_all.many
 
-            one_list : AllByRecursion (λ p. journal p ≡ journal w2) (w2 ∷ ys)
-            one_list = pairwise_all (λ p q. HearsSteps seat journal p q × (journal q ≡ journal w2)) (λ p. IsIdle (seat p)) (λ q. journal q ≡ journal w2)
-                (λ p q h _. h.1) (w ∷ ws) (w2 ∷ ys) heard idle_first
+          module _ (is2 : IsPassOf domain w2) (w3 : Pass d m) (is3 : IsPassOf domain w3) (idle3 : IsIdle (seat w3))
+              (drains : Drains (domain_bounds domain) (seat w2).agent (shows w2.pass) (shows w3.pass)) (only : Only [] (seat w2) (seat w3))
+            where
+              pub numbered_others : AreNumbered seat (suc (seat w3).agent) ys
+              numbered_others = subst (λ n. AreNumbered seat (suc n) ys) (sym (only.puts.agent ∙ numbered2.0)) numbered2.1
 
-            long2 : length (w2 ∷ ys) ≡ (domain_bounds domain).agents
-            long2 = pairwise_long (HoldsSame seat journal) (w ∷ ws) (w2 ∷ ys) same2 ∙ same_all.many
+              more3 : IsPrefix (journal w2) (journal w3)
+              more3 = (drains.adds.part, sym drains.adds.journal)
 
-            module _ (is2 : IsPassOf domain w2) (w3 : Pass d m) (is3 : IsPassOf domain w3) (idle3 : IsIdle (seat w3))
-                (drains : Drains (domain_bounds domain) (seat w2).agent (shows w2.pass) (shows w3.pass)) (only : Only [] (seat w2) (seat w3))
-              where
-                pub numbered_others : AreNumbered seat journal (suc (seat w3).agent) ys
-                numbered_others = subst (λ n. AreNumbered seat journal (suc n) ys) (sym (only.puts.agent ∙ numbered2.0)) numbered2.1
+              pub seen_others : AllByRecursion (λ p. IsPrefix (journal p) (journal w3)) ys
+              seen_others = recursion_from_All (λ p. IsPrefix (journal p) (journal w3)) ys (λ i p l.
+                  subst (λ z. IsPrefix z (journal w3)) (sym (All-from_recursion (λ q. journal q ≡ journal w2) ys one_list.1 i p l)) more3)
 
-                more3 : IsPrefix (journal w2) (journal w3)
-                more3 = (drains.adds.part, sym drains.adds.journal)
+              module _ (w4 : Pass d m) (zs : List (Pass d m)) (later : Hears seat by journal w3 w4) (same : journal w4 ≡ journal w3)
+                  (turns : DrainInTurn seat journal (domain_bounds domain) (journal w3) ys zs)
+                where
+                  all_turns : DrainInTurn seat journal (domain_bounds domain) (journal w2) (w2 ∷ ys) (w4 ∷ zs)
+                  all_turns = (
+                    drains_next domain (journal w2) w2 w2 w3 w4 is2 idle2.0 is3 idle3
+                        (record { same = record { agent = refl; slots = refl; fresh = refl }; more = ([], nil (journal w2)); own = refl }) refl drains only
+                        later same,
+                    subst (λ z. DrainInTurn seat journal (domain_bounds domain) z ys zs) (sym same) turns,
+                  )
+                    where
+                      nil : (l : List (Step N)) → l ++ [] ≡ l
+                      nil [] = refl
+                      nil (x ∷ l) = ap (λ z. x ∷ z) (nil l)
 
-                pub seen_others : AllByRecursion (λ p. IsPrefix (journal p) (journal w3)) ys
-                seen_others = recursion_from_All (λ p. IsPrefix (journal p) (journal w3)) ys (λ i p l.
-                    subst (λ z. IsPrefix z (journal w3)) (sym (All-from_recursion (λ q. journal q ≡ journal w2) ys one_list.1 i p l)) more3)
+                  same4 : Pairwise (HoldsSame seat) (w2 ∷ ys) (w4 ∷ zs)
+                  same4 = turns_same seat journal (domain_bounds domain) (journal w2) (w2 ∷ ys) (w4 ∷ zs) all_turns
 
-                module _ (w4 : Pass d m) (zs : List (Pass d m)) (later : HearsSteps seat journal w3 w4) (same : journal w4 ≡ journal w3)
-                    (turns : DrainInTurn seat journal (domain_bounds domain) (journal w3) ys zs)
-                  where
-                    all_turns : DrainInTurn seat journal (domain_bounds domain) (journal w2) (w2 ∷ ys) (w4 ∷ zs)
-                    all_turns = (
-                      drains_next domain (journal w2) w2 w2 w3 w4 is2 idle2.0 is3 idle3
-                          (record { same = record { agent = refl; slots = refl; fresh = refl }; more = ([], nil (journal w2)); own = refl }) refl drains only
-                          later same,
-                      subst (λ z. DrainInTurn seat journal (domain_bounds domain) z ys zs) (sym same) turns,
-                    )
-                      where
-                        nil : (l : List (Step N)) → l ++ [] ≡ l
-                        nil [] = refl
-                        nil (x ∷ l) = ap (λ z. x ∷ z) (nil l)
+                  numbered4 : AreNumbered seat 0 (w4 ∷ zs)
+                  numbered4 = numbered_all seat 0 (w2 ∷ ys) (w4 ∷ zs) same4 numbered2
 
-                    same4 : Pairwise (HoldsSame seat journal) (w2 ∷ ys) (w4 ∷ zs)
-                    same4 = turns_same seat journal (domain_bounds domain) (journal w2) (w2 ∷ ys) (w4 ∷ zs) all_turns
+                  pub third_differs : AllByRecursion (λ p. (seat w4).agent ≢ (seat p).agent) zs
+                  third_differs = differ w4 zs numbered4
 
-                    numbered4 : AreNumbered seat journal 0 (w4 ∷ zs)
-                    numbered4 = numbered_all seat journal 0 (w2 ∷ ys) (w4 ∷ zs) same4 numbered2
+                  module _ (w6 : Pass d m) (ts : List (Pass d m)) (l6 : LearnsAll seat by journal w4 w6 zs ts) (is6 : IsPassOf domain w6)
+                      (others6 : AllByRecursion (λ p. IsPassOf domain p) ts)
+                    where
+                      abbrev f : List (Step N)
+                      f = journal w6
 
-                    pub third_differs : AllByRecursion (λ p. (seat w4).agent ≢ (seat p).agent) zs
-                    third_differs = differ w4 zs numbered4
+                      hear : Pairwise (HearsAll seat by journal f) (w4 ∷ zs) (w6 ∷ ts)
+                      hear = l6.each
 
-                    module _ (w5 : Pass d m) (us : List (Pass d m)) (r5 : StepsRound seat journal w4 w5 zs us) where
-                      pub last_differs : AllByRecursion (λ p. (seat w5).agent ≢ (seat p).agent) us
-                      last_differs = differ w5 us (numbered_all seat journal 0 (w4 ∷ zs) (w5 ∷ us) (round_same w4 w5 zs us r5) numbered4)
+                      within : (top : List (Step N)) → AllByRecursion (λ p. IsPrefix (journal p) top) (w4 ∷ zs) → IsPrefix f top
+                      within top = one_of_all seat by journal (λ z. IsPrefix z top) (w4 ∷ zs) f l6.longest
 
-                      module _ (w6 : Pass d m) (ts : List (Pass d m)) (r6 : StepsRound seat journal w5 w6 us ts) (is6 : IsPassOf domain w6)
-                          (others6 : AllByRecursion (λ p. IsPassOf domain p) ts)
-                        where
-                          abbrev f : List (Step N)
-                          f = journal w6
+                      same6 : Pairwise (HoldsSame seat) (w ∷ ws) (w6 ∷ ts)
+                      same6 = pairwise_join (HoldsSame seat) (HoldsSame seat) (HoldsSame seat) (same_trans seat)
+                          (w ∷ ws) (w4 ∷ zs) (w6 ∷ ts)
+                          (pairwise_join (HoldsSame seat) (HoldsSame seat) (HoldsSame seat) (same_trans seat)
+                          (w ∷ ws) (w2 ∷ ys) (w4 ∷ zs) same2 same4)
+                          (pairwise_map (HearsAll seat by journal f) (HoldsSame seat) (λ p q h. h.hears.same)
+                          (w4 ∷ zs) (w6 ∷ ts) hear)
 
-                          hear : Pairwise (λ p q. HearsSteps seat journal p q × (journal q ≡ f)) (w4 ∷ zs) (w6 ∷ ts)
-                          hear = all_hear seat journal w4 w5 w6 zs us ts r5 r6
+                      numbered6 : AreNumbered seat 0 (w6 ∷ ts)
+                      numbered6 = numbered_all seat 0 (w ∷ ws) (w6 ∷ ts) same6 numbered
 
-                          within : (top : List (Step N)) → AllByRecursion (λ p. IsPrefix (journal p) top) (w4 ∷ zs) → IsPrefix f top
-                          within top h = subst (λ z. IsPrefix z top) (sym (no_more seat journal w4 w5 w6 zs us ts r5 r6))
-                              (round_within seat journal w4 w5 zs us top r5 h.0 h.1)
+                      long6 : length (w6 ∷ ts) ≡ (domain_bounds domain).agents
+                      long6 = pairwise_long (HoldsSame seat) (w ∷ ws) (w6 ∷ ts) same6 ∙ same_all.many
 
-                          same6 : Pairwise (HoldsSame seat journal) (w ∷ ws) (w6 ∷ ts)
-                          same6 = pairwise_join (HoldsSame seat journal) (HoldsSame seat journal) (HoldsSame seat journal) (same_trans seat journal)
-                              (w ∷ ws) (w4 ∷ zs) (w6 ∷ ts)
-                              (pairwise_join (HoldsSame seat journal) (HoldsSame seat journal) (HoldsSame seat journal) (same_trans seat journal)
-                              (w ∷ ws) (w2 ∷ ys) (w4 ∷ zs) same2 same4)
-                              (pairwise_map (λ p q. HearsSteps seat journal p q × (journal q ≡ f)) (HoldsSame seat journal) (λ p q h. h.0.same)
-                              (w4 ∷ zs) (w6 ∷ ts) hear)
+                      passes6 : All (λ p. IsPassOf domain p) (w6 ∷ ts)
+                      passes6 = All-from_recursion (λ p. IsPassOf domain p) (w6 ∷ ts) (is6, others6)
 
-                          numbered6 : AreNumbered seat journal 0 (w6 ∷ ts)
-                          numbered6 = numbered_all seat journal 0 (w ∷ ws) (w6 ∷ ts) same6 numbered
+                      all_after : AreAll domain (w6 ∷ ts)
+                      all_after = record {
+                        many = long6;
+                        belong = passes6;
+                        order = λ i p l. let e = number_at seat 0 (w6 ∷ ts) numbered6 i p l in omega (arith, e);
+                      }
 
-                          long6 : length (w6 ∷ ts) ≡ (domain_bounds domain).agents
-                          long6 = pairwise_long (HoldsSame seat journal) (w ∷ ws) (w6 ∷ ts) same6 ∙ same_all.many
+                      idle_after : AreIdle domain (w6 ∷ ts)
+                      idle_after = All-from_recursion (λ p. IsIdle (seat p)) (w6 ∷ ts) (idle_all seat (w ∷ ws) (w6 ∷ ts) same6 idle_first)
 
-                          passes6 : All (λ p. IsPassOf domain p) (w6 ∷ ts)
-                          passes6 = All-from_recursion (λ p. IsPassOf domain p) (w6 ∷ ts) (is6, others6)
+                      one_after : SawOneList (w6 ∷ ts)
+                      one_after = All-from_recursion (λ p. journal p ≡ f) (w6 ∷ ts)
+                          (pairwise_all (HearsAll seat by journal f) (λ p. IsIdle (seat p)) (λ q. journal q ≡ f)
+                          (λ p q h _. h.seen) (w4 ∷ zs) (w6 ∷ ts) hear (idle_all seat (w2 ∷ ys) (w4 ∷ zs) same4 idle2))
 
-                          all_after : AreAll domain (w6 ∷ ts)
-                          all_after = record {
-                            many = long6;
-                            belong = passes6;
-                            order = λ i p l. let e = number_at seat journal 0 (w6 ∷ ts) numbered6 i p l in omega (arith, e);
-                          }
+                      own_after : SawAll (w6 ∷ ts)
+                      own_after i p l = ap (steps_of (seat (slice_index_or (w6 ∷ ts) i p)).agent) (sym (one_after i p l))
 
-                          idle_after : AreIdle domain (w6 ∷ ts)
-                          idle_after = All-from_recursion (λ p. IsIdle (seat p)) (w6 ∷ ts) (idle_all seat journal (w ∷ ws) (w6 ∷ ts) same6 idle_first)
+                      reached : IsReachedState (run_of (domain_bounds domain) (journal w2))
+                      reached = record {
+                        bounds = domain_bounds domain;
+                        steps = plain (journal w2);
+                        shape = in_range domain.board.words.shape.shape;
+                        lawful = plain_lawful _ (journal w2) is2.board.keeps.now.lawful.0;
+                        is = refl;
+                      }
 
-                          one_after : SawOneList (w6 ∷ ts)
-                          one_after = All-from_recursion (λ p. journal p ≡ f) (w6 ∷ ts)
-                              (pairwise_all (λ p q. HearsSteps seat journal p q × (journal q ≡ f)) (λ p. IsIdle (seat p)) (λ q. journal q ≡ f)
-                              (λ p q h _. h.1) (w4 ∷ zs) (w6 ∷ ts) hear (idle_all seat journal (w2 ∷ ys) (w4 ∷ zs) same4 idle2))
+                      some : 0 < (domain_bounds domain).agents
+                      some = let e = long2 in omega (arith, e)
 
-                          own_after : SawAll (w6 ∷ ts)
-                          own_after i p l = ap (steps_of (seat (slice_index_or (w6 ∷ ts) i p)).agent) (sym (one_after i p l))
+                      rest_after : IsAtRest (run_of (domain_bounds domain) f)
+                      rest_after = rests seat journal domain.board.words.shape (journal w2) (w2 ∷ ys) (w4 ∷ zs) all_turns numbered2 one_list
+                          (domain_bounds domain).agents long2 w2 (w6 ∷ ts) f hear within some is6.board.keeps.now.below reached
+                          (ap (λ (x : Bounds). x.agents) (bounds_run (domain_bounds domain) (journal w2)))
 
-                          reached : IsReachedState (run_of (domain_bounds domain) (journal w2))
-                          reached = record {
-                            bounds = domain_bounds domain;
-                            steps = plain (journal w2);
-                            shape = in_range domain.board.words.shape.shape;
-                            lawful = plain_lawful _ (journal w2) is2.board.keeps.now.lawful.0;
-                            is = refl;
-                          }
+                      nothing_after : project (domain_bounds domain) f ≡ project (domain_bounds domain) (journal w2)
+                      nothing_after = nothing_more seat journal domain.board.words.shape (journal w2) (w2 ∷ ys) (w4 ∷ zs) all_turns numbered2 one_list
+                          (domain_bounds domain).agents long2 w2 (w6 ∷ ts) f hear within some is6.board.keeps.now.below
 
-                          some : 0 < (domain_bounds domain).agents
-                          some = let e = long2 in omega (arith, e)
+                      settled_after : HaveNoBacklog (w6 ∷ ts)
+                      settled_after i p l =
+                          let q = slice_index_or (w6 ∷ ts) i p in
+                          let g = passes6 i p l in
+                          let low : (seat q).agent < (run_of (domain_bounds domain) f).bounds.agents = subst (λ (x : Bounds). (seat q).agent < x.agents)
+                          (sym (bounds_run (domain_bounds domain) f)) g.board.keeps.number in
+                          let r = subst IsResting (ap (λ z. record_at (run_of (domain_bounds domain) z) (seat q).agent) (sym (one_after i p l)) ∙ mine q g)
+                          (rest_after.agents (seat q).agent low) in
+                          λ k. length (r.list k) + cond (is_some (r.hand k) || is_some (r.scan k)) 1 0
 
-                          rest_after : IsAtRest (run_of (domain_bounds domain) f)
-                          rest_after = rests seat journal domain.board.words.shape (journal w2) (w2 ∷ ys) (w4 ∷ zs) all_turns numbered2 one_list
-                              (domain_bounds domain).agents long2 w2 (w6 ∷ ts) f hear within some is6.board.keeps.now.below reached
-                              (ap (λ (x : Bounds). x.agents) (bounds_run (domain_bounds domain) (journal w2)))
+                      further : IsPrefix (journal w2) f
+                      further = goes_further seat journal domain.board.words.shape (journal w2) (w2 ∷ ys) (w4 ∷ zs) all_turns numbered2 one_list
+                          (domain_bounds domain).agents long2 w2 (w6 ∷ ts) f hear within some is6.board.keeps.now.below
 
-                          nothing_after : project (domain_bounds domain) f ≡ project (domain_bounds domain) (journal w2)
-                          nothing_after = nothing_more seat journal domain.board.words.shape (journal w2) (w2 ∷ ys) (w4 ∷ zs) all_turns numbered2 one_list
-                              (domain_bounds domain).agents long2 w2 (w6 ∷ ts) f hear within some is6.board.keeps.now.below
+                      heard_each : (vs qs : List (Pass d m)) → Pairwise (HearsAll seat by journal (journal w2)) vs qs
+                          → AllByRecursion (λ p. IsPrefix (journal p) f) vs
+                      heard_each [] [] h = tt
+                      heard_each (v ∷ vs) (q ∷ qs) h = (
+                        goes_on (journal v) (journal w2) f (subst (IsPrefix (journal v)) h.0.seen h.0.hears.more) further,
+                        heard_each vs qs h.1,
+                      )
+                      heard_each [] (q ∷ qs) h = absurd h
+                      heard_each (v ∷ vs) [] h = absurd h
 
-                          settled_after : HaveNoBacklog (w6 ∷ ts)
-                          settled_after i p l =
-                              let q = slice_index_or (w6 ∷ ts) i p in
-                              let g = passes6 i p l in
-                              let low : (seat q).agent < (run_of (domain_bounds domain) f).bounds.agents = subst (λ (x : Bounds). (seat q).agent < x.agents)
-                              (sym (bounds_run (domain_bounds domain) f)) g.board.keeps.number in
-                              let r = subst IsResting (ap (λ z. record_at (run_of (domain_bounds domain) z) (seat q).agent) (sym (one_after i p l)) ∙ mine q g)
-                              (rest_after.agents (seat q).agent low) in
-                              λ k. length (r.list k) + cond (is_some (r.hand k) || is_some (r.scan k)) 1 0
+                      heard_after : All (λ p. IsPrefix (journal_of p) (whole_journal (w6 ∷ ts))) ps
+                      heard_after = subst (All (λ p. IsPrefix (journal p) f)) (sym is)
+                          (All-from_recursion (λ p. IsPrefix (journal p) f) (w ∷ ws) (heard_each (w ∷ ws) (w2 ∷ ys) heard))
 
-                          further : IsPrefix (journal w2) f
-                          further = goes_further seat journal domain.board.words.shape (journal w2) (w2 ∷ ys) (w4 ∷ zs) all_turns numbered2 one_list
-                              (domain_bounds domain).agents long2 w2 (w6 ∷ ts) f hear within some is6.board.keeps.now.below
+                      first_more : IsPrefix (journal w) f
+                      first_more = goes_on (journal w) (journal w2) f heard.0.hears.more further
 
-                          heard_each : (vs qs : List (Pass d m)) → Pairwise (λ p q. HearsSteps seat journal p q × (journal q ≡ journal w2)) vs qs
-                              → AllByRecursion (λ p. IsPrefix (journal p) f) vs
-                          heard_each [] [] h = tt
-                          heard_each (v ∷ vs) (q ∷ qs) h = (
-                            goes_on (journal v) (journal w2) f (subst (IsPrefix (journal v)) h.0.1 h.0.0.more) further,
-                            heard_each vs qs h.1,
-                          )
-                          heard_each [] (q ∷ qs) h = absurd h
-                          heard_each (v ∷ vs) [] h = absurd h
+                      later_after : IsPrefix (whole_journal ps) (whole_journal (w6 ∷ ts))
+                      later_after = subst (λ z. IsPrefix (whole_journal z) f) (sym is) first_more
 
-                          heard_after : All (λ p. IsPrefix (journal_of p) (whole_journal (w6 ∷ ts))) ps
-                          heard_after = subst (All (λ p. IsPrefix (journal p) f)) (sym is)
-                              (All-from_recursion (λ p. IsPrefix (journal p) f) (w ∷ ws) (heard_each (w ∷ ws) (w2 ∷ ys) heard))
+                      -- what is true of each list that a pass had seen is true of the one that all saw
+                      one_of : (P : List (Step N) → Type 0) → All (λ p. P (journal p)) (w ∷ ws) → P (journal w2)
+                      one_of P h = one_of_all seat by journal P (w ∷ ws) (journal w2) l2.longest (recursion_from_All (λ p. P (journal p)) (w ∷ ws) h)
 
-                          first_more : IsPrefix (journal w) f
-                          first_more = goes_on (journal w) (journal w2) f heard.0.0.more further
+                      longest_after : IsNoLonger domain ps (w6 ∷ ts)
+                      longest_after most h = subst (λ (z : List (Event N)). length z ≤ most) (sym nothing_after)
+                          (one_of (λ z. length (project (domain_bounds domain) z) ≤ most) (subst (λ z. All (λ p. length (seat p).seen ≤ most) z) is h))
 
-                          later_after : IsPrefix (whole_journal ps) (whole_journal (w6 ∷ ts))
-                          later_after = subst (λ z. IsPrefix (whole_journal z) f) (sym is) first_more
+                      quiet_after : AddsNoEvents domain ps (w6 ∷ ts)
+                      quiet_after j h = nothing_after ∙ ap (project (domain_bounds domain))
+                          (one_of (λ z. z ≡ j) (subst (λ z. All (λ p. journal p ≡ j) z) is h))
 
-                          -- what is true of each list that a pass had seen is true of the one that all saw
-                          one_of : (P : List (Step N) → Type 0) → All (λ p. P (journal p)) (w ∷ ws) → P (journal w2)
-                          one_of P h =
-                              let a = recursion_from_All (λ p. P (journal p)) (w ∷ ws) h in
-                              subst P (sym (no_more seat journal w w1 w2 ws xs ys r1 r2))
-                              (among_all P (map journal (w ∷ ws)) (journal w1) (all_map seat journal P (w ∷ ws) a) r1.longest)
-
-                          longest_after : IsNoLonger domain ps (w6 ∷ ts)
-                          longest_after most h = subst (λ (z : List (Event N)). length z ≤ most) (sym nothing_after)
-                              (one_of (λ z. length (project (domain_bounds domain) z) ≤ most) (subst (λ z. All (λ p. length (seat p).seen ≤ most) z) is h))
-
-                          quiet_after : AddsNoEvents domain ps (w6 ∷ ts)
-                          quiet_after j h = nothing_after ∙ ap (project (domain_bounds domain))
-                              (one_of (λ z. z ≡ j) (subst (λ z. All (λ p. journal p ≡ j) z) is h))
-
-                          pub drained : Drained domain ps (w6 ∷ ts)
-                          drained = record {
-                            all = all_after;
-                            idle = idle_after;
-                            settled = settled_after;
-                            one_list = one_after;
-                            own = own_after;
-                            rest = rest_after;
-                            longest = longest_after;
-                            quiet = quiet_after;
-                            later = later_after;
-                            heard = heard_after;
-                          }
+                      pub drained : Drained domain ps (w6 ∷ ts)
+                      drained = record {
+                        all = all_after;
+                        idle = idle_after;
+                        settled = settled_after;
+                        one_list = one_after;
+                        own = own_after;
+                        rest = rest_after;
+                        longest = longest_after;
+                        quiet = quiet_after;
+                        later = later_after;
+                        heard = heard_after;
+                      }

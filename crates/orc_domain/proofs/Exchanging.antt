@@ -36,12 +36,11 @@ use Rattle.orc_machine_board.specs.declared.machine.Request.{Request}
 use Rattle.orc_projection.proofs.Links.{link_back}
 use Rattle.orc_projection.specs.PresentIds.{node_link, node_place}
 use Rattle.orc_projection.specs.Projection.{StoresUnmarked, events_of, exchange_act, present_ids, project}
-use Rattle.orc_domain.proofs.Counting.{leaves_then}
 use Rattle.orc_domain.proofs.Filling.{has_is_out}
 use Rattle.orc_domain.proofs.Held.{hold_has, link_named, mirrors, place_named}
 use Rattle.orc_domain.proofs.Linking.{cas_place, old_other, want_target}
 use Rattle.orc_domain.proofs.Seats.{before_keep, ids_keep, only, puts, same_fresh, slots_keep, step_events}
-use Rattle.orc_domain.proofs.Stages.{Between, Stage, done_one, its_step, seat, whole_lawful}
+use Rattle.orc_domain.proofs.Stages.{Between, Stage, its_step, leaves_by, leaves_then, seat, whole_lawful}
 use Rattle.orc_domain.proofs.Testing.{want_has, want_low}
 use Rattle.orc_domain.proofs.Untouched.{still_untouched, untouched_at}
 use Rattle.orc_domain.specs.Changes.{Becomes, IsCountable}
@@ -206,7 +205,7 @@ module _ {D N : Type 0} {d : discipline.Ghosts D N} {k : MachineShape N} (s t : 
 
   -- the step as one that leaves nothing
   leaves_it : LeavesNothing s.view.agent s.view.journal t.view.journal
-  leaves_it = record { ops = LinkCas w f l ∷ []; done = done_one q note s t n m; taken_in = tt }
+  leaves_it = leaves_by q note s t n m tt
 
   -- the link was another one
   module _ (lost : n ≢ 1) where

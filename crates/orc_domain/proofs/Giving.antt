@@ -37,7 +37,8 @@ use Rattle.orc_projection.specs.Projection.{present_ids}
 use Rattle.orc_domain.proofs.Protecting.{empty_slot, held_ready, publish_may, still_ready}
 use Rattle.orc_domain.proofs.Seats.{calm_forced, ids_keep, only, ready_calm, sets}
 use Rattle.orc_machine_rest.proofs.TakenIn.{done_later}
-use Rattle.orc_domain.proofs.Stages.{Between, Stage, Steps, done_one, seat}
+use Rattle.orc_domain.proofs.Stages.{Between, Stage, Steps, done_one, leaves_by, leaves_then, seat}
+use Rattle.orc_machine_rest.specs.OwnSteps.{LeavesNothing}
 use Rattle.orc_domain.specs.Searches.{Gets}
 use Rattle.orc_domain.specs.Seats.{IsCalm, IsReady, SetsSlot}
 use Rattle.orc_words.specs.Bounds.{Bounds}
@@ -237,6 +238,15 @@ module _ {D N : Type 0} {d : discipline.Ghosts D N} {k : MachineShape N} where
           filled_later = (goes_on t.view.journal u.view.journal w.view.journal (done_later _ _ _ _ (done_one (asks (FillStep r 0 first)) None t u n1 m1))
               (goes_on u.view.journal v.view.journal w.view.journal (done_later _ _ _ _ (done_one (asks (FillStep r 1 second)) None u v n2 m2))
               (done_later _ _ _ _ (done_one (asks (Publish slot r)) None v w n3 m3))))
+
+          pub gives_leaves : LeavesNothing s.view.agent s.view.journal w.view.journal
+          gives_leaves =
+              let filled_both = leaves_then t.view.agent t.view.journal u.view.journal v.view.journal (leaves_by (asks (FillStep r 0 first)) None t u n1 m1 tt)
+              (subst (λ a. LeavesNothing a u.view.journal v.view.journal) m1.agent (leaves_by (asks (FillStep r 1 second)) None u v n2 m2 tt)) in
+              let both = leaves_then t.view.agent t.view.journal v.view.journal w.view.journal filled_both
+              (subst (λ a. LeavesNothing a v.view.journal w.view.journal) (m2.agent ∙ m1.agent) (leaves_by (asks (Publish slot r)) None v w n3 m3 tt)) in
+              leaves_then s.view.agent s.view.journal t.view.journal w.view.journal took.got.leaves
+              (subst (λ a. LeavesNothing a t.view.journal w.view.journal) agent both)
 
           pub gives_later : IsPrefix s.view.journal w.view.journal
           gives_later = goes_on s.view.journal t.view.journal w.view.journal (took.got.more, sym took.got.journal) filled_later

@@ -10,8 +10,8 @@ use mathlib.Core.List.{IsPrefix}
 use mathlib.Core.Logic.{dite}
 use native.Mathlib.Decide.{ℕ_discrete}
 use Rattle.orc_core.specs.Machine.{record_at}
-use Rattle.orc_plain_domain.proofs.Rounds.{pairwise_at, pairwise_long}
-use Rattle.orc_plain_domain.specs.Ends.{Pairwise}
+use Rattle.orc_any_domain.proofs.Rounds.{pairwise_at, pairwise_long}
+use Rattle.orc_any_domain.specs.Learning.{HearsAll, HoldsSame, Pairwise}
 use Rattle.orc_rest.proofs.DrainAll.{rest_after_drains}
 use Rattle.orc_rest.specs.Drains.{DrainedAlone}
 use Rattle.orc_heap.proofs.Pieces.{goes_on}
@@ -24,12 +24,13 @@ use Rattle.orc_machine_board.specs.Passes.{steps_of}
 use Rattle.orc_machine_board.specs.Rules.{bounds_in, counted_rules, run_of}
 use Rattle.orc_machine_board.specs.declared.machine.MachineShape.{MachineShape}
 use Rattle.orc_projection.specs.Projection.{project}
-use Rattle.orc_domain.specs.Drains.{AreNumbered, DrainInTurn, DrainsNext, DrainsPart, HearsSteps, HoldsSame}
+use Rattle.orc_domain.proofs.Numbered.{number_at}
+use Rattle.orc_domain.specs.Drains.{AreNumbered, DrainInTurn, DrainsNext, DrainsPart}
 use Rattle.orc_rest.specs.Rest.{IsAtRest}
 use Rattle.orc_rest.specs.Records.{IsBetweenRounds}
 use Rattle.orc_rest.specs.Turns.{AllOf, IsReachedState}
 use Rattle.orc_shared_words.proofs.Events.{others_add}
-use Rattle.orc_shared_words.proofs.Prefixes.{both_prefixes, prefix_same}
+use Rattle.orc_heap.proofs.Prefixes.{both_prefixes, prefix_same}
 use Rattle.orc_shared_words.proofs.Runs.{below-front, below-tail, by_other, by_own, cons_nil, none_behind, none_between}
 use Rattle.orc_shared_words.specs.Runs.{AgentsBelow}
 use Rattle.orc_sound.specs.Journals.{plain}
@@ -95,7 +96,7 @@ module _ {N W : Type 0} (seat : W → Seat N) (journal : W → List (Step N)) wh
   turn_at b j (v ∷ vs) (w ∷ ws) t zero d l = t.0
   turn_at b j (v ∷ vs) (w ∷ ws) t (suc i) d l = turn_at b (journal w) vs ws t.1 i d (omega (arith, l))
 
-  pub turns_same : (b : Bounds) (j : List (Step N)) (vs ws : List W) → DrainInTurn seat journal b j vs ws → Pairwise (HoldsSame seat journal) vs ws
+  pub turns_same : (b : Bounds) (j : List (Step N)) (vs ws : List W) → DrainInTurn seat journal b j vs ws → Pairwise (HoldsSame seat) vs ws
   turns_same b j [] [] t = tt
   turns_same b j (v ∷ vs) (w ∷ ws) t = (t.0.same, turns_same b (journal w) vs ws t.1)
   turns_same b j [] (w ∷ ws) t = absurd t
@@ -106,21 +107,9 @@ module _ {N W : Type 0} (seat : W → Seat N) (journal : W → List (Step N)) wh
   list_next j (w ∷ ws) zero d l = refl
   list_next j (w ∷ ws) (suc i) d l = list_next (journal w) ws i d (omega (arith, l))
 
-  pub number_at : (n : ℕ) (ws : List W) → AreNumbered seat journal n ws → (i : ℕ) (d : W) → i < length ws → (seat (slice_index_or ws i d)).agent ≡ n + i
-  number_at n [] k i d l = absurd (omega (arith, l))
-  number_at n (w ∷ ws) k zero d l = let e = k.0 in omega (arith, e)
-  number_at n (w ∷ ws) k (suc i) d l = let e = number_at (suc n) ws k.1 i d (omega (arith, l)) in omega (arith, e)
-
-  pub numbered_by : (n : ℕ) (ws : List W) → ((i : ℕ) (d : W) → i < length ws → (seat (slice_index_or ws i d)).agent ≡ n + i) → AreNumbered seat journal n ws
-  numbered_by n [] h = tt
-  numbered_by n (w ∷ ws) h = (
-    (let e = h zero w (omega arith) in omega (arith, e)),
-    numbered_by (suc n) ws (λ i d l. let e = h (suc i) d (omega (arith, l)) in omega (arith, e)),
-  )
-
   -- passes of these agents, which had seen one list, drained one after another
   module _ (k : MachineShape N) (j : List (Step N)) (vs ws : List W) (turns : DrainInTurn seat journal (bounds_in k) j vs ws)
-      (order : AreNumbered seat journal 0 vs) (same : AllByRecursion (λ v. journal v ≡ j) vs) (n : ℕ) (long : length vs ≡ n) (d : W)
+      (order : AreNumbered seat 0 vs) (same : AllByRecursion (λ v. journal v ≡ j) vs) (n : ℕ) (long : length vs ≡ n) (d : W)
     where
       abbrev b : Bounds
       b = bounds_in k
@@ -132,13 +121,13 @@ module _ {N W : Type 0} (seat : W → Seat N) (journal : W → List (Step N)) wh
       turn i l = turn_at b j vs ws turns i d (omega (arith, l, long))
 
       agent_is : (i : ℕ) → i < n → (seat (slice_index_or vs i d)).agent ≡ i
-      agent_is i l = let e = number_at 0 vs order i d (omega (arith, l, long)) in omega (arith, e)
+      agent_is i l = let e = number_at seat 0 vs order i d (omega (arith, l, long)) in omega (arith, e)
 
       began_at : (i : ℕ) → i < n → journal (slice_index_or vs i d) ≡ j
       began_at i l = All-from_recursion (λ v. journal v ≡ j) vs same i d (omega (arith, l, long))
 
       long_after : length ws ≡ n
-      long_after = pairwise_long (HoldsSame seat journal) vs ws (turns_same b j vs ws turns) ∙ long
+      long_after = pairwise_long (HoldsSame seat) vs ws (turns_same b j vs ws turns) ∙ long
 
       next_is : (i : ℕ) → i < n → at (suc i) ≡ journal (slice_index_or ws i d)
       next_is i l = list_next j ws i d (omega (arith, l, long_after))
@@ -184,15 +173,14 @@ module _ {N W : Type 0} (seat : W → Seat N) (journal : W → List (Step N)) wh
       agent_after i l = (turn i l).same.agent ∙ agent_is i l
 
       -- then one has learned from all of them, and they have seen what it has seen
-      module _ (us : List W) (f : List (Step N)) (hear : Pairwise (λ w u. HearsSteps seat journal w u × (journal u ≡ f)) ws us)
+      module _ (us : List W) (f : List (Step N)) (hear : Pairwise (HearsAll seat (λ (s : Step N). s.agent) journal f) ws us)
           (within : (top : List (Step N)) → AllByRecursion (λ w. IsPrefix (journal w) top) ws → IsPrefix f top) (some : 0 < n)
           (low : AgentsBelow (λ (s : Step N). s.agent) n f)
         where
-          hears_at : (i : ℕ) → i < n → HearsSteps seat journal (slice_index_or ws i d) (slice_index_or us i d)
-              × (journal (slice_index_or us i d) ≡ f)
+          hears_at : (i : ℕ) → i < n → HearsAll seat (λ (s : Step N). s.agent) journal f (slice_index_or ws i d) (slice_index_or us i d)
           hears_at i l =
-              let e = pairwise_long (λ w u. HearsSteps seat journal w u × (journal u ≡ f)) ws us hear in
-              pairwise_at (λ w u. HearsSteps seat journal w u × (journal u ≡ f)) ws us hear i d d (omega (arith, l, e, long_after))
+              let e = pairwise_long (HearsAll seat (λ (s : Step N). s.agent) journal f) ws us hear in
+              pairwise_at (HearsAll seat (λ (s : Step N). s.agent) journal f) ws us hear i d d (omega (arith, l, e, long_after))
 
           at_most : IsPrefix f (at n)
           at_most = within (at n) (recursion_from_All (λ w. IsPrefix (journal w) (at n)) ws (λ i e l. let m : i < n = omega (arith, l, long_after) in
@@ -203,7 +191,7 @@ module _ {N W : Type 0} (seat : W → Seat N) (journal : W → List (Step N)) wh
               let l : n - 1 < n = omega (arith, some) in
               let e : n ≡ suc (n - 1) = omega (arith, some) in
               let h = hears_at (n - 1) l in
-              subst (λ z. IsPrefix z f) (sym (ap at e ∙ next_is (n - 1) l)) (subst (IsPrefix (journal (slice_index_or ws (n - 1) d))) h.1 h.0.more)
+              subst (λ z. IsPrefix z f) (sym (ap at e ∙ next_is (n - 1) l)) (subst (IsPrefix (journal (slice_index_or ws (n - 1) d))) h.seen h.hears.more)
 
           is_last : at n ≡ f
           is_last = both_prefixes f (at n) at_most at_least
@@ -211,8 +199,8 @@ module _ {N W : Type 0} (seat : W → Seat N) (journal : W → List (Step N)) wh
           own : (i : ℕ) → i < n → steps_of i (at n) ≡ steps_of i (at (suc i))
           own i l =
               let h = hears_at i l in
-              ap (steps_of i) (is_last ∙ sym h.1)
-              ∙ (subst (λ z. steps_of z (journal (slice_index_or us i d)) ≡ steps_of z (journal (slice_index_or ws i d))) (agent_after i l) h.0.own
+              ap (steps_of i) (is_last ∙ sym h.seen)
+              ∙ (subst (λ z. steps_of z (journal (slice_index_or us i d)) ≡ steps_of z (journal (slice_index_or ws i d))) (agent_after i l) h.hears.own
               ∙ ap (steps_of i) (sym (next_is i l)))
 
           below : AgentsBelow (λ (s : Step N). s.agent) n (at n)

@@ -2,6 +2,7 @@ pub mod Aiming
 pub mod Counting
 pub mod Exchanging
 pub mod Filling
+pub mod Following
 pub mod FreshRows
 pub mod Giving
 pub mod Held
@@ -10,6 +11,9 @@ pub mod Linking
 pub mod Loading
 pub mod Looking
 pub mod Making
+pub mod MovedSlots
+pub mod MovingOn
+pub mod Protected
 pub mod Protecting
 pub mod Reading
 pub mod Releasing
@@ -28,7 +32,7 @@ pub mod Trying
 pub mod Untouched
 pub mod Wearing
 pub mod Resting
-pub mod Hearing
+pub mod Numbered
 pub mod InTurn
 pub mod NextDrain
 pub mod DrainingAll

@@ -1,9 +1,11 @@
 -- A pass learns from the one before it, and drains.
-use Rattle.std.proofs.Common.{List, [], arith, subst, suc, sym, ◌∙◌, ◌∷◌, ◌≡◌, ◌≢◌}
+use Rattle.std.proofs.Common.{List, [], arith, subst, suc, sym, ℕ, ◌∙◌, ◌∷◌, ◌≡◌, ◌≢◌}
 use Rattle.std.proofs.lemmas.List.Elements.{All-from_recursion, recursion_from_All}
 use Rattle.std.specs.List.{AllByRecursion}
 use Rattle.std.specs.Prelude.{slice_index_or}
 use mathlib.Core.List.{IsPrefix}
+use Rattle.orc_any_domain.proofs.Rounds.{Shares, first_hears, idle_same, same_trans, second_hears, shares_all, shares_steps}
+use Rattle.orc_any_domain.specs.Learning.{Hears}
 use Rattle.orc_machine_rest.specs.Drains.{Drains}
 use Rattle.orc_core.specs.Machine.{record_at}
 use Rattle.orc_core.specs.declared.records.Agent.{Agent}
@@ -18,16 +20,18 @@ use Rattle.orc_machine_board.specs.Views.{shows}
 use Rattle.orc_machine_board.specs.declared.machine.MachineShape.{MachineShape}
 use Rattle.orc_machine_board.specs.declared.machine.Reclaiming.{Reclaiming}
 use Rattle.orc_machine_board.specs.declared.machine.Request.{Request}
-use Rattle.orc_domain.proofs.Hearing.{first_hears, idle_same, learns_all, same_trans, second_hears}
 use Rattle.orc_domain.proofs.Settling.{settle_can}
 use Rattle.orc_domain.proofs.Stages.{stage}
-use Rattle.orc_domain.specs.Drains.{AreNumbered, DrainInTurn, DrainsNext, DrainsPart, HearsSteps}
+use Rattle.orc_domain.specs.Drains.{AreNumbered, DrainInTurn, DrainsNext, DrainsPart}
 use Rattle.orc_domain.specs.Passes.{IsPassOf, domain_bounds, journal_of, seat_of}
 use Rattle.orc_domain.specs.declared.domain.OrcDomain.{OrcDomain}
 use Rattle.orc_domain.specs.declared.domain.OrcPass.{OrcPass}
 use Rattle.orc_rest.specs.Records.{IsBetweenRounds}
 use Rattle.orc_shared_words.specs.declared.machine.Machine as machine
 use Rattle.orc_sound.specs.declared.steps.Step.{Step}
+
+abbrev by : {N : Type 0} → Step N → ℕ
+by s = s.agent
 
 module _ {D N : Type 0} where
   abbrev Pass : (d : discipline.Ghosts D N) → machine.Ghosts Reclaiming N (MachineShape N) Request (Step N) Agent Agent → Type 0
@@ -53,9 +57,9 @@ module _ {D N : Type 0} {d : discipline.Ghosts D N} {m : machine.Ghosts Reclaimi
 
     -- a pass that was v, then learned, drained, and learned once more
     module _ (j : List (Step N)) (v p q w : Pass d m) (is_v : IsPassOf domain v) (idle_v : IsIdle (seat v)) (is_q : IsPassOf domain q)
-        (idle_q : IsIdle (seat q)) (hears : HearsSteps seat journal v p) (at : journal p ≡ j)
+        (idle_q : IsIdle (seat q)) (hears : Hears seat by journal v p) (at : journal p ≡ j)
         (drains : Drains (domain_bounds domain) (seat p).agent (shows p.pass) (shows q.pass))
-        (only : Only [] (seat p) (seat q)) (later : HearsSteps seat journal q w) (same : journal w ≡ journal q)
+        (only : Only [] (seat p) (seat q)) (later : Hears seat by journal q w) (same : journal w ≡ journal q)
       where
         part : DrainsPart (domain_bounds domain) (seat p).agent (journal p) (journal q)
         part = record {
@@ -69,7 +73,7 @@ module _ {D N : Type 0} {d : discipline.Ghosts D N} {m : machine.Ghosts Reclaimi
 
         pub drains_next : DrainsNext seat journal (domain_bounds domain) j v w
         drains_next = record {
-          same = same_trans seat journal v p w hears.same (same_trans seat journal p q w
+          same = same_trans seat v p w hears.same (same_trans seat p q w
               (record { agent = only.puts.agent; slots = only.slots; fresh = only.fresh }) later.same);
           began = between_rounds v is_v idle_v;
           own = subst (λ z. steps_of (seat v).agent z ≡ steps_of (seat v).agent (journal v)) at hears.own;
@@ -79,10 +83,10 @@ module _ {D N : Type 0} {d : discipline.Ghosts D N} {m : machine.Ghosts Reclaimi
         }
 
     -- the next pass, which is v, learns from the one before it, which is u
-    module _ (u v : Pass d m) (vs all : List (Pass d m)) (is : all ≡ v ∷ vs) (numbered : AreNumbered seat journal (suc (seat u).agent) all)
+    module _ (u v : Pass d m) (vs all : List (Pass d m)) (is : all ≡ v ∷ vs) (numbered : AreNumbered seat (suc (seat u).agent) all)
       where
-        numbers : AreNumbered seat journal (suc (seat u).agent) (v ∷ vs)
-        numbers = subst (AreNumbered seat journal (suc (seat u).agent)) is numbered
+        numbers : AreNumbered seat (suc (seat u).agent) (v ∷ vs)
+        numbers = subst (AreNumbered seat (suc (seat u).agent)) is numbered
 
         pub next_differs : (seat v).agent ≢ (seat u).agent
         next_differs e = let k = numbers.0 in omega (arith, e, k)
@@ -96,28 +100,31 @@ module _ {D N : Type 0} {d : discipline.Ghosts D N} {m : machine.Ghosts Reclaimi
             seen_all : AllByRecursion (λ p. IsPrefix (journal p) (journal u)) (v ∷ vs)
             seen_all = subst (AllByRecursion (λ p. IsPrefix (journal p) (journal u))) is seen
 
-            hears : HearsSteps seat journal v x
-            hears = first_hears seat journal v u x y l
+            shares : Shares seat by journal v u x y
+            shares = shares_steps seat by journal v u x y l
+
+            hears : Hears seat by journal v x
+            hears = first_hears seat by journal v u x y shares
 
             at : journal x ≡ journal u
-            at = learns_all seat journal v u x y l seen_all.0
+            at = shares_all seat by journal v u x y shares seen_all.0
 
             pub others_idle : AllByRecursion (λ p. IsIdle (seat p)) vs
             others_idle = idle_all.1
 
             pub next_idle : IsIdle (seat x)
-            next_idle = idle_same seat journal v x hears.same idle_all.0
+            next_idle = idle_same seat v x hears.same idle_all.0
 
             pub list_stays : journal y ≡ journal u
             list_stays = sym l.one_journal ∙ at
 
-            pub before_hears : HearsSteps seat journal u y
-            before_hears = second_hears seat journal v u x y l
+            pub before_hears : Hears seat by journal u y
+            before_hears = second_hears seat by journal v u x y shares
 
             module _ (q : Pass d m) (drains : Drains (domain_bounds domain) (seat x).agent (shows x.pass) (shows q.pass))
                 (only : Only [] (seat x) (seat q)) where
-              pub next_numbered : AreNumbered seat journal (suc (seat q).agent) vs
-              next_numbered = subst (λ n. AreNumbered seat journal (suc n) vs) (sym (only.puts.agent ∙ (hears.same.agent ∙ numbers.0))) numbers.1
+              pub next_numbered : AreNumbered seat (suc (seat q).agent) vs
+              next_numbered = subst (λ n. AreNumbered seat (suc n) vs) (sym (only.puts.agent ∙ (hears.same.agent ∙ numbers.0))) numbers.1
 
               pub next_seen : AllByRecursion (λ p. IsPrefix (journal p) (journal q)) vs
               next_seen = recursion_from_All (λ p. IsPrefix (journal p) (journal q)) vs (λ i p k.
@@ -125,7 +132,7 @@ module _ {D N : Type 0} {d : discipline.Ghosts D N} {m : machine.Ghosts Reclaimi
                   (All-from_recursion (λ z. IsPrefix (journal z) (journal u)) vs seen_all.1 i p k)
                   (subst (λ z. IsPrefix z (journal q)) at (drains.adds.part, sym drains.adds.journal)))
 
-              pub turns_next : IsPassOf domain v → IsPassOf domain q → IsIdle (seat q) → (w : Pass d m) (ws : List (Pass d m)) → HearsSteps seat journal q w
+              pub turns_next : IsPassOf domain v → IsPassOf domain q → IsIdle (seat q) → (w : Pass d m) (ws : List (Pass d m)) → Hears seat by journal q w
                   → journal w ≡ journal q → DrainInTurn seat journal (domain_bounds domain) (journal q) vs ws
                   → DrainInTurn seat journal (domain_bounds domain) (journal u) all (w ∷ ws)
               turns_next is_v is_q idle_q w ws later same turns = subst (λ z. DrainInTurn seat journal (domain_bounds domain) (journal u) z (w ∷ ws)) (sym is) (

@@ -20,7 +20,7 @@ use Rattle.orc_projection.specs.Mirror.{IsNamed, numbers_of}
 use Rattle.orc_projection.specs.PresentIds.{PresentIds}
 use Rattle.orc_projection.specs.Projection.{StoresUnmarked, present_ids, project}
 use Rattle.orc_domain.proofs.Seats.{calm_forced}
-use Rattle.orc_domain.proofs.Setting.{published_holds, set_length}
+use Rattle.orc_domain.proofs.Setting.{set_length}
 use Rattle.orc_domain.specs.Calls.{SameParts}
 use Rattle.orc_domain.specs.Seats.{IsCalm, IsReady, slot_by}
 use Rattle.orc_sound.specs.Journals.{IsLawfulJournal}
@@ -110,17 +110,17 @@ publish_may b a d k r h calm low above below empty =
     let free : is_empty (slot_of d k) ≡ true = ap is_empty empty in
     λ i. ((agent i && on i) && first i) && (((zero i && eight i) && row i) && free i)
 
-same_place_ok : (b : Bounds) (w : Word) (p q : ℕ → Bool) → ((r : ℕ) → q r ≡ p r) → may_place b w p ≡ true → may_place b w q ≡ true
+pub same_place_ok : (b : Bounds) (w : Word) (p q : ℕ → Bool) → ((r : ℕ) → q r ≡ p r) → may_place b w p ≡ true → may_place b w q ≡ true
 same_place_ok b (Root i) p q same h = h
 same_place_ok b (Next j) p q same h = ap (λ z. nat_lt j b.rows && z) (same j) ∙ h
 same_place_ok b (Side j) p q same h = ap (λ z. (nat_lt j b.rows && nat_lt 1 b.links) && z) (same j) ∙ h
 same_place_ok b w p q same h = absurd (false≢true h)
 
 -- a link that was read may be read again, with a slot in which its target was published
-pub reload_may : (b : Bounds) (a : ℕ) (d e : Agent) (w : Word) (k r : ℕ) → a < b.agents → k < 8 → IsReady d → slot_of d k ≡ Empty
-    → may_place b w (λ r. any_holds d.slots r || names d.fresh r) ≡ true → SameParts (record d { slots = slice_set d.slots k (Published r) }) e
-    → may b 0 a (LinkLoad w (Some k)) e ≡ true
-reload_may b a d e w k r h eight ready empty place same =
+pub reload_may : (b : Bounds) (a : ℕ) (d e : Agent) (w : Word) (k r : ℕ) → a < b.agents → k < 8 → IsReady d
+    → may_place b w (λ q. any_holds (slice_set d.slots k (Published r)) q || names d.fresh q) ≡ true
+    → SameParts (record d { slots = slice_set d.slots k (Published r) }) e → may b 0 a (LinkLoad w (Some k)) e ≡ true
+reload_may b a d e w k r h eight ready place same =
     let agent = lt-ltb a b.agents h in
     let on = same.enrolled ∙ ready.enrolled in
     let calm : IsCalm e = record { enrolled = on; due = same.due ∙ ready.due; inc = same.inc ∙ ready.inc; dec = same.dec ∙ ready.dec } in
@@ -129,8 +129,8 @@ reload_may b a d e w k r h eight ready empty place same =
     let long : k < length d.slots = subst (λ n. k < n) (sym ready.eight) eight in
     let its : is_published (slot_of e k) ≡ true = ap (λ (z : List SlotUse). is_published (slice_index_or z k Empty)) same.slots
     ∙ ap is_published (get_or-set_same d.slots k (Published r) Empty long) in
-    let there = same_place_ok b w (λ q. any_holds d.slots q || names d.fresh q) (λ q. any_holds e.slots q || names e.fresh q)
-    (λ q. (λ i. any_holds (same.slots i) q || names (same.fresh i) q) ∙ ap (λ z. z || names d.fresh q) (published_holds d.slots k r q empty)) place in
+    let there = same_place_ok b w (λ q. any_holds (slice_set d.slots k (Published r)) q || names d.fresh q) (λ q. any_holds e.slots q || names e.fresh q)
+    (λ q i. any_holds (same.slots i) q || names (same.fresh i) q) place in
     λ i. ((agent i && on i) && first i) && ((there i && low i) && its i)
 
 -- the row that a link word names

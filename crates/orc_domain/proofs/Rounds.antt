@@ -26,7 +26,8 @@ use Rattle.orc_history.specs.Parts.{InPart, part_begin}
 use Rattle.orc_projection.specs.Projection.{project}
 use Rattle.orc_machine_board.proofs.Licences.{signed}
 use Rattle.orc_heap.specs.declared.discipline.Discipline as discipline
-use Rattle.orc_domain.proofs.Stages.{Stage}
+use Rattle.orc_domain.proofs.Stages.{Stage, leaves_then}
+use Rattle.orc_machine_rest.specs.OwnSteps.{LeavesNothing}
 use Rattle.orc_domain.proofs.Searching.{found_grows, found_since, idle_none, idle_trans}
 use Rattle.orc_domain.specs.Causes.{IsLacking, IsOfDomain}
 use Rattle.orc_machine_board.specs.Laws.Steps.{counted_obeys, in_range}
@@ -138,6 +139,8 @@ module _ {N : Type 0} where
   tries_gets b begin rows offset r s t u p q = record {
     more = p.idle.more ++ q.more;
     journal = q.journal ∙ (ap (λ z. z ++ q.more) p.idle.journal ∙ append_assoc s.journal p.idle.more q.more);
+    leaves = leaves_then s.agent s.journal t.journal u.journal p.idle.leaves
+        (subst (λ a. LeavesNothing a t.journal u.journal) p.idle.only.puts.agent q.leaves);
     same = record {
       enrolled = q.same.enrolled ∙ p.idle.same.enrolled;
       slots = q.same.slots ∙ p.idle.same.slots;

@@ -10,7 +10,8 @@ use Rattle.orc_heap.specs.OwnEvents.{Only}
 use Rattle.orc_domain.specs.Laws.Gates.{OutIn, gate_between}
 use Rattle.orc_domain.proofs.Protecting.{same_self, same_then}
 use Rattle.orc_domain.proofs.Seats.{only, step_events}
-use Rattle.orc_domain.proofs.Stages.{Stage, seat}
+use Rattle.orc_domain.proofs.Stages.{Stage, leaves_by, leaves_none, leaves_then, seat}
+use Rattle.orc_machine_rest.specs.OwnSteps.{LeavesNothing, TakesInCleared}
 use Rattle.orc_heap.specs.declared.discipline.Discipline as discipline
 use Rattle.orc_domain.specs.Causes.{IsTaken}
 use Rattle.orc_machine_board.specs.Rules.{bounds_in, run_of, step_of}
@@ -34,6 +35,7 @@ module _ {N : Type 0} where
   idle_trans b s t u p q = record {
     more = p.more ++ q.more;
     journal = q.journal ∙ (ap (λ z. z ++ q.more) p.journal ∙ append_assoc s.journal p.more q.more);
+    leaves = leaves_then s.agent s.journal t.journal u.journal p.leaves (subst (λ a. LeavesNothing a t.journal u.journal) p.only.puts.agent q.leaves);
     only = Only-trans (seat_by b s) (seat_by b t) (seat_by b u) [] [] p.only q.only;
     same = same_then s.record_is t.record_is u.record_is p.same q.same;
   }
@@ -42,6 +44,7 @@ module _ {N : Type 0} where
   idle_none b s = record {
     more = [];
     journal = sym (append-nil s.journal);
+    leaves = leaves_none s.agent s.journal;
     only = record { slots = refl; fresh = refl; puts = record { part = []; is = sym (append-nil (seat_by b s).seen); agent = refl; own_is = refl } };
     same = same_self s.record_is;
   }
@@ -112,12 +115,13 @@ module _ {N : Type 0} where
       (is ∙ append_assoc (before ++ met) (x ∷ rest) (last ∷ [])) refl taken
 
 module _ {D N : Type 0} {d : discipline.Ghosts D N} {k : MachineShape N} where
-  -- a step without an event that leaves these parts of the record
-  pub idles : (q : Request) (s t : Stage d k) (n : ℕ) (m : Makes (bounds_in k) q None s.view n t.view) → step_events q None s t n m ≡ []
-      → SameParts s.view.record_is t.view.record_is → Idles (bounds_in k) s.view t.view
-  idles q s t n m silent same = record {
+  -- a step without an event that clears no slot and leaves these parts of the record
+  pub idles : (q : Request) (s t : Stage d k) (n : ℕ) (m : Makes (bounds_in k) q None s.view n t.view) → TakesInCleared (q.op ∷ [])
+      → step_events q None s t n m ≡ [] → SameParts s.view.record_is t.view.record_is → Idles (bounds_in k) s.view t.view
+  idles q s t n m bare silent same = record {
     more = m.met ++ step_of s.view.agent q None ∷ [];
     journal = m.journal ∙ append_assoc s.view.journal m.met (step_of s.view.agent q None ∷ []);
+    leaves = leaves_by q None s t n m bare;
     only = subst (λ es. Only es (seat s) (seat t)) silent (only q None s t n m same.slots same.fresh);
     same = same;
   }

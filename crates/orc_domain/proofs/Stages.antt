@@ -1,7 +1,9 @@
 -- Points of a call: what a pass shows there, what is true of it, and what one step does from one to the next.
 use Rattle.std.proofs.Common.{List, Option, [], ap, append_assoc, refl, subst, sym, ℕ, ◌++◌, ◌<◌, ◌∙◌, ◌≡◌, ◌∷◌}
 use Rattle.std.specs.Prelude.{map}
-use Rattle.orc_machine_rest.specs.OwnSteps.{HasDone}
+use Rattle.orc_machine_rest.proofs.Joins.{takes_in_both}
+use Rattle.orc_machine_rest.proofs.TakenIn.{done_none, done_then}
+use Rattle.orc_machine_rest.specs.OwnSteps.{HasDone, LeavesNothing, TakesInCleared}
 use Rattle.orc_core.specs.Machine.{new_machine, record_at}
 use Rattle.orc_core.specs.declared.ops.Op.{Op}
 use Rattle.orc_core.specs.declared.records.Agent.{Agent}
@@ -27,6 +29,17 @@ use Rattle.orc_sound.proofs.Journals.{IsLawfulJournal-append}
 use Rattle.orc_sound.specs.Journals.{IsLawfulJournal}
 use Rattle.orc_sound.specs.Linked.{IsOut}
 use Rattle.orc_sound.specs.declared.steps.Step.{Step}
+
+module _ {N : Type 0} where
+  pub leaves_none : (a : ℕ) (j : List (Step N)) → LeavesNothing a j j
+  leaves_none a j = record { ops = []; done = done_none a j; taken_in = tt }
+
+  pub leaves_then : (a : ℕ) (x y z : List (Step N)) → LeavesNothing a x y → LeavesNothing a y z → LeavesNothing a x z
+  leaves_then a x y z p q = record {
+    ops = p.ops ++ q.ops;
+    done = done_then a x y z p.ops q.ops p.done q.done;
+    taken_in = takes_in_both p.ops q.ops p.taken_in q.taken_in;
+  }
 
 module _ {D N : Type 0} where
   -- what a pass of a board shows at a point of a call, and what is true of it
@@ -98,3 +111,7 @@ module _ {D N : Type 0} where
             ∙ (ap (λ l. l ++ own_of (λ (x : Step N). x.agent) s.view.agent (its_step ∷ [])) m.others
             ∙ by_own (λ (x : Step N). x.agent) s.view.agent its_step [] refl));
       }
+
+      -- one step leaves nothing, unless it clears a slot
+      pub leaves_by : TakesInCleared (q.op ∷ []) → LeavesNothing s.view.agent s.view.journal t.view.journal
+      leaves_by in_order = record { ops = q.op ∷ []; done = done_one; taken_in = in_order }

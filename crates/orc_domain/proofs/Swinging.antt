@@ -20,21 +20,13 @@ use Rattle.orc_heap.specs.declared.events.Event.{Event}
 use Rattle.orc_heap.specs.declared.holds.At.{At}
 use Rattle.orc_heap.specs.declared.holds.Want.{Want}
 use Rattle.orc_machine_board.specs.Rules.{bounds_in, heap_numbers}
-use Rattle.orc_machine_board.specs.Views.{MachineView}
 use Rattle.orc_machine_board.specs.declared.machine.MachineShape.{MachineShape}
-use Rattle.orc_domain.proofs.Counting.{leaves_none, leaves_then}
-use Rattle.orc_domain.proofs.Searching.{idle_none}
 use Rattle.orc_domain.proofs.Seats.{by-append}
-use Rattle.orc_domain.proofs.Stages.{Stage, seat}
+use Rattle.orc_domain.proofs.Stages.{Stage, leaves_then, seat}
 use Rattle.orc_domain.proofs.Untouched.{still_untouched}
-use Rattle.orc_domain.specs.Changes.{Checks}
 use Rattle.orc_machine_rest.specs.OwnSteps.{LeavesNothing}
 use Rattle.orc_domain.specs.Passes.{IsFreshUntouched}
 use Rattle.orc_domain.specs.Searches.{Idles}
-use Rattle.orc_words.specs.Bounds.{Bounds}
-
-pub checks_none : {N : Type 0} (b : Bounds) (s : MachineView N) → Checks b s s
-checks_none b s = record { idle = idle_none b s; leaves = leaves_none s.agent s.journal }
 
 pub not_equal : (o : Option ℕ) (r : ℕ) → false ≡ option_eq eqb o (Some r) → o ≢ Some r
 not_equal o r e same = false≢true (e ∙ (ap (λ u. option_eq eqb u (Some r)) same ∙ eq-eqb r r refl))

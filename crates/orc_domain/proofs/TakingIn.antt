@@ -77,7 +77,7 @@ module _ {D N : Type 0} {d : discipline.Ghosts D N} {k : MachineShape N} where
       let q = asks (TakeIn count) in
       let same : SameParts t.view.record_is u.view.record_is = subst (SameParts t.view.record_is) (sym m.record_is)
       (record { enrolled = refl; slots = refl; fresh = refl; due = refl; inc = refl; dec = refl; doom = refl; scan = refl }) in
-      let step = idles q t u n m refl same in
+      let step = idles q t u n m tt refl same in
       let its : HasDone s.view.agent (TakeIn count ∷ []) t.view.journal u.view.journal = subst (λ a. HasDone a (TakeIn count ∷ []) t.view.journal u.view.journal)
       p.idle.only.puts.agent (done_one q None t u n m) in
       record {

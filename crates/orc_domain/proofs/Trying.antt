@@ -23,7 +23,8 @@ use Rattle.orc_machine_board.specs.declared.machine.MachineShape.{MachineShape}
 use Rattle.orc_projection.specs.Projection.{events_of, is_taken}
 use Rattle.orc_domain.proofs.Searching.{found_at, found_now, found_or_same, idle_trans, idles}
 use Rattle.orc_domain.proofs.Seats.{slots_keep, step_events}
-use Rattle.orc_domain.proofs.Stages.{Stage, Steps, before_lawful, before_record, seat}
+use Rattle.orc_domain.proofs.Stages.{Stage, Steps, before_lawful, before_record, seat, leaves_by, leaves_then}
+use Rattle.orc_machine_rest.specs.OwnSteps.{LeavesNothing}
 use Rattle.orc_domain.proofs.Taking.{Takes, takes}
 use Rattle.orc_domain.specs.Calls.{SameParts}
 use Rattle.orc_domain.specs.Causes.{IsTaken}
@@ -74,7 +75,7 @@ module _ {D N : Type 0} {d : discipline.Ghosts D N} {k : MachineShape N} (s t : 
   x1 = step_of s.view.agent (asks (GateLook r)) None
 
   look_idle : Idles b s.view t.view
-  look_idle = idles (asks (GateLook r)) s t n m1 refl (parts s.view.record_is _ t.view.record_is m1.record_is
+  look_idle = idles (asks (GateLook r)) s t n m1 tt refl (parts s.view.record_is _ t.view.record_is m1.record_is
       (record { enrolled = refl; slots = refl; fresh = refl; due = refl; inc = refl; dec = refl; doom = refl; scan = refl }))
 
   -- the gate was seen out, or at the limit
@@ -90,7 +91,7 @@ module _ {D N : Type 0} {d : discipline.Ghosts D N} {k : MachineShape N} (s t : 
     x2 = step_of t.view.agent (asks (CounterLoad r Check)) None
 
     count_idle : Idles b s.view u.view
-    count_idle = idle_trans b s.view t.view u.view look_idle (idles (asks (CounterLoad r Check)) t u c m2 refl
+    count_idle = idle_trans b s.view t.view u.view look_idle (idles (asks (CounterLoad r Check)) t u c m2 tt refl
         (parts t.view.record_is _ u.view.record_is m2.record_is
         (record { enrolled = refl; slots = refl; fresh = refl; due = refl; inc = refl; dec = refl; doom = refl; scan = refl })))
 
@@ -133,7 +134,7 @@ module _ {D N : Type 0} {d : discipline.Ghosts D N} {k : MachineShape N} (s t : 
             (subst (λ (e : Agent). is_taken e gate ≡ false) (sym (before_record (asks (GateTake r)) None u w o m3)) not_taken)
 
         take_idle : Idles b s.view w.view
-        take_idle = idle_trans b s.view u.view w.view count_idle (idles (asks (GateTake r)) u w o m3 silent (record {
+        take_idle = idle_trans b s.view u.view w.view count_idle (idles (asks (GateTake r)) u w o m3 tt silent (record {
           enrolled = ap (λ (e : Agent). e.enrolled) m3.record_is;
           slots = ap (λ (e : Agent). e.slots) m3.record_is;
           fresh = ap (λ (e : Agent). e.fresh) m3.record_is ∙ ap (λ (z : Bool). cond z (Some r) u.view.record_is.fresh) not_taken;
@@ -188,6 +189,8 @@ module _ {D N : Type 0} {d : discipline.Ghosts D N} {k : MachineShape N} (s t : 
             more = count_idle.more ++ part;
             journal = m3.journal ∙ (append_assoc u.view.journal m3.met (step_of u.view.agent q None ∷ [])
                 ∙ (ap (λ z. z ++ part) count_idle.journal ∙ append_assoc s.view.journal count_idle.more part));
+            leaves = leaves_then s.view.agent s.view.journal u.view.journal w.view.journal count_idle.leaves
+                (subst (λ a. LeavesNothing a u.view.journal w.view.journal) agents (leaves_by q None u w o m3 tt));
             same = record {
               enrolled = ap (λ (e : Agent). e.enrolled) m3.record_is ∙ old.enrolled;
               slots = slots3 ∙ old.slots;

@@ -27,7 +27,7 @@ use Rattle.orc_domain.proofs.Seats.{before_keep, calm_forced}
 use Rattle.orc_machine_rest.proofs.TakenIn.{done_later}
 use Rattle.orc_domain.proofs.Stages.{Stage, Steps, before_lawful, before_out, done_one, seat}
 use Rattle.orc_domain.specs.Causes.{IsWornIn}
-use Rattle.orc_domain.specs.Changes.{Checks}
+use Rattle.orc_domain.specs.Searches.{Idles}
 use Rattle.orc_domain.specs.Seats.{IsCalm}
 use Rattle.orc_sound.specs.declared.steps.Step.{Step}
 use Rattle.orc_words.specs.Bounds.{Bounds}
@@ -57,20 +57,17 @@ module _ {D N : Type 0} {d : discipline.Ghosts D N} {k : MachineShape N} (s : St
     abbrev x : Step N
     x = step_of s.view.agent (asks (CounterLoad h.row Check)) None
 
-    pub checks : Checks (bounds_in k) s.view t.view
-    checks = record {
-      idle = idles (asks (CounterLoad h.row Check)) s t n m refl (record {
-        enrolled = ap (λ (e : Agent). e.enrolled) m.record_is;
-        slots = ap (λ (e : Agent). e.slots) m.record_is;
-        fresh = ap (λ (e : Agent). e.fresh) m.record_is;
-        due = ap (λ (e : Agent). e.due) m.record_is;
-        inc = ap (λ (e : Agent). e.inc) m.record_is;
-        dec = ap (λ (e : Agent). e.dec) m.record_is;
-        doom = ap (λ (e : Agent). e.doom) m.record_is;
-        scan = ap (λ (e : Agent). e.scan) m.record_is;
-      });
-      leaves = record { ops = CounterLoad h.row Check ∷ []; done = done_one (asks (CounterLoad h.row Check)) None s t n m; taken_in = tt };
-    }
+    pub checks : Idles (bounds_in k) s.view t.view
+    checks = idles (asks (CounterLoad h.row Check)) s t n m tt refl (record {
+      enrolled = ap (λ (e : Agent). e.enrolled) m.record_is;
+      slots = ap (λ (e : Agent). e.slots) m.record_is;
+      fresh = ap (λ (e : Agent). e.fresh) m.record_is;
+      due = ap (λ (e : Agent). e.due) m.record_is;
+      inc = ap (λ (e : Agent). e.inc) m.record_is;
+      dec = ap (λ (e : Agent). e.dec) m.record_is;
+      doom = ap (λ (e : Agent). e.doom) m.record_is;
+      scan = ap (λ (e : Agent). e.scan) m.record_is;
+    })
 
     -- the load adds no event
     silent : project b t.view.journal ≡ project b j

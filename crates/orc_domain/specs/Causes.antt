@@ -1,5 +1,5 @@
 -- Why a call of a domain refuses: what was so in the part of the journal that the call made.
-use Rattle.std.specs.Prelude.{List, Some, false, length, slice_get, take, true, ℕ, ◌+◌, ◌/◌, ◌<◌, ◌≡◌, ◌≤◌, ◌⊎◌}
+use Rattle.std.specs.Prelude.{List, Some, false, length, slice_get, take, true, ℕ, ◌/◌, ◌<◌, ◌≡◌, ◌≤◌, ◌⊎◌}
 use Rattle.orc_core.specs.Counts.{is_out}
 use Rattle.orc_core.specs.Machine.{Machine, new_machine, word_in}
 use Rattle.orc_core.specs.declared.ops.CounterUse.TheVariants.{Check}
@@ -11,7 +11,7 @@ use Rattle.orc_machine_board.specs.Rules.{run_of}
 use Rattle.orc_projection.specs.Projection.{StoresUnmarked, project}
 use Rattle.orc_sound.specs.Journals.{IsLawfulJournal}
 use Rattle.orc_sound.specs.declared.steps.Step.{Step}
-use Rattle.orc_words.specs.Bounds.{Bounds, IsShape}
+use Rattle.orc_words.specs.Bounds.{Bounds, IsShape, link_limit}
 use Rattle.orc_words.specs.Packed.{sequence_of}
 use Rattle.orc_words.specs.declared.place.Word.TheVariants.{Counter, Gate}
 
@@ -52,4 +52,4 @@ module _ {N : Type 0} where
     pub its : step.agent ≡ agent
     pub op : step.op ≡ CounterLoad why.row Check
     pub read : why.sequence ≡ sequence_of (word_in (run_of b (take place j)) (Counter why.row))
-    pub high : b.limit + 64 ≤ why.sequence
+    pub high : link_limit b ≤ why.sequence

@@ -11,7 +11,6 @@ use Rattle.orc_machine_board.specs.Licences.{ids_of}
 use Rattle.orc_machine_board.specs.Views.{MachineView}
 use Rattle.orc_domain.specs.Calls.{SameParts}
 use Rattle.orc_machine_rest.specs.OwnSteps.{LeavesNothing}
-use Rattle.orc_domain.specs.Searches.{Idles}
 use Rattle.orc_domain.specs.Seats.{seat_by}
 use Rattle.orc_words.specs.Bounds.{Bounds}
 
@@ -35,11 +34,6 @@ pub record Becomes {N : Type 0} (b : Bounds) (d : Agent) (s t : MachineView N) :
   pub leaves : LeavesNothing s.agent s.journal t.journal
 
 module _ {N : Type 0} where
-  -- a row's counter was read
-  pub record Checks (b : Bounds) (s t : MachineView N) : Type 0 where
-    pub idle : Idles b s t
-    pub leaves : LeavesNothing s.agent s.journal t.journal
-
   -- the link of this number of the fresh row's node was set, and nothing else that the pass shows has changed
   abbrev pub Stores : Bounds → ℕ → ℕ → Option ℕ → MachineView N → MachineView N → Type 0
   Stores b r number to s t =

@@ -4,6 +4,7 @@ pub mod Changes
 pub mod Laws
 pub mod OwnSteps
 pub mod Passes
+pub mod Protections
 pub mod Searches
 pub mod Seats
 pub mod Ends

@@ -2,7 +2,7 @@
 use Rattle.std.specs.Prelude.{List, ◌++◌, ◌+◌, ◌≡◌}
 use Rattle.orc_machine_rest.specs.Ends.{CountsOf}
 use Rattle.orc_machine_rest.specs.Looks.{gate_looks}
-use Rattle.orc_machine_rest.specs.declared.count.RowCounts.{RowCounts}
+use Rattle.orc_any_domain.specs.declared.domain.RowCounts.{RowCounts}
 use Rattle.orc_heap.specs.declared.discipline.Discipline as discipline
 use Rattle.orc_core.specs.Machine.{new_machine}
 use Rattle.orc_core.specs.declared.records.Agent.{Agent}

@@ -7,6 +7,7 @@ use Rattle.orc_heap.specs.declared.events.Act.TheVariants.{Give}
 use Rattle.orc_machine_board.specs.Licences.{ids_of}
 use Rattle.orc_machine_board.specs.Rules.{run_of}
 use Rattle.orc_machine_board.specs.Views.{MachineView}
+use Rattle.orc_machine_rest.specs.OwnSteps.{LeavesNothing}
 use Rattle.orc_projection.specs.Mirror.{numbers_of}
 use Rattle.orc_domain.specs.Calls.{SameParts}
 use Rattle.orc_domain.specs.Causes.{IsTaken}
@@ -15,10 +16,12 @@ use Rattle.orc_sound.specs.declared.steps.Step.{Step}
 use Rattle.orc_words.specs.Bounds.{Bounds}
 
 module _ {N : Type 0} where
-  -- the pass went on, and shows the same but for what it has seen, without an event of its own
+  -- the pass went on, and shows the same but for what it has seen, without an event of its own, and without a slot that it cleared
+  -- and didn't take in from
   pub record Idles (b : Bounds) (s t : MachineView N) : Type 0 where
     pub more : List (Step N)
     pub journal : t.journal ≡ s.journal ++ more
+    pub leaves : LeavesNothing s.agent s.journal t.journal
     pub only : Only [] (seat_by b s) (seat_by b t)
     pub same : SameParts s.record_is t.record_is
 
@@ -43,6 +46,7 @@ module _ {N : Type 0} where
   pub record Gets (b : Bounds) (r : ℕ) (s t : MachineView N) : Type 0 where
     pub more : List (Step N)
     pub journal : t.journal ≡ s.journal ++ more
+    pub leaves : LeavesNothing s.agent s.journal t.journal
     pub same : SameParts (record s.record_is { fresh = Some r }) t.record_is
     pub slots : (seat_by b t).slots ≡ (seat_by b s).slots
     pub puts : Puts (seat_by b s) (event_by s.agent Give None ∷ []) (seat_by b t)

@@ -12,7 +12,7 @@ ghost use Rattle.orc_words.specs.Bounds.{bounds_of};
 
 use crate::at_rest::OrcRest;
 use crate::domain::{OrcDomain, OrcPass};
-use orc_any_domain::{Counts, Domain};
+use orc_any_domain::{Domain, RowCounts};
 use orc_fault::NoMemory;
 use orc_heap::{Discipline, Links, Seed};
 use orc_words::Shape;
@@ -65,14 +65,10 @@ impl<D: Discipline> Domain for OrcDomain<D> {
         self.rest(all)
     }
 
-    fn counts(rest: &OrcRest<D>) -> Counts
+    fn counts(rest: &OrcRest<D>) -> RowCounts
         ensures balance { (domain : _) → IsRestOf domain rest.now → result.given ≡ result.reused + result.linked }
     {
-        Counts {
-            given: rest.given(),
-            reused: rest.reused(),
-            linked: rest.linked(),
-        }
+        rest.counts
     }
 
     ghost numbers_are = { λ d. refl };

@@ -4,10 +4,10 @@ ghost use Rattle.orc_machine_rest.specs.Ends.{CountsOf};
 ghost use Rattle.orc_machine_board.specs.Views.{board_bounds, shows};
 
 use crate::domain::OrcDomain;
+use orc_any_domain::RowCounts;
 use orc_core::Agent;
 use orc_heap::Discipline;
 use orc_machine_board::{MachineBoardPass, MachineShape, Reclaiming, Request};
-use orc_machine_rest::RowCounts;
 use orc_shared_words::Machine;
 use orc_sound::Step;
 

@@ -1,6 +1,6 @@
 //! The parts of which the calls that change links are made.
 
-ghost use Rattle.std.specs.Prelude.{◌≡◌, ◌<◌, ◌+◌, IfErr, IfOk, None, Some, false, true, ℕ};
+ghost use Rattle.std.specs.Prelude.{◌≡◌, ◌<◌, IfErr, IfOk, None, Some, false, true, ℕ};
 ghost use Rattle.orc_core.specs.Allowed.{may_change, may_target};
 ghost use Rattle.orc_core.specs.RecordParts.{checked_below, names};
 ghost use Rattle.orc_plain_domain.specs.Rows.{row_link};
@@ -11,10 +11,12 @@ ghost use Rattle.orc_history.specs.Parts.{InPart};
 ghost use Rattle.orc_machine_board.specs.Licences.{AimAllowed};
 ghost use Rattle.orc_machine_board.specs.Views.{Belongs, shows};
 ghost use Rattle.orc_domain.specs.Causes.{IsWornIn};
-ghost use Rattle.orc_domain.specs.Changes.{Checks, Stores};
+ghost use Rattle.orc_domain.specs.Changes.{Stores};
 ghost use Rattle.orc_machine_rest.specs.OwnSteps.{LeavesNothing};
 ghost use Rattle.orc_domain.specs.Passes.{IsFreshUntouched, domain_bounds, domain_numbers};
+ghost use Rattle.orc_domain.specs.Searches.{Idles};
 ghost use Rattle.orc_domain.specs.Seats.{IsReady, seat_by};
+ghost use Rattle.orc_words.specs.Bounds.{link_limit};
 
 use crate::domain::OrcDomain;
 use orc_core::{CounterUse, SEQUENCE};
@@ -31,8 +33,8 @@ impl<D: Discipline> OrcDomain<D> {
         requires ready { IsReady (shows p.old).record_is }
         requires held { Holds (seat_by (domain_bounds self.now) (shows p.old)).slots h.now }
         ensures belongs { Belongs self.now.board p.new }
-        ensures checks { Checks (domain_bounds self.now) (shows p.old) (shows p.new) }
-        ensures low { IfOk result (λ _. checked_below (shows p.new).record_is.checked h.now.row ((domain_bounds self.now).limit + 64) ≡ true) }
+        ensures checks { Idles (domain_bounds self.now) (shows p.old) (shows p.new) }
+        ensures low { IfOk result (λ _. checked_below (shows p.new).record_is.checked h.now.row (link_limit (domain_bounds self.now)) ≡ true) }
         ensures spent { IfErr result (λ e. IsWorn (seat_by (domain_bounds self.now) (shows p.old)).slots h.now e
             (seat_by (domain_bounds self.now) (shows p.new)).seen) }
         ensures worn { IfErr result (λ e. InPart (λ s. s.agent) (shows p.old).agent (shows p.old).journal (shows p.new).journal
@@ -41,7 +43,7 @@ impl<D: Discipline> OrcDomain<D> {
         let row = h.row();
         let counter = self.board.counter_load(p, row, CounterUse::Check);
         let sequence = counter / SEQUENCE;
-        if sequence >= self.board.shape().limit() + 64 {
+        if sequence >= self.board.shape().link_limit() {
             return Err(Spent { row, sequence });
         }
         Ok(())
@@ -59,8 +61,8 @@ impl<D: Discipline> OrcDomain<D> {
         requires links { HoldsWant (seat_by (domain_bounds self.now) (shows p.old)).slots from.now
             × HoldsWant (seat_by (domain_bounds self.now) (shows p.old)).slots to.now }
         ensures belongs { Belongs self.now.board p.new }
-        ensures checks { Checks (domain_bounds self.now) (shows p.old) (shows p.new) }
-        ensures low { IfOk result (λ _. may_change (shows p.new).record_is ((domain_bounds self.now).limit + 64) (row_link from.now).to (row_link to.now).to
+        ensures checks { Idles (domain_bounds self.now) (shows p.old) (shows p.new) }
+        ensures low { IfOk result (λ _. may_change (shows p.new).record_is (link_limit (domain_bounds self.now)) (row_link from.now).to (row_link to.now).to
             ≡ true) }
         ensures spent { IfErr result (λ e. RefusesSwing (seat_by (domain_bounds self.now) (shows p.old)).slots from.now to.now e
             (seat_by (domain_bounds self.now) (shows p.new)).seen) }
@@ -92,7 +94,7 @@ impl<D: Discipline> OrcDomain<D> {
         requires linked { IsNotFresh (seat_by (domain_bounds self.now) (shows p.old)) place.now }
         requires links { HoldsWant (seat_by (domain_bounds self.now) (shows p.old)).slots from.now
             × HoldsWant (seat_by (domain_bounds self.now) (shows p.old)).slots to.now }
-        requires low { may_change (shows p.old).record_is ((domain_bounds self.now).limit + 64) (row_link from.now).to (row_link to.now).to ≡ true }
+        requires low { may_change (shows p.old).record_is (link_limit (domain_bounds self.now)) (row_link from.now).to (row_link to.now).to ≡ true }
         requires allowed { MayMove (D.may (domain_numbers self.now)) (domain_numbers self.now) (seat_by (domain_bounds self.now) (shows p.old))
             place.now from.now to.now note }
         ensures belongs { Belongs self.now.board p.new }
@@ -122,7 +124,7 @@ impl<D: Discipline> OrcDomain<D> {
         requires number { number < (domain_bounds self.now).links }
         requires fresh { names (shows p.old).record_is.fresh row ≡ true }
         requires target { may_target (domain_bounds self.now) (shows p.old).record_is to ≡ true }
-        requires low { may_change (shows p.old).record_is ((domain_bounds self.now).limit + 64) None to ≡ true }
+        requires low { may_change (shows p.old).record_is (link_limit (domain_bounds self.now)) None to ≡ true }
         requires other { (r : ℕ) → to ≡ Some r → names (shows p.old).record_is.fresh r ≡ false }
         requires licensed { AimAllowed (D.may (domain_numbers self.now)) (domain_bounds self.now) (shows p.old) row number to }
         ensures belongs { Belongs self.now.board p.new }

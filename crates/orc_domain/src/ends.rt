@@ -1,8 +1,9 @@
 //! Passes that end their work.
 
-ghost use Rattle.std.specs.Prelude.{◌≡◌, ◌≢◌, ◌+◌, ◌*◌, [], All, suc};
+ghost use Rattle.std.specs.Prelude.{◌≡◌, ◌+◌, ◌*◌, [], All, suc};
 ghost use Rattle.std.specs.List.{AllByRecursion};
 ghost use mathlib.Core.List.{IsPrefix};
+ghost use Rattle.orc_any_domain.specs.Learning.{Hears};
 ghost use Rattle.orc_heap.specs.OwnEvents.{Only};
 ghost use Rattle.orc_heap.specs.Seats.{IsIdle};
 ghost use Rattle.orc_history.specs.Parts.{IsAlone};
@@ -11,13 +12,14 @@ ghost use Rattle.orc_machine_rest.specs.OwnSteps.{AtMostMore, LeavesNothing, Tak
 ghost use Rattle.orc_machine_board.specs.Passes.{backlog_in};
 ghost use Rattle.orc_machine_board.specs.Rules.{run_of};
 ghost use Rattle.orc_machine_board.specs.Views.{shows};
-ghost use Rattle.orc_domain.specs.Drains.{AreNumbered, DrainInTurn, HearsSteps, StepsRound};
+ghost use Rattle.orc_domain.specs.Drains.{AreNumbered, DrainInTurn};
 ghost use Rattle.orc_domain.specs.Ends.{AddsNoEvents, AreAll, AreIdle, HaveNoBacklog, IsNoLonger, SawAll, SawOneList, whole_journal};
 ghost use Rattle.orc_domain.specs.Passes.{IsPassOf, domain_bounds, journal_of, next_row, seat_of};
 ghost use Rattle.orc_rest.specs.Rest.{IsAtRest};
 ghost use Rattle.orc_rest.specs.Turns.{NoneHanded};
 
 use crate::domain::{OrcDomain, OrcPass};
+use orc_any_domain::learn_all;
 use orc_heap::{Discipline, Links};
 use orc_machine_rest::drain;
 
@@ -62,29 +64,11 @@ impl<D: Discipline> OrcDomain<D> {
         ensures quiet { AddsNoEvents self.now passes.old passes.new }
     {
         if let Some((first, others)) = passes.split_first_mut() {
-            self.learn_round(first, others);
-            self.learn_round(first, others);
+            learn_all(self, first, others);
             self.drain(first);
             self.drain_in_turn(first, others);
-            self.learn_round(first, others);
-            self.learn_round(first, others);
+            learn_all(self, first, others);
         }
-    }
-
-    // Lets the pass learn from each of the others.
-    fn learn_round(&self, first: &mut OrcPass<D>, others: &mut [OrcPass<D>])
-        requires first { IsPassOf self.now first.old }
-        requires others { AllByRecursion (λ p. IsPassOf self.now p) others.old }
-        requires agents { AllByRecursion (λ p. (seat_of self.now first.old).agent ≢ (seat_of self.now p).agent) others.old }
-        ensures first { IsPassOf self.now first.new }
-        ensures others { AllByRecursion (λ p. IsPassOf self.now p) others.new }
-        ensures round { StepsRound (λ p. seat_of self.now p) (λ p. journal_of p) first.old first.new others.old others.new }
-    {
-        let Some((next, rest)) = others.split_first_mut() else {
-            return;
-        };
-        self.learn(first, next);
-        self.learn_round(first, rest);
     }
 
     // Lets each of the others drain, after it has learned from the one before it.
@@ -92,11 +76,11 @@ impl<D: Discipline> OrcDomain<D> {
         requires before { IsPassOf self.now before.old }
         requires others { AllByRecursion (λ p. IsPassOf self.now p) others.old }
         requires idle { AllByRecursion (λ p. IsIdle (seat_of self.now p)) others.old }
-        requires numbered { AreNumbered (λ p. seat_of self.now p) (λ p. journal_of p) (suc (seat_of self.now before.old).agent) others.old }
+        requires numbered { AreNumbered (λ p. seat_of self.now p) (suc (seat_of self.now before.old).agent) others.old }
         requires seen { AllByRecursion (λ p. IsPrefix (journal_of p) (journal_of before.old)) others.old }
         ensures before { IsPassOf self.now before.new }
         ensures others { AllByRecursion (λ p. IsPassOf self.now p) others.new }
-        ensures hears { HearsSteps (λ p. seat_of self.now p) (λ p. journal_of p) before.old before.new }
+        ensures hears { Hears (λ p. seat_of self.now p) (λ s. s.agent) (λ p. journal_of p) before.old before.new }
         ensures same { journal_of before.new ≡ journal_of before.old }
         ensures turns { DrainInTurn (λ p. seat_of self.now p) (λ p. journal_of p) (domain_bounds self.now) (journal_of before.old) others.old others.new }
     {

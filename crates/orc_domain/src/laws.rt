@@ -11,7 +11,9 @@ ghost use Rattle.orc_sound.specs.Journals.{IsLawfulJournal};
 ghost use Rattle.orc_sound.specs.Sound.{IsSound};
 ghost use Rattle.orc_sound.specs.declared.steps.Step.{Step};
 ghost use Rattle.orc_projection.specs.Projection.{project};
+ghost use Rattle.orc_machine_rest.specs.OwnSteps.{LeavesNothing};
 ghost use Rattle.orc_domain.specs.Causes.{IsLacking, IsWornIn};
+ghost use Rattle.orc_domain.specs.OwnSteps.{TakesInMoved};
 ghost use Rattle.orc_domain.specs.Passes.{IsPassOf, domain_bounds, domain_numbers, domain_opening, journal_of, seat_of};
 
 use crate::domain::{OrcDomain, OrcPass};
@@ -42,6 +44,13 @@ impl<D: Discipline> OrcDomain<D> {
         ensures seat { ⟦<OrcDomain<D> as Links>⟧.seat self.now p.now ≡ seat_of self.now p.now }
         ensures journal { ⟦<OrcDomain<D> as Links>⟧.journal p.now ≡ journal_of p.now }
         ensures backlog { ⟦<OrcDomain<D> as Links>⟧.backlog p.now ≡ backlog_in (shows p.now.pass).record_is }
+    {}
+
+    /// What was handed over beside a slot that moved on doesn't stay behind once the slot is empty: in a part of a journal in which the
+    /// agent took in from each slot that it cleared, as each call leaves it, a slot that moved on is cleared no more, or taken in
+    /// from right after it was cleared for the last time.
+    pub fn moved_slots_are_taken_in_from(&self)
+        ensures taken_in { (agent : ℕ) (before after : List (Step D.Note)) (leaves : LeavesNothing agent before after) → TakesInMoved leaves.ops }
     {}
 
     /// What is true of all that a pass has seen: its steps are lawful, so the state that they leave is sound, and at most nine retired

@@ -1,12 +1,12 @@
 //! The calls of links, over the board.
 
-ghost use Rattle.std.specs.Prelude.{◌≡◌, ◌≢◌, ◌<◌, ◌*◌, ◌+◌, ◌%◌, ◌∷◌, [], IfErr, IfOk, None, refl};
+ghost use Rattle.std.specs.Prelude.{◌≡◌, ◌≢◌, ◌<◌, ◌*◌, ◌+◌, ◌%◌, ◌∷◌, [], IfErr, IfOk, None, Some, refl};
 ghost use mathlib.Core.List.{IsPrefix};
 ghost use Rattle.orc_plain_domain.specs.Turns.{IsNext};
-ghost use Rattle.orc_heap.specs.Calls.{Gives, Learns, Looks, MayAim, MayAimSide, MayLook, MayMove, ReadsValue, RefusesAim, RefusesSwing, Releases, Swings, Tests, aim_of, aim_side_of, fill_of};
+ghost use Rattle.orc_heap.specs.Calls.{Gives, Learns, Looks, MayAim, MayAimSide, MayLook, MayMove, MovesOn, ReadsValue, RefusesAim, RefusesSwing, Releases, Swings, Tests, aim_of, aim_side_of, fill_of};
 ghost use Rattle.orc_heap.specs.Journals.{run_heap};
 ghost use Rattle.orc_heap.specs.OwnEvents.{Only};
-ghost use Rattle.orc_heap.specs.Seats.{HoldsFresh, HoldsPlace, HoldsTarget, HoldsWant, IsIdle, IsNotFresh, place_in};
+ghost use Rattle.orc_heap.specs.Seats.{HoldsFresh, HoldsPlace, HoldsTarget, HoldsWant, IsIdle, IsNotFresh, IsOutside, place_in};
 ghost use Rattle.orc_heap.specs.Slots.{Holds, IsFree, id_in};
 ghost use Rattle.orc_history.specs.Parts.{InPart, IsAlone};
 ghost use Rattle.orc_domain.specs.Causes.{IsLacking, IsWornIn};
@@ -17,7 +17,7 @@ ghost use Rattle.orc_domain.specs.Searches.{Found};
 
 use crate::domain::{OrcDomain, OrcPass};
 use orc_fault::{NoNode, Spent};
-use orc_heap::{At, Discipline, Held, Links, Looked, Seen, Want};
+use orc_heap::{At, Discipline, Held, Links, Looked, LookedOn, Seen, Want};
 use orc_machine_rest::settle;
 use orc_plain_domain::{row_link, word_at};
 use orc_sound::Step;
@@ -85,6 +85,7 @@ impl<D: Discipline> Links for OrcDomain<D> {
         ensures lacking { IfErr result (λ e. InPart (λ s. s.agent) (seat_of self.now p.old).agent (journal_of p.old) (journal_of p.new)
             (IsLacking (domain_bounds self.now) (seat_of self.now p.old).agent (journal_of p.new))) }
         ensures taken_in { IfErr result (λ e. TakesInFree (seat_of self.now p.old) (journal_of p.old) (journal_of p.new)) }
+        ensures leaves { LeavesNothing (seat_of self.now p.old).agent (journal_of p.old) (journal_of p.new) }
         ensures in_turn { IfOk result (λ h. IsNext (domain_bounds self.now).rows (next_row p.old)
             (Found (domain_bounds self.now) (seat_of self.now p.old).agent (journal_of p.old) (journal_of p.new)) h.row) }
         ensures next { IfOk result (λ h. next_row p.new ≡ (h.row + 1) % (domain_bounds self.now).rows) }
@@ -130,28 +131,62 @@ impl<D: Discipline> Links for OrcDomain<D> {
     {
         let word = word_at(place);
         let one = self.load(&mut p.pass, word, None);
+        let mark = one.mark;
         let Some(row) = one.to else {
-            return Looked::Stable(
-                Seen {
-                    null: true,
-                    mark: one.mark,
-                },
-                None,
-            );
+            return Looked::Stable(Seen { null: true, mark }, None);
         };
-        self.board.publish(&mut p.pass, slot, row);
-        let two = self.load(&mut p.pass, word, Some(slot));
-        if two != one {
-            self.unlock(&mut p.pass, slot);
-            return Looked::Moved;
+        let same = self.protect(&mut p.pass, word, slot, row, one);
+        if same {
+            let held = Held::new(row, slot);
+            return Looked::Stable(Seen { null: false, mark }, Some(held));
         }
-        Looked::Stable(
-            Seen {
-                null: false,
-                mark: one.mark,
-            },
-            Some(Held::new(row, slot)),
-        )
+        Looked::Moved
+    }
+
+    /// One try of a protected load by which a hold moves on: reads the link, and where that is an unmarked one to a node, lets
+    /// the slot of `from` protect that node in one store, and reads the link again. What was handed over beside the slot
+    /// meanwhile stays there until the slot is cleared; where the link moved, that is at once. A link that is null or
+    /// marked is looked at with the other slot.
+    #[inline(always)]
+    fn look_on(&self, p: &mut OrcPass<D>, place: &At, from: Held, slot: u32) -> LookedOn
+        requires pass { IsPassOf self.now p.old }
+        requires place { HoldsPlace (domain_numbers self.now) (seat_of self.now p.old).slots place.now }
+        requires from { Holds (seat_of self.now p.old).slots from }
+        requires linked { (seat_of self.now p.old).fresh ≢ Some (id_in (seat_of self.now p.old).slots from) }
+        requires outside { IsOutside from place.now }
+        requires slot { IsFree (seat_of self.now p.old).slots slot }
+        ensures pass { IsPassOf self.now p.new }
+        ensures later { IsPrefix (journal_of p.old) (journal_of p.new) }
+        ensures looked { MovesOn (place_in (seat_of self.now p.old).slots place.now) slot (seat_of self.now p.old) from result (seat_of self.now p.new) }
+        ensures taken_in { LeavesNothing (seat_of self.now p.old).agent (journal_of p.old) (journal_of p.new) }
+        ensures next { next_row p.new ≡ next_row p.old }
+    {
+        let word = word_at(place);
+        let one = self.load(&mut p.pass, word, None);
+        let mark = one.mark;
+        let Some(row) = one.to else {
+            return LookedOn::Stays(from, Looked::Stable(Seen { null: true, mark }, None));
+        };
+        if mark {
+            let same = self.protect_marked(&mut p.pass, word, slot, row, one);
+            if same {
+                let held = Held::new(row, slot);
+                return LookedOn::Stays(
+                    from,
+                    Looked::Stable(Seen { null: false, mark }, Some(held)),
+                );
+            }
+            return LookedOn::Stays(from, Looked::Moved);
+        }
+        let moving = from.slot();
+        from.end();
+        self.board.move_on(&mut p.pass, moving, row);
+        let two = self.load(&mut p.pass, word, Some(moving));
+        if two != one {
+            self.unlock_moved(&mut p.pass, moving);
+            return LookedOn::Moved;
+        }
+        LookedOn::On(Held::new(row, moving))
     }
 
     fn same(

@@ -18,9 +18,10 @@ ghost use Rattle.orc_sound.specs.Journals.{plain};
 
 use crate::at_rest::OrcRest;
 use crate::domain::{OrcDomain, OrcPass};
+use orc_any_domain::RowCounts;
 use orc_heap::Discipline;
 use orc_machine_board::MachineBoardPass;
-use orc_machine_rest::{RowCounts, count_rows};
+use orc_machine_rest::count_rows;
 use orc_shared_words::LastWords;
 
 impl<D: Discipline> OrcRest<D> {

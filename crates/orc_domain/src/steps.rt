@@ -8,6 +8,7 @@ ghost use Rattle.orc_machine_board.specs.Views.{Belongs, shows};
 ghost use Rattle.orc_words.specs.Packed.{link_of, link_word};
 ghost use Rattle.orc_domain.specs.Calls.{Retires, Unlocks};
 ghost use Rattle.orc_domain.specs.Passes.{IsFreshUntouched, domain_bounds, domain_numbers};
+ghost use Rattle.orc_domain.specs.Protections.{MayProtect, Protects};
 ghost use Rattle.orc_domain.specs.Seats.{IsCalm, IsReady, seat_by};
 
 use crate::domain::OrcDomain;
@@ -18,7 +19,8 @@ use orc_words::{RowLink, Word, read_link};
 
 impl<D: Discipline> OrcDomain<D> {
     // Reads a link. A slot that is named holds the link's target from then on, if that is the row in the slot.
-    #[inline(always)]
+    // A load is small once it is compiled. With `always`, a look would count as very large before that, and lose its own mark.
+    #[inline]
     pub(crate) fn load(&self, p: &mut MachineBoardPass<D>, at: Word, slot: Option<u32>) -> RowLink
         requires belongs { Belongs self.now.board p.old }
         requires allowed { MayDo (domain_bounds self.now) (shows p.old) (Op.LinkLoad at slot) }
@@ -43,6 +45,65 @@ impl<D: Discipline> OrcDomain<D> {
     {
         self.board.clear(p, slot);
         self.board.take_in(p, slot);
+    }
+
+    // Clears a slot whose link moved before it was held, and takes in what was handed over beside it. It is seldom run, and
+    // stands apart so that a look can stand in line.
+    #[cold]
+    #[inline(never)]
+    pub(crate) fn unlock_moved(&self, p: &mut MachineBoardPass<D>, slot: u32)
+        requires belongs { Belongs self.now.board p.old }
+        requires calm { IsCalm (shows p.old).record_is }
+        requires allowed { MayDo (domain_bounds self.now) (shows p.old) (Op.Clear slot) }
+        ensures belongs { Belongs self.now.board p.new }
+        ensures unlocks { Unlocks (domain_bounds self.now) slot (shows p.old) (shows p.new) }
+    {
+        self.unlock(p, slot);
+    }
+
+    // Publishes the target of a link that was read in this slot, and reads the link again. True where it is the same, so that
+    // the slot holds the target. Where the link moved, the slot is cleared, and what was handed over beside it is taken in.
+    #[inline(always)]
+    pub(crate) fn protect(
+        &self,
+        p: &mut MachineBoardPass<D>,
+        at: Word,
+        slot: u32,
+        row: u32,
+        one: RowLink,
+    ) -> bool
+        requires belongs { Belongs self.now.board p.old }
+        requires allowed { MayProtect self.now.board at slot row p.old }
+        ensures belongs { Belongs self.now.board p.new }
+        ensures protects { Protects self.now.board at slot row one result p.old p.new }
+    {
+        self.board.publish(p, slot, row);
+        let two = self.load(p, at, Some(slot));
+        if two != one {
+            self.unlock_moved(p, slot);
+            return false;
+        }
+        true
+    }
+
+    // The same for a marked link, which a search seldom meets: it stands apart so that a look by which a hold moves on can
+    // stand in line.
+    #[cold]
+    #[inline(never)]
+    pub(crate) fn protect_marked(
+        &self,
+        p: &mut MachineBoardPass<D>,
+        at: Word,
+        slot: u32,
+        row: u32,
+        one: RowLink,
+    ) -> bool
+        requires belongs { Belongs self.now.board p.old }
+        requires allowed { MayProtect self.now.board at slot row p.old }
+        ensures belongs { Belongs self.now.board p.new }
+        ensures protects { Protects self.now.board at slot row one result p.old p.new }
+    {
+        self.protect(p, at, slot, row, one)
     }
 
     // Retires the row, if it is the fresh one. Its bit is set at the first try, since nobody else counts it.

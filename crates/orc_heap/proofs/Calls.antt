@@ -5,9 +5,14 @@ use Rattle.std.specs.List.{filter}
 use Rattle.std.specs.Prelude.{◌==◌}
 use Rattle.orc_heap.proofs.Stays.{allowed-left, allowed-right}
 use Rattle.orc_heap.specs.Allowed.{AllAllowed, events_by}
+use Rattle.orc_heap.specs.Calls.{IsNoStep, Looks, MovesOn}
 use Rattle.orc_heap.specs.OwnEvents.{Only, Puts}
 use Rattle.orc_heap.specs.Seats.{Seat}
+use Rattle.orc_heap.specs.Slots.{Hold}
 use Rattle.orc_heap.specs.declared.events.Event.{Event}
+use Rattle.orc_heap.specs.declared.events.Place.{Place}
+use Rattle.orc_heap.specs.declared.holds.Looked.{Looked}
+use Rattle.orc_heap.specs.declared.holds.LookedOn.TheVariants.{Stays}
 
 pub Puts-trans : {N : Type 0} (s t u : Seat N) (xs ys : List (Event N)) → Puts s xs t → Puts t ys u → Puts s (xs ++ ys) u
 Puts-trans s t u xs ys p q = record {
@@ -21,6 +26,11 @@ Puts-trans s t u xs ys p q = record {
 
 pub Only-trans : {N : Type 0} (s t u : Seat N) (xs ys : List (Event N)) → Only xs s t → Only ys t u → Only (xs ++ ys) s u
 Only-trans s t u xs ys p q = record { slots = q.slots ∙ p.slots; fresh = q.fresh ∙ p.fresh; puts = Puts-trans s t u xs ys p.puts q.puts }
+
+-- a look whose first link was null or had a mark is a look on by which the hold stays
+pub looks_beside : {N : Type 0} (place : Place) (slot : ℕ) (s : Seat N) (from : Hold) (looked : Looked) (t : Seat N) (l : Looks place slot s looked t)
+    → IsNoStep place slot s looked t l.tells → MovesOn place slot s from (Stays from looked) t
+looks_beside place slot s from looked t l none = record { fresh = l.fresh; tells = record { kept = refl; tells = l.tells; no_step = none } }
 
 -- what the pass has newly seen is allowed where it stands
 pub part_allowed : {N : Type 0} (may : List (Event N) → Event N → Type 0) (s t : Seat N) (own : List (Event N)) (p : Puts s own t)

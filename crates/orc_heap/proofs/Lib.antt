@@ -11,6 +11,7 @@ pub mod Moved
 pub mod OwnEntries
 pub mod OwnParts
 pub mod Pieces
+pub mod Prefixes
 pub mod Calls
 pub mod Roots
 pub mod Runs

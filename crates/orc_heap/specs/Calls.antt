@@ -18,6 +18,8 @@ use Rattle.orc_heap.specs.declared.events.Place.{Place}
 use Rattle.orc_heap.specs.declared.holds.At.{At}
 use Rattle.orc_heap.specs.declared.holds.Looked.{Looked}
 use Rattle.orc_heap.specs.declared.holds.Looked.TheVariants.{Moved, Stable}
+use Rattle.orc_heap.specs.declared.holds.LookedOn.{LookedOn}
+use Rattle.orc_heap.specs.declared.holds.LookedOn.TheVariants.{Moved as MovedOff, On, Stays}
 use Rattle.orc_heap.specs.declared.holds.Want.{Want}
 use Rattle.orc_heap.specs.declared.holds.Want.TheVariants.{Node as WantNode, Null as WantNull}
 
@@ -97,6 +99,35 @@ Tells place slot s Moved t =
 pub record Looks {N : Type 0} (place : Place) (slot : ℕ) (s : Seat N) (looked : Looked) (t : Seat N) : Type 0 where
   pub fresh : t.fresh ≡ s.fresh
   pub tells : Tells place slot s looked t
+
+-- what the look loaded first was null or had a mark
+abbrev pub IsNoStep : {N : Type 0} (place : Place) (slot : ℕ) (s : Seat N) (looked : Looked) (t : Seat N) → Tells place slot s looked t → Type 0
+IsNoStep place slot s (Stable seen None) t told = Unit {0}
+IsNoStep place slot s (Stable seen (Some h)) t told = seen.mark ≡ true
+IsNoStep place slot s Moved t told = told.0.mark ≡ true
+
+-- it is a look beside a hold that stays as it is, since there was no unmarked link to a node
+pub record LooksBeside {N : Type 0} (place : Place) (slot : ℕ) (s : Seat N) (from h : Hold) (looked : Looked) (t : Seat N) : Type 0 where
+  pub kept : h ≡ from
+  pub tells : Tells place slot s looked t
+  pub no_step : IsNoStep place slot s looked t tells
+
+-- what a look on tells, puts and holds, by its answer. Where two loads found the same row without a mark, the slot of the first hold has
+-- the target of the link that the last Look shows, and where they differ it is free
+abbrev pub TellsOn : {N : Type 0} → Place → ℕ → Seat N → Hold → LookedOn → Seat N → Type 0
+TellsOn place slot s from (On h) t =
+    (id : ℕ) × (one : Link) × (one.to ≢ None) × (one.mark ≡ false) × (h.slot ≡ from.slot)
+    × (t.slots ≡ slice_set s.slots from.slot (Some (record { row = h.row; id = id })))
+    × Puts s (event_of s (Look place one) None ∷ event_of s (Look place (record { to = Some id; mark = false })) None ∷ []) t
+TellsOn place slot s from (Stays h looked) t = LooksBeside place slot s from h looked t
+TellsOn place slot s from MovedOff t =
+    (one : Link) × (two : Link) × (one ≢ two) × (t.slots ≡ slice_set s.slots from.slot None)
+    × Puts s (event_of s (Look place one) None ∷ event_of s (Look place two) None ∷ []) t × (one.to ≢ None) × (one.mark ≡ false)
+
+-- what a look on tells, by its answer; what was fresh stays so
+pub record MovesOn {N : Type 0} (place : Place) (slot : ℕ) (s : Seat N) (from : Hold) (looked : LookedOn) (t : Seat N) : Type 0 where
+  pub fresh : t.fresh ≡ s.fresh
+  pub tells : TellsOn place slot s from looked t
 
 -- the place showed another link than the wanted one
 pub record Misses {N : Type 0} (place : Place) (wanted : Link) (s t : Seat N) : Type 0 where

@@ -42,6 +42,12 @@ HoldsPlace n slots (AtRoot r) = r < n.roots
 HoldsPlace n slots (AtNode h) = Holds slots h.now
 HoldsPlace n slots (AtSide h) = Holds slots h.now × (n.links ≡ 2)
 
+-- it isn't in the node that this hold protects
+abbrev pub IsOutside : Hold → At → Type 0
+IsOutside from (AtRoot r) = Unit {0}
+IsOutside from (AtNode h) = h.now.slot ≢ from.slot
+IsOutside from (AtSide h) = h.now.slot ≢ from.slot
+
 -- the link that a caller names
 abbrev pub link_in : Slots → Want → Link
 link_in slots (WantNull mark) = record { to = None; mark = mark }

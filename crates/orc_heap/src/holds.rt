@@ -78,3 +78,13 @@ pub enum Looked {
     Stable(Seen, Option<Held>),
     Moved,
 }
+
+/// The answer of a look by which a hold may move on.
+pub enum LookedOn {
+    /// The link had no mark, and its target is held in place of the node that was given up.
+    On(Held),
+    /// The node is held as before, and the look found this.
+    Stays(Held, Looked),
+    /// The link moved between the two loads, and the node is held no more.
+    Moved,
+}

@@ -12,7 +12,7 @@ mod seed;
 pub use any_fit::AnyFit;
 pub use discipline::{Discipline, Ranked};
 pub use events::{Act, Event, Link, Place};
-pub use holds::{At, Held, Looked, Seen, Want};
+pub use holds::{At, Held, Looked, LookedOn, Seen, Want};
 pub use laws::{
     a_changed_link_was_moved, a_node_tells_its_journal, journals_go_on, once_linked_nodes_stay,
     roots_lead_to_linked_nodes,

@@ -10,14 +10,14 @@ ghost use Rattle.orc_heap.specs.Journals.{run_heap};
 ghost use Rattle.orc_heap.specs.Moves.{gives_in};
 ghost use Rattle.orc_heap.specs.Allowed.{AllAllowed};
 ghost use Rattle.orc_heap.specs.Slots.{Hold, Holds, IsFree, id_in};
-ghost use Rattle.orc_heap.specs.Seats.{HoldsFresh, HoldsPlace, HoldsTarget, HoldsWant, IsIdle, IsNotFresh, IsUntouched, Seat, place_in};
+ghost use Rattle.orc_heap.specs.Seats.{HoldsFresh, HoldsPlace, HoldsTarget, HoldsWant, IsIdle, IsNotFresh, IsOutside, IsUntouched, Seat, place_in};
 ghost use Rattle.orc_heap.specs.OwnEvents.{IsBelow, Only};
 ghost use Rattle.orc_history.specs.Parts.{InPart, IsAlone};
-ghost use Rattle.orc_heap.specs.Calls.{Gives, Learns, Looks, MayAim, MayAimSide, MayLook, MayMove, ReadsValue, RefusesAim, RefusesSwing, Releases, Swings, Tests, aim_of, aim_side_of, fill_of};
+ghost use Rattle.orc_heap.specs.Calls.{Gives, Learns, Looks, MayAim, MayAimSide, MayLook, MayMove, MovesOn, ReadsValue, RefusesAim, RefusesSwing, Releases, Swings, Tests, aim_of, aim_side_of, fill_of};
 ghost use Rattle.orc_heap.specs.declared.events.Event.{Event};
 
 use crate::discipline::Discipline;
-use crate::holds::{At, Held, Looked, Want};
+use crate::holds::{At, Held, Looked, LookedOn, Want};
 use orc_fault::{NoNode, Spent};
 
 /// A domain of links: memory for the nodes of a container, which agents share. Each agent calls it with a pass of
@@ -106,6 +106,20 @@ pub trait Links {
         ensures pass { belongs self.now p.new }
         ensures later { IsPrefix (journal p.old) (journal p.new) }
         ensures looked { Looks (place_in (seat self.now p.old).slots place.now) slot (seat self.now p.old) result (seat self.now p.new) };
+
+    /// One try of a protected load by which a hold moves on. Where the first load shows a link to a node without a mark, the
+    /// slot of `from` protects that node, and `from` is held no more. Else `from` stays held, and this is a look with
+    /// the free slot.
+    fn look_on(&self, p: &mut Self::Pass, place: &At, from: Held, slot: u32) -> LookedOn
+        requires pass { belongs self.now p.old }
+        requires place { HoldsPlace (numbers self.now) (seat self.now p.old).slots place.now }
+        requires from { Holds (seat self.now p.old).slots from }
+        requires linked { (seat self.now p.old).fresh ≢ Some (id_in (seat self.now p.old).slots from) }
+        requires outside { IsOutside from place.now }
+        requires slot { IsFree (seat self.now p.old).slots slot }
+        ensures pass { belongs self.now p.new }
+        ensures later { IsPrefix (journal p.old) (journal p.new) }
+        ensures looked { MovesOn (place_in (seat self.now p.old).slots place.now) slot (seat self.now p.old) from result (seat self.now p.new) };
 
     /// One load: whether the link is this one. Then the note stands in the journal at this load.
     fn same(

@@ -8,7 +8,7 @@ use Rattle.orc_machine_rest.specs.Ends.{FirstSawAll, HasOwnSteps, TakesIn, first
 use Rattle.orc_heap.proofs.Pieces.{goes_on}
 use Rattle.orc_machine_board.specs.Passes.{AbsorbsSteps, TookInAll, steps_of}
 use Rattle.orc_machine_board.specs.Views.{MachineView}
-use Rattle.orc_shared_words.proofs.Prefixes.{prefix_same}
+use Rattle.orc_heap.proofs.Prefixes.{prefix_same}
 use Rattle.orc_shared_words.proofs.Runs.{below-tail, none_left, own_of-append}
 use Rattle.orc_shared_words.proofs.Seats.{among_behind}
 use Rattle.orc_shared_words.specs.Lists.{Among, EachAt, IsLonger}

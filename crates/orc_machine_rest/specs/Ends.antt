@@ -2,7 +2,7 @@
 use Rattle.std.specs.List.{AllByRecursion}
 use Rattle.std.specs.Prelude.{All, List, [], ◌+◌, ◌∷◌, ◌≡◌, ℕ}
 use mathlib.Core.List.{IsPrefix}
-use Rattle.orc_machine_rest.specs.declared.count.RowCounts.{RowCounts}
+use Rattle.orc_any_domain.specs.declared.domain.RowCounts.{RowCounts}
 use Rattle.orc_core.specs.Machine.{new_machine}
 use Rattle.orc_machine_board.specs.Passes.{steps_of}
 use Rattle.orc_machine_board.specs.Rules.{run_of}

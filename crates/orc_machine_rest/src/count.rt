@@ -9,16 +9,9 @@ ghost use Rattle.orc_machine_board.specs.Views.{Belongs, board_bounds, shows};
 ghost use Rattle.orc_rest.specs.Reuse.{given, reused, rows_out};
 ghost use Rattle.orc_sound.specs.Journals.{plain};
 
+use orc_any_domain::RowCounts;
 use orc_heap::Discipline;
 use orc_machine_board::{MachineBoard, MachineBoardPass};
-
-/// How many rows were given and freed, each as often as it was, and how many are out.
-#[derive(Clone, Copy, Debug, PartialEq, Eq, Drop)]
-pub struct RowCounts {
-    pub given: u64,
-    pub reused: u64,
-    pub linked: u32,
-}
 
 /// Looks at the gate of each row, and tells from its life and its lowest bit what was given, freed, and is out. The pass took in
 /// all others, so nobody steps meanwhile.

@@ -6,6 +6,6 @@ mod handovers;
 mod rounds;
 mod steps;
 
-pub use count::{RowCounts, count_rows};
+pub use count::count_rows;
 pub use handovers::drain;
 pub use rounds::settle;

@@ -11,7 +11,7 @@ use Rattle.orc_shared_words.specs.Runs.{AgentsBelow}
 use Rattle.orc_history.specs.Journals.{own_of}
 use Rattle.orc_shared_words.specs.Views.{absorbing, agent_of}
 use Rattle.orc_shared_words.specs.declared.journal.View.{View}
-use Rattle.orc_shared_words.proofs.Prefixes.{prefix_same}
+use Rattle.orc_heap.proofs.Prefixes.{prefix_same}
 use Rattle.orc_shared_words.proofs.Runs.{none_behind}
 use Rattle.orc_plain_board.specs.Calls.{Absorbs, IsLonger, LearnsEvents, SameButEvents}
 use Rattle.orc_plain_board.specs.Machine.{State, AllowedFrom, numbers, project, project_from, run, run_from, start}

@@ -6,7 +6,7 @@ use Rattle.orc_heap.specs.declared.discipline.Discipline as discipline
 use Rattle.orc_shared_words.specs.Ends.{Opens}
 use Rattle.orc_shared_words.specs.Runs.{AgentsBelow}
 use Rattle.orc_shared_words.specs.declared.journal.View.{View}
-use Rattle.orc_shared_words.proofs.Prefixes.{prefix_same}
+use Rattle.orc_heap.proofs.Prefixes.{prefix_same}
 use Rattle.orc_plain_board.specs.Machine.{AllowedFrom, numbers, project}
 use Rattle.orc_plain_board.specs.Rules.{opening_steps, plain_rules}
 use Rattle.orc_plain_board.specs.Views.{Keeps}

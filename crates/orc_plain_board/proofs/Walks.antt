@@ -23,7 +23,7 @@ use Rattle.orc_history.specs.Journals.{own_of}
 use Rattle.orc_shared_words.specs.Steps.{Extends, LaterJournal}
 use Rattle.orc_shared_words.specs.declared.journal.View.{View}
 use Rattle.orc_heap.proofs.Pieces.{goes_on}
-use Rattle.orc_shared_words.proofs.Prefixes.{prefix_same}
+use Rattle.orc_heap.proofs.Prefixes.{prefix_same}
 use Rattle.orc_shared_words.proofs.Events.{AllBy, none-append, none_of_all}
 use Rattle.orc_shared_words.proofs.Runs.{by_other, by_own, cons_nil}
 use Rattle.orc_plain_board.specs.Calls.{Adds}

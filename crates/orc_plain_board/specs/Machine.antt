@@ -10,7 +10,7 @@ use Rattle.orc_words.specs.declared.packed.RowLink.{RowLink}
 use Rattle.orc_words.specs.declared.place.Word.{Word}
 use Rattle.orc_words.specs.declared.place.Word.TheVariants.{Root, Gate, First, Second, Next, Side}
 use Rattle.orc_heap.specs.Acts.{aim_act}
-use Rattle.orc_heap.specs.Heap.{Heap, HeapNumbers, new_heap, null, shown}
+use Rattle.orc_heap.specs.Heap.{Heap, new_heap, null, shown}
 use Rattle.orc_heap.specs.Journals.{event_by, run_from as heap_from}
 use Rattle.orc_heap.specs.declared.events.Act.TheVariants as act
 use Rattle.orc_heap.specs.declared.events.Event.{Event}
@@ -20,10 +20,8 @@ use Rattle.orc_heap.specs.declared.events.Place.TheVariants.{Root as AtRoot, Nex
 use Rattle.orc_plain_board.specs.declared.machine.PlainOp.{PlainOp}
 use Rattle.orc_plain_board.specs.declared.machine.PlainOp.TheVariants.{GateLook, GateTake, Fill, Read, LinkLoad, LinkCas, LinkStore}
 use Rattle.orc_plain_board.specs.declared.machine.PlainStep.{PlainStep}
-
 -- the heap of a table has its roots, and nodes with as many links as its rows
-abbrev pub numbers : Bounds → HeapNumbers
-numbers b = record { roots = b.roots; links = b.links }
+pub use Rattle.orc_any_domain.specs.Domains.{heap_numbers as numbers}
 
 -- the word of a row's first (0) or second (1) value
 abbrev pub value_word : ℕ → ℕ → Word

@@ -24,7 +24,7 @@ use Rattle.orc_plain_domain.specs.Passes.{IsPassOf, domain_bounds, domain_number
 use Rattle.orc_plain_domain.specs.declared.domain.PlainDomain.{PlainDomain}
 use Rattle.orc_plain_domain.specs.declared.domain.PlainPass.{PlainPass}
 use Rattle.orc_plain_domain.specs.Rows.{seat_by}
-use Rattle.orc_shared_words.proofs.Prefixes.{prefix_same}
+use Rattle.orc_heap.proofs.Prefixes.{prefix_same}
 use Rattle.orc_plain_domain.proofs.Growing.{Grows, fresh_given, fresh_stays, held_given, slots_stay, still_of}
 
 -- the steps of an agent are its events

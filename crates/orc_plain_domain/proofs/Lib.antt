@@ -14,7 +14,6 @@ pub mod Counting
 pub mod Giving
 pub mod Learning
 pub mod Making
-pub mod Rounds
 pub mod Draining
 pub mod Resting
 pub mod Turns

@@ -1,11 +1,11 @@
 -- A protected load.
-use Rattle.std.proofs.Common.{◌≡◌, ◌≢◌, ℕ, List, [], ◌∷◌, true, false, Option, Some, None, slice_set, refl, sym, ap, ◌∙◌, subst}
+use Rattle.std.proofs.Common.{◌≡◌, ◌≢◌, ℕ, Bool, List, [], ◌∷◌, true, false, Option, Some, None, slice_set, refl, sym, ap, ◌∙◌, subst}
 use Rattle.orc_words.specs.Bounds.{Bounds}
 use Rattle.orc_words.specs.declared.packed.RowLink.{RowLink}
 use Rattle.orc_words.specs.declared.place.Word.{Word}
-use Rattle.orc_heap.proofs.Calls.{Puts-trans}
+use Rattle.orc_heap.proofs.Calls.{Puts-trans, looks_beside}
 use Rattle.orc_heap.specs.Acts.{IsKnown, IsTarget}
-use Rattle.orc_heap.specs.Calls.{Looks, event_of}
+use Rattle.orc_heap.specs.Calls.{Looks, MovesOn, event_of}
 use Rattle.orc_heap.specs.OwnEvents.{Puts}
 use Rattle.orc_heap.specs.Seats.{HoldsPlace, place_in}
 use Rattle.orc_heap.specs.Slots.{Hold, Slots}
@@ -16,6 +16,7 @@ use Rattle.orc_heap.specs.declared.events.Link.{Link}
 use Rattle.orc_heap.specs.declared.events.Place.{Place}
 use Rattle.orc_heap.specs.declared.holds.At.{At}
 use Rattle.orc_heap.specs.declared.holds.Looked.TheVariants.{Moved, Stable}
+use Rattle.orc_heap.specs.declared.holds.LookedOn.TheVariants.{Moved as MovedOff, On, Stays}
 use Rattle.orc_shared_words.specs.declared.machine.Machine as machine
 use Rattle.orc_plain_board.proofs.Lists.{some_one}
 use Rattle.orc_plain_board.proofs.Ties.{Given, given_by}
@@ -109,6 +110,12 @@ module _ {D N : Type 0} {d : discipline.Ghosts D N} {m : machine.Ghosts Plain N 
       );
     }
 
+    pub stays_null : (slot : ℕ) (from : Hold) → one.to ≡ None
+        → MovesOn (place_in (seat_of domain p).slots at) slot (seat_of domain p) from (Stays from (Stable (record { null = true; mark = one.mark }) None))
+        (seat_of domain p1)
+    stays_null slot from null = looks_beside (place_in (seat_of domain p).slots at) slot (seat_of domain p) from
+        (Stable (record { null = true; mark = one.mark }) None) (seat_of domain p1) (looks_null slot null) tt
+
     one_given : Given t.rows one.to
     one_given = given_by b (run b p1.pass.pass.seat.me.0.seen).words t.rows (heap_of b t) (tie domain p1 h1) s.agent one.to l.known
 
@@ -148,20 +155,49 @@ module _ {D N : Type 0} {d : discipline.Ghosts D N} {m : machine.Ghosts Plain N 
             (adds_put may (event_by t.agent (Look (place_by t.rows word) (link_by u.rows two)) None ∷ []) t u p1.slots slots k.adds
             (mine t.agent (Look (place_by t.rows word) (link_by u.rows two)) None)))
 
+        -- two links that differ are links that differ to callers
+        links_apart : two ≢ one → link_by t.rows one ≢ link_by u.rows two
+        links_apart other e = other (sym
+            (link_one u.rows one two (subst (λ z. Given z one.to) grows2.rows.1 (given_grows t.rows grows2.rows.0 one.to one_given)) two_given
+            (link_still ∙ e)))
+
+        not_null : (row : ℕ) → one.to ≡ Some row → (link_by t.rows one).to ≢ None
+        not_null row is none = let e : Some (index_of row t.rows) ≡ None = sym (ap (id_by t.rows) is) ∙ none in cc
+
         pub looks_moved : (slot row : ℕ) → one.to ≡ Some row → two ≢ one
             → Looks (place_in (seat_of domain p).slots at) slot (seat_of domain p) Moved (seat_of domain p2)
         looks_moved slot row is other = record {
           fresh = fresh_last;
+          tells = (link_by t.rows one, link_by u.rows two, links_apart other, slots_last, put_both p2.slots, not_null row is);
+        }
+
+        pub stays_moved : (slot row : ℕ) (from : Hold) → one.to ≡ Some row → two ≢ one → one.mark ≡ true
+            → MovesOn (place_in (seat_of domain p).slots at) slot (seat_of domain p) from (Stays from Moved) (seat_of domain p2)
+        unfolding looks_moved
+        stays_moved slot row from is other marked = looks_beside (place_in (seat_of domain p).slots at) slot (seat_of domain p) from Moved (seat_of domain p2)
+            (looks_moved slot row is other) marked
+
+        -- the link moved: the slot of the hold is free
+        pub moves_off : (slot row freed : ℕ) (from : Hold) → freed ≡ from.slot → one.to ≡ Some row → two ≢ one → one.mark ≡ false
+            → MovesOn (place_in (seat_of domain p).slots at) slot (seat_of domain p) from MovedOff (seat_by u (slice_set p2.slots freed None))
+        moves_off slot row freed from its is other bare = record {
+          fresh = fresh_last;
           tells = (
             link_by t.rows one,
             link_by u.rows two,
-            (λ e. other (sym
-                (link_one u.rows one two (subst (λ z. Given z one.to) grows2.rows.1 (given_grows t.rows grows2.rows.0 one.to one_given)) two_given
-                (link_still ∙ e)))),
-            slots_last,
-            put_both p2.slots,
-            (λ none. let e : Some (index_of row t.rows) ≡ None = sym (ap (id_by t.rows) is) ∙ none in cc),
+            links_apart other,
+            slots_set u.rows p2.slots freed None ∙ (λ i. slice_set (slots_last i) (its i) None),
+            put_both (slice_set p2.slots freed None),
+            not_null row is,
+            bare,
           );
+        }
+
+        pub still_off : (freed : ℕ) → IsPassOf domain (record { pass = p2.pass; slots = slice_set p2.slots freed None; next = p2.next; shape = p2.shape })
+        still_off freed = record {
+          board = h2.board;
+          shape = h2.shape;
+          keeps = keeps_set b u p2.slots p2.next p2.next freed None (λ r e. cc) h2.keeps.inside h2.keeps;
         }
 
         module _ (slot row : ℕ) (is : one.to ≡ Some row) (twice : two ≡ one) where
@@ -178,7 +214,7 @@ module _ {D N : Type 0} {d : discipline.Ghosts D N} {m : machine.Ghosts Plain N 
                 tells = (
                   index_of row u.rows,
                   link_by t.rows one,
-                  (λ none. let e : Some (index_of row t.rows) ≡ None = sym (ap (id_by t.rows) is) ∙ none in cc),
+                  not_null row is,
                   refl,
                   refl,
                   refl,
@@ -187,6 +223,34 @@ module _ {D N : Type 0} {d : discipline.Ghosts D N} {m : machine.Ghosts Plain N 
                   subst (λ (z : Link). Puts (seat_of domain p) (event_by s.agent (Look (place_in (seat_of domain p).slots at) (link_by t.rows one)) None
                       ∷ event_by s.agent (Look (place_in (seat_of domain p).slots at) z) None ∷ []) (seat_by u (slice_set p2.slots slot (Some row))))
                       found (put_both (slice_set p2.slots slot (Some row))),
+                );
+              }
+
+          pub stays_held : (hold from : Hold) → hold ≡ record { row = row; slot = slot } → one.mark ≡ true
+              → MovesOn (place_in (seat_of domain p).slots at) slot (seat_of domain p) from (Stays from (Stable (record { null = false; mark = one.mark })
+              (Some hold)))
+              (seat_by u (slice_set p2.slots slot (Some row)))
+          stays_held hold from e marked = looks_beside (place_in (seat_of domain p).slots at) slot (seat_of domain p) from
+              (Stable (record { null = false; mark = one.mark }) (Some hold)) (seat_by u (slice_set p2.slots slot (Some row))) (looks_held hold e) marked
+
+          -- the same link twice: the hold's slot, which this is, has its target
+          pub moves_held : (spare : ℕ) (hold from : Hold) → slot ≡ from.slot → hold ≡ record { row = row; slot = slot } → one.mark ≡ false
+              → MovesOn (place_in (seat_of domain p).slots at) spare (seat_of domain p) from (On hold) (seat_by u (slice_set p2.slots slot (Some row)))
+          moves_held spare hold from its e bare =
+              subst (λ (z : Hold). MovesOn (place_in (seat_of domain p).slots at) spare (seat_of domain p) from (On z)
+              (seat_by u (slice_set p2.slots slot (Some row)))) (sym e) record {
+                fresh = fresh_last;
+                tells = (
+                  index_of row u.rows,
+                  link_by t.rows one,
+                  not_null row is,
+                  bare,
+                  its,
+                  slots_set u.rows p2.slots slot (Some row)
+                      ∙ (λ i. slice_set (slots_last i) (its i) (Some (record { row = row; id = index_of row u.rows }))),
+                  subst (λ (z : Link). Puts (seat_of domain p) (event_by s.agent (Look (place_in (seat_of domain p).slots at) (link_by t.rows one)) None
+                      ∷ event_by s.agent (Look (place_in (seat_of domain p).slots at) z) None ∷ []) (seat_by u (slice_set p2.slots slot (Some row))))
+                      (found ∙ ap (λ (m : Bool). record { to = Some (index_of row u.rows); mark = m }) bare) (put_both (slice_set p2.slots slot (Some row))),
                 );
               }
 

@@ -26,7 +26,7 @@ use Rattle.orc_plain_domain.specs.declared.domain.PlainPass.{PlainPass}
 use Rattle.orc_plain_domain.specs.Ends.{AreAll, HasOwn, first_seen}
 use Rattle.orc_heap.specs.Moves.{gives_in}
 use Rattle.orc_heap.proofs.Pieces.{goes_on}
-use Rattle.orc_shared_words.proofs.Prefixes.{prefix_same}
+use Rattle.orc_heap.proofs.Prefixes.{prefix_same}
 use Rattle.orc_plain_domain.specs.Rest.{CoversAll, TakesIn}
 use Rattle.orc_plain_domain.proofs.Counting.{bit_free, bit_out, nodes_given, out_bit, outs, outs_all, outs_low}
 use Rattle.orc_plain_domain.proofs.Growing.{still_adds, still_of, tie}

@@ -1,7 +1,6 @@
 -- What all passes of a domain have seen together.
 use Rattle.std.specs.Prelude.{All, List, [], length, ℕ, ◌∷◌, ◌≡◌, ◌≤◌}
-use Rattle.std.specs.List.{AllByRecursion}
-use mathlib.Core.List.{IsPrefix}
+use Rattle.orc_any_domain.specs.Learning.{HearsAll, Pairwise}
 use Rattle.orc_heap.specs.Allowed.{events_by}
 use Rattle.orc_heap.specs.Seats.{IsIdle, Seat}
 use Rattle.orc_heap.specs.declared.discipline.Discipline as discipline
@@ -16,39 +15,10 @@ use Rattle.orc_plain_domain.specs.Passes.{IsPassOf, domain_bounds, seat_of}
 use Rattle.orc_plain_domain.specs.declared.domain.PlainDomain.{PlainDomain}
 use Rattle.orc_plain_domain.specs.declared.domain.PlainPass.{PlainPass}
 
--- R holds of each two items of the lists that stand at one place, and the lists are equally long
-abbrev pub Pairwise : {A B : Type 0} → (A → B → Type 0) → List A → List B → Type 0
-Pairwise R [] [] = Unit {0}
-Pairwise R (x ∷ xs) (y ∷ ys) = R x y × Pairwise R xs ys
-Pairwise R [] (y ∷ ys) = ⊥
-Pairwise R (x ∷ xs) [] = ⊥
-
 module _ {N : Type 0} where
   -- in these events, those of the pass's agent are exactly those that it has seen itself
   abbrev pub HasOwn : List (Event N) → Seat N → Type 0
   HasOwn all s = events_by s.agent all ≡ events_by s.agent s.seen
-
-  -- a pass, which was s and is t, has seen more, but no new event of its agent
-  pub record Hears (s t : Seat N) : Type 0 where
-    pub agent : t.agent ≡ s.agent
-    pub slots : t.slots ≡ s.slots
-    pub fresh : t.fresh ≡ s.fresh
-    pub more : IsPrefix s.seen t.seen
-    pub own : HasOwn t.seen s
-
-  -- it has seen these events and no others
-  pub record HearsAll (all : List (Event N)) (s t : Seat N) : Type 0 where
-    pub hears : Hears s t
-    pub seen : t.seen ≡ all
-
-  -- a pass, which was s and is t, has learned from passes, which were `before` and are `after`: it has seen the longest of their
-  -- lists, and what had been seen already changes nothing
-  pub record Round {W : Type 0} (seat : W → Seat N) (s t : Seat N) (before after : List W) : Type 0 where
-    pub first : Hears s t
-    pub others : Pairwise (λ w v. Hears (seat w) (seat v) × IsPrefix (seat v).seen t.seen) before after
-    pub again : AllByRecursion (λ w. IsPrefix (seat w).seen s.seen) before
-        → (t.seen ≡ s.seen) × Pairwise (λ w v. HearsAll s.seen (seat w) (seat v)) before after
-    pub longest : (most : ℕ) → length s.seen ≤ most → AllByRecursion (λ w. length (seat w).seen ≤ most) before → length t.seen ≤ most
 
 module _ {D N : Type 0} {d : discipline.Ghosts D N} {m : machine.Ghosts Plain N (PlainShape N) PlainOp (PlainStep N) (Unit {0}) (Unit {0})}
     (domain : PlainDomain D N)
@@ -74,7 +44,8 @@ module _ {D N : Type 0} {d : discipline.Ghosts D N} {m : machine.Ghosts Plain N 
 
     -- passes, which were `before` and are `after`, have all seen what the first one has seen now, and no new event of their own agents
     abbrev pub AllHear : (before after : List (PlainPass D N (PlainShape N) PlainOp (PlainStep N) (Unit {0}) (Unit {0}) d m)) → Type 0
-    AllHear before after = Pairwise (λ w v. HearsAll (first_seen after) (seat_of domain w) (seat_of domain v)) before after
+    AllHear before after =
+        Pairwise (HearsAll (λ p. seat_of domain p) (λ (e : Event N). e.agent) (λ p. (seat_of domain p).seen) (first_seen after)) before after
 
     -- what the first pass has seen now is no longer than the longest list that one of the passes had seen
     abbrev pub IsNoLonger : (before after : List (PlainPass D N (PlainShape N) PlainOp (PlainStep N) (Unit {0}) (Unit {0}) d m)) → Type 0

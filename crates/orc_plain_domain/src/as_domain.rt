@@ -9,7 +9,7 @@ ghost use Rattle.orc_plain_domain.specs.Rest.{IsRestOf};
 ghost use Rattle.orc_words.specs.Bounds.{bounds_of};
 
 use crate::domain::{PlainDomain, PlainPass, PlainRest};
-use orc_any_domain::{Counts, Domain};
+use orc_any_domain::{Domain, RowCounts};
 use orc_fault::NoMemory;
 use orc_heap::{Discipline, Links, Seed};
 use orc_words::Shape;
@@ -61,10 +61,10 @@ impl<D: Discipline> Domain for PlainDomain<D> {
         self.rest(all)
     }
 
-    fn counts(rest: &PlainRest<D>) -> Counts
+    fn counts(rest: &PlainRest<D>) -> RowCounts
         ensures balance { (domain : _) → IsRestOf domain rest.now → result.given ≡ result.reused + result.linked }
     {
-        Counts {
+        RowCounts {
             given: rest.given(),
             reused: rest.reused(),
             linked: rest.linked(),

@@ -16,7 +16,7 @@ ghost use Rattle.orc_plain_board.specs.Words.{IsOut};
 use crate::domain::{PlainDomain, PlainPass};
 use crate::names::{row_link, word_at};
 use orc_fault::{NoNode, Spent};
-use orc_heap::{At, Discipline, Event, Held, Links, Looked, Seen, Want};
+use orc_heap::{At, Discipline, Event, Held, Links, Looked, LookedOn, Seen, Want};
 use orc_words::pack_link;
 
 impl<D: Discipline> Links for PlainDomain<D> {
@@ -97,27 +97,43 @@ impl<D: Discipline> Links for PlainDomain<D> {
     fn look(&self, p: &mut PlainPass<D>, place: &At, slot: u32) -> Looked {
         let word = word_at(place);
         let one = self.load(p, word);
+        let mark = one.mark;
         let Some(row) = one.to else {
-            return Looked::Stable(
-                Seen {
-                    null: true,
-                    mark: one.mark,
-                },
-                None,
-            );
+            return Looked::Stable(Seen { null: true, mark }, None);
         };
         let two = self.load(p, word);
         if two != one {
             return Looked::Moved;
         }
         p.slots[slot as usize] = Some(row);
-        Looked::Stable(
-            Seen {
-                null: false,
-                mark: one.mark,
-            },
-            Some(Held::new(row, slot)),
-        )
+        Looked::Stable(Seen { null: false, mark }, Some(Held::new(row, slot)))
+    }
+
+    #[inline(always)]
+    fn look_on(&self, p: &mut PlainPass<D>, place: &At, from: Held, slot: u32) -> LookedOn {
+        let word = word_at(place);
+        let one = self.load(p, word);
+        let mark = one.mark;
+        let Some(row) = one.to else {
+            return LookedOn::Stays(from, Looked::Stable(Seen { null: true, mark }, None));
+        };
+        let again = self.load(p, word);
+        if mark {
+            if again != one {
+                return LookedOn::Stays(from, Looked::Moved);
+            }
+            p.slots[slot as usize] = Some(row);
+            let held = Held::new(row, slot);
+            return LookedOn::Stays(from, Looked::Stable(Seen { null: false, mark }, Some(held)));
+        }
+        let freed = from.slot();
+        from.end();
+        if again != one {
+            p.slots[freed as usize] = None;
+            return LookedOn::Moved;
+        }
+        p.slots[freed as usize] = Some(row);
+        LookedOn::On(Held::new(row, freed))
     }
 
     fn same(

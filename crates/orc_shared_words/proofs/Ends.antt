@@ -13,7 +13,7 @@ use Rattle.orc_shared_words.specs.Runs.{AgentsBelow, Rules}
 use Rattle.orc_history.specs.Journals.{own_of}
 use Rattle.orc_shared_words.specs.Views.{first_view}
 use Rattle.orc_shared_words.proofs.Changes.{one_alone}
-use Rattle.orc_shared_words.proofs.Prefixes.{prefix_same}
+use Rattle.orc_heap.proofs.Prefixes.{prefix_same}
 use Rattle.orc_shared_words.proofs.Runs.{below-tail, none_behind, none_left}
 use Rattle.orc_shared_words.proofs.Seats.{at_one, one_number}
 

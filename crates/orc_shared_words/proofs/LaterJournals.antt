@@ -12,7 +12,7 @@ use Rattle.orc_shared_words.specs.Lists.{Among}
 use Rattle.orc_shared_words.specs.Runs.{AgentsBelow, Obeys, Rules}
 use Rattle.orc_history.specs.Journals.{own_of}
 use Rattle.orc_shared_words.specs.Steps.{Extends, LaterJournal}
-use Rattle.orc_shared_words.proofs.Prefixes.{prefix_same}
+use Rattle.orc_heap.proofs.Prefixes.{prefix_same}
 use Rattle.orc_shared_words.proofs.Runs.{below-front, below-tail, by_other, by_own, cons_nil, none_behind, none_left}
 use Rattle.orc_shared_words.proofs.Seats.{one_number}
 

@@ -18,7 +18,7 @@ use Rattle.orc_shared_words.specs.Runs.{Rules}
 use Rattle.orc_history.specs.Journals.{own_of}
 use Rattle.orc_shared_words.specs.Views.{Covers, absorbing, agent_of, keeping, next_number, next_pass, note_of, one_handed, spent_view}
 use Rattle.orc_shared_words.proofs.Changes.{Attained, IsNew, added, changed}
-use Rattle.orc_shared_words.proofs.Prefixes.{both_prefixes, front_nil, prefixes_of_one}
+use Rattle.orc_heap.proofs.Prefixes.{both_prefixes, front_nil, prefixes_of_one}
 use Rattle.orc_shared_words.proofs.Runs.{none_behind, none_between, own_of-append, own_of-others}
 use Rattle.orc_shared_words.proofs.Seats.{among_behind, among_either, among_front, at_changed, none_some, one_number, set_there}
 

@@ -6,7 +6,7 @@ use native.Mathlib.Decide.{ℕ_discrete}
 use mathlib.Core.List.{IsPrefix}
 use Rattle.orc_shared_words.specs.Runs.{AgentsBelow}
 use Rattle.orc_history.specs.Journals.{own_of}
-use Rattle.orc_shared_words.proofs.Prefixes.{front_nil}
+use Rattle.orc_heap.proofs.Prefixes.{front_nil}
 
 pub cons_nil : {A : Type 0} (x : A) (xs : List A) → x ∷ xs ≡ [] → ⊥
 cons_nil x xs e = absurd (cc)

@@ -21,7 +21,7 @@ use Rattle.orc_words.specs.declared.operation.Operation.{Operation}
 use Rattle.orc_words.specs.declared.operation.Operation.TheVariants.{CompareExchange, Swap}
 use Rattle.orc_shared_words.specs.Steps.{Did, LaterJournal, Licensed, Tried}
 use Rattle.orc_shared_words.proofs.Changes.{AllRetired, AllUnborn, changed, still_one, still_retired, still_unborn}
-use Rattle.orc_shared_words.proofs.Prefixes.{prefix_more, prefix_same}
+use Rattle.orc_heap.proofs.Prefixes.{prefix_more, prefix_same}
 use Rattle.orc_shared_words.proofs.Runs.{below-snoc, by_other, none_behind, own_of-others}
 use Rattle.orc_shared_words.proofs.Seats.{at_changed, one_number, set_there}
 

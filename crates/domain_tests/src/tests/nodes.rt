@@ -61,7 +61,12 @@ pub fn first_gives<L: Links<Rule = AnyFit>>(
 }
 
 // Swings root 0, and answers whether that came about.
-fn swing_root<L: Links<Rule = AnyFit>>(links: &L, p: &mut L::Pass, from: &Want, to: &Want) -> bool
+pub fn swing_root<L: Links<Rule = AnyFit>>(
+    links: &L,
+    p: &mut L::Pass,
+    from: &Want,
+    to: &Want,
+) -> bool
     requires pass { L.belongs links.now p.old }
     requires roots { 0 < (L.numbers links.now).roots }
     requires from { HoldsWant (L.seat links.now p.old).slots from.now }
@@ -110,7 +115,7 @@ pub fn with_a_node<L: Links<Rule = AnyFit>>(
 }
 
 // Unlinks what root 0 leads to, and works through the rows that the pass has in hand then. Answers whether that came about.
-fn unlink_node<L: Links<Rule = AnyFit>>(links: &L, p: &mut L::Pass) -> bool
+pub fn unlink_node<L: Links<Rule = AnyFit>>(links: &L, p: &mut L::Pass) -> bool
     requires pass { L.belongs links.now p.old }
     requires idle { IsIdle (L.seat links.now p.old) }
     requires roots { 0 < (L.numbers links.now).roots }
@@ -129,7 +134,7 @@ fn unlink_node<L: Links<Rule = AnyFit>>(links: &L, p: &mut L::Pass) -> bool
 }
 
 // Unlinks what root 0 leads to, and links a node with this value there.
-fn replace_node<L: Links<Rule = AnyFit>>(links: &L, p: &mut L::Pass, value: u64) -> bool
+pub fn replace_node<L: Links<Rule = AnyFit>>(links: &L, p: &mut L::Pass, value: u64) -> bool
     requires pass { L.belongs links.now p.old }
     requires idle { IsIdle (L.seat links.now p.old) }
     requires roots { 0 < (L.numbers links.now).roots }

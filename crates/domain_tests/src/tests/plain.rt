@@ -5,7 +5,8 @@ ghost use Rattle.orc_plain_domain.specs.Ends.{AreAll, AreIdle, FirstSawAll};
 ghost use Rattle.orc_plain_domain.specs.Passes.{domain_numbers};
 
 use super::calls::first_links;
-use super::nodes::first_gives;
+use super::moving::{Change, Found, look_after};
+use super::nodes::{first_gives, with_a_node};
 use orc_heap::{AnyFit, Discipline, Seed};
 use orc_plain_domain::twins::Twins;
 use orc_plain_domain::{PlainDomain, PlainPass};
@@ -102,5 +103,21 @@ fn two_rows_are_given_once_each(rt: HostRuntime) -> Result<(), Fail> {
     ];
     assert_eq!(rt; given, [Some((9, true)), Some((9, true)), None]);
     assert_eq!(rt; numbers_at_rest(domain, passes), (2, 0, 2));
+    Ok(())
+}
+
+#[test]
+fn a_hold_stays_where_the_link_is_null(rt: HostRuntime) -> Result<(), Fail> {
+    let shape = Shape::new(2, 1, 2, 8)?;
+    let Ok((domain, passes)) = Domain::make(rt.alloc(), &shape, Seed::Empty) else {
+        panic!(rt; "memory")
+    };
+    let Some((mut one, mut two)) = with_a_node(&domain, passes) else {
+        panic!(rt; "two passes")
+    };
+    let on = look_after(&domain, &mut one, &mut two, Change::Replace);
+    let null = look_after(&domain, &mut one, &mut two, Change::Unlink);
+    assert_eq!(rt; on, Some((true, Found::On(9))));
+    assert_eq!(rt; null, Some((true, Found::Stays(9, None))));
     Ok(())
 }

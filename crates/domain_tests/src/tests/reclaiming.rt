@@ -7,6 +7,7 @@ ghost use Rattle.orc_domain.specs.Passes.{domain_bounds, domain_numbers};
 ghost use Rattle.orc_rest.specs.Rest.{IsAtRest};
 
 use super::calls::first_links;
+use super::moving::{Change, Found, look_after};
 use super::nodes::{
     first_gives, held_meanwhile, learn_both, on_two_threads, sees_each, value_at_root, with_a_node,
 };
@@ -141,6 +142,26 @@ fn a_row_that_was_reused_is_another_node(rt: HostRuntime) -> Result<(), Fail> {
     assert_eq!(rt; value_at_root(&domain, &mut one), Some(8));
     assert!(rt; sees_each(&domain, &mut two, &mut one, &[9, 10, 11, 12]));
     assert!(rt; learn_both(&domain, &mut one, &mut two));
+    Ok(())
+}
+
+// The hold stays where the link has a mark or is null, and moves on to another node. The row that it gave up was handed over beside
+// its slot, and is taken in at the release.
+#[test]
+fn a_hold_moves_on_to_an_unmarked_node(rt: HostRuntime) -> Result<(), Fail> {
+    let shape = Shape::new(2, 1, 2, 8)?;
+    let Ok((domain, passes)) = Domain::make(rt.alloc(), &shape, Seed::Empty) else {
+        panic!(rt; "memory")
+    };
+    let Some((mut one, mut two)) = with_a_node(&domain, passes) else {
+        panic!(rt; "two passes")
+    };
+    let on = look_after(&domain, &mut one, &mut two, Change::Replace);
+    let waiting = domain.backlog(&one);
+    domain.drain(&mut one);
+    let marked = look_after(&domain, &mut one, &mut two, Change::Mark);
+    assert_eq!(rt; (on, waiting), (Some((true, Found::On(9))), 1));
+    assert_eq!(rt; marked, Some((true, Found::Stays(9, Some(9)))));
     Ok(())
 }
 

@@ -1,5 +1,5 @@
 -- What a pass has seen begins with the opening, and each of it is of one of the agents.
-use Rattle.std.proofs.Common.{List, None, Option, Some, [], ap, subst, sym, true, ℕ, ◌+◌, ◌++◌, ◌<◌, ◌∙◌, ◌≡◌, ◌∷◌}
+use Rattle.std.proofs.Common.{List, None, Option, Some, [], ap, subst, sym, true, ℕ, ◌++◌, ◌<◌, ◌∙◌, ◌≡◌, ◌∷◌}
 use Rattle.std.proofs.lemmas.Bool.{ltb-true}
 use Rattle.std.specs.Prelude.{nat_lt, ◌&&◌}
 use mathlib.Core.List.{IsPrefix}
@@ -29,7 +29,7 @@ use Rattle.orc_sound.proofs.AllFits.{run_bounds}
 use Rattle.orc_sound.proofs.Journals.{IsLawfulJournal-append}
 use Rattle.orc_sound.specs.Journals.{IsLawfulJournal, plain}
 use Rattle.orc_sound.specs.declared.steps.Step.{Step}
-use Rattle.orc_words.specs.Bounds.{Bounds, IsShape}
+use Rattle.orc_words.specs.Bounds.{Bounds, IsShape, link_limit}
 use Rattle.orc_words.specs.declared.packed.RowLink.{RowLink}
 use Rattle.orc_words.specs.declared.place.Word.TheVariants.{Enrolled, Root}
 
@@ -40,7 +40,7 @@ cas_root m a i from to h =
     let d = record_at m a in
     let fits = (may_parts b (word_in m Enrolled) a (LinkCas (Root i) from to) d h).fits in
     let one = and_both (nat_lt i b.roots && is_empty (slot_of d 0) && may_target b d from.to && may_target b d to.to)
-    (may_change d (b.limit + 64) from.to to.to) fits in
+    (may_change d (link_limit b) from.to to.to) fits in
     let two = and_both (nat_lt i b.roots && is_empty (slot_of d 0) && may_target b d from.to) (may_target b d to.to) one.0 in
     let three = and_both (nat_lt i b.roots && is_empty (slot_of d 0)) (may_target b d from.to) two.0 in
     ltb-true i b.roots (and_both (nat_lt i b.roots) (is_empty (slot_of d 0)) three.0).0

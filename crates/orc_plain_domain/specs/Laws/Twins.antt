@@ -1,6 +1,5 @@
 -- What the discipline for tests owes to the trait of disciplines.
-use Rattle.std.proofs.Common.{List, None, Option, Some, [], ap, refl, sym, true, ℕ, ◌++◌, ◌∙◌, ◌∷◌, ◌≡◌}
-use Rattle.std.specs.List.{slice_get}
+use Rattle.std.proofs.Common.{List, [], ap, refl, sym, ℕ, ◌++◌, ◌∙◌, ◌∷◌, ◌≡◌}
 use Rattle.orc_heap.proofs.Fresh.{node-after, touched}
 use Rattle.orc_heap.proofs.Linked.{linked_after, side_after}
 use Rattle.orc_heap.proofs.Runs.{lawful-snoc}

@@ -1,4 +1,4 @@
-use Rattle.std.proofs.Common.{ap, arith, sym, ◌∙◌}
+use Rattle.std.proofs.Common.{arith, ◌∙◌}
 use Rattle.orc_machine_rest.proofs.Joins.{goes_none}
 use Rattle.orc_machine_rest.specs.Passes.{state_of}
 use Rattle.orc_machine_board.specs.Views.{board_bounds, shows}

@@ -50,8 +50,8 @@ returns-in_err-check-clause-pass g c =
     let t = stage g.D.Discipline k _ _ e.belongs.keeps in
     record {
       board = e.belongs;
-      ready = still_ready s.view.record_is t.view.record_is e.checks.idle.same is.ready;
-      untouched = read_untouched s t e.checks.idle is.untouched;
+      ready = still_ready s.view.record_is t.view.record_is e.checks.same is.ready;
+      untouched = read_untouched s t e.checks is.untouched;
       inside = is.inside;
     }
 
@@ -63,7 +63,7 @@ store-requires-2-clause-untouched g c =
     let e = c.check.ensures in
     let s = stage g.D.Discipline k _ _ is.board.keeps in
     let t = stage g.D.Discipline k _ _ e.belongs.keeps in
-    read_untouched s t e.checks.idle is.untouched
+    read_untouched s t e.checks is.untouched
 
 pub store-requires-2-clause-fresh : goal.store-requires-2-clause-fresh
 store-requires-2-clause-fresh g c =
@@ -72,7 +72,7 @@ store-requires-2-clause-fresh g c =
     let s = stage g.D.Discipline k _ _ c.requires.pass.board.keeps in
     let t = stage g.D.Discipline k _ _ e.belongs.keeps in
     subst (λ r. names t.view.record_is.fresh r ≡ true) (sym c.row-2.ensures)
-    (fresh_row t c.args.fresh.now (fresh_on s t e.checks.idle c.args.fresh.now c.requires.fresh))
+    (fresh_row t c.args.fresh.now (fresh_on s t e.checks c.args.fresh.now c.requires.fresh))
 
 pub store-requires-2-clause-target : goal.store-requires-2-clause-target
 store-requires-2-clause-target g c =
@@ -80,7 +80,7 @@ store-requires-2-clause-target g c =
     let e = c.check.ensures in
     let s = stage g.D.Discipline k _ _ c.requires.pass.board.keeps in
     let t = stage g.D.Discipline k _ _ e.belongs.keeps in
-    let target = target_on s t e.checks.idle (Some c.in-Some.h) (subst (HoldsTarget (seat s)) c.in-Some.is c.requires.target) in
+    let target = target_on s t e.checks (Some c.in-Some.h) (subst (HoldsTarget (seat s)) c.in-Some.is c.requires.target) in
     subst (λ r. may_target (domain_bounds c.args.self.now) t.view.record_is (Some r) ≡ true) (sym c.row-3.ensures) (hold_target t c.in-Some.h.now target.0)
 
 pub store-requires-2-clause-other : goal.store-requires-2-clause-other
@@ -89,7 +89,7 @@ store-requires-2-clause-other g c r is =
     let e = c.check.ensures in
     let s = stage g.D.Discipline k _ _ c.requires.pass.board.keeps in
     let t = stage g.D.Discipline k _ _ e.belongs.keeps in
-    let target = target_on s t e.checks.idle (Some c.in-Some.h) (subst (HoldsTarget (seat s)) c.in-Some.is c.requires.target) in
+    let target = target_on s t e.checks (Some c.in-Some.h) (subst (HoldsTarget (seat s)) c.in-Some.is c.requires.target) in
     let same : c.row-3.result ≡ r = cc in
     subst (λ x. names t.view.record_is.fresh x ≡ false) (sym c.row-3.ensures ∙ same) (not_fresh t c.in-Some.h.now target.0 target.1)
 
@@ -99,11 +99,11 @@ store-requires-2-clause-licensed g c =
     let e = c.check.ensures in
     let s = stage g.D.Discipline k _ _ c.requires.pass.board.keeps in
     let t = stage g.D.Discipline k _ _ e.belongs.keeps in
-    let fresh = fresh_on s t e.checks.idle c.args.fresh.now c.requires.fresh in
-    let target = target_on s t e.checks.idle c.args.to c.requires.target in
+    let fresh = fresh_on s t e.checks c.args.fresh.now c.requires.fresh in
+    let target = target_on s t e.checks c.args.to c.requires.target in
     subst (λ (z : ℕ × Option ℕ). AimAllowed (g.D.Discipline.may (heap_numbers k)) (domain_bounds c.args.self.now) t.view z.0 c.args.number z.1)
     (λ i. (sym c.row-2.ensures i, (ap (λ (o : Option (Bor Hold)). (target_link o).to) c.in-Some.is ∙ ap Some (sym c.row-3.ensures)) i))
-    (aim_allowed t c.args.number c.args.fresh.now c.args.to fresh.held target (aim_on s t e.checks.idle c.args.number c.args.fresh.now c.args.to c.requires.allowed))
+    (aim_allowed t c.args.number c.args.fresh.now c.args.to fresh.held target (aim_on s t e.checks c.args.number c.args.fresh.now c.args.to c.requires.allowed))
 
 pub returns-clause-aimed : goal.returns-clause-aimed
 returns-clause-aimed g c =
@@ -112,9 +112,9 @@ returns-clause-aimed g c =
     let s = stage g.D.Discipline k _ _ c.requires.pass.board.keeps in
     let t = stage g.D.Discipline k _ _ e.belongs.keeps in
     let u = stage g.D.Discipline k _ _ c.store-2.ensures.belongs.keeps in
-    let fresh = fresh_on s t e.checks.idle c.args.fresh.now c.requires.fresh in
-    let target = target_on s t e.checks.idle c.args.to c.requires.target in
-    aims_both s t e.checks.idle c.args.number u c.args.fresh.now c.args.to (aims t c.args.number c.args.fresh.now c.args.to fresh.held target u
+    let fresh = fresh_on s t e.checks c.args.fresh.now c.requires.fresh in
+    let target = target_on s t e.checks c.args.to c.requires.target in
+    aims_both s t e.checks c.args.number u c.args.fresh.now c.args.to (aims t c.args.number c.args.fresh.now c.args.to fresh.held target u
     (subst (λ (z : ℕ × Option ℕ). Stores (domain_bounds c.args.self.now) z.0 c.args.number z.1 t.view u.view)
     (λ i. (c.row-2.ensures i, (ap Some c.row-3.ensures ∙ sym (ap (λ (o : Option (Bor Hold)). (target_link o).to) c.in-Some.is)) i))
     c.store-2.ensures.stores))
@@ -126,4 +126,4 @@ returns-clause-taken_in g c =
     let s = stage g.D.Discipline k _ _ c.requires.pass.board.keeps in
     let t = stage g.D.Discipline k _ _ e.belongs.keeps in
     let u = stage g.D.Discipline k _ _ c.store-2.ensures.belongs.keeps in
-    leaves_both s t e.checks.idle u e.checks.leaves c.store-2.ensures.leaves
+    leaves_both s t e.checks u e.checks.leaves c.store-2.ensures.leaves

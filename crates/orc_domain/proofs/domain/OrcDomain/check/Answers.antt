@@ -1,4 +1,4 @@
-use Rattle.std.proofs.Common.{arith, subst, sym, ◌+◌, ◌≤◌}
+use Rattle.std.proofs.Common.{arith, subst, sym, ◌≤◌}
 use Rattle.orc_core.specs.declared.ops.CounterUse.TheVariants.{Check}
 use Rattle.orc_core.specs.declared.ops.Op.TheVariants.{CounterLoad}
 use Rattle.orc_machine_board.specs.Kinds.{MakesPlain, MayDo}
@@ -6,6 +6,7 @@ use Rattle.orc_domain.proofs.Seats.{ready_calm}
 use Rattle.orc_domain.proofs.Stages.{stage}
 use Rattle.orc_domain.proofs.Wearing.{check_can, checks, is_worn, is_worn_in}
 use Rattle.orc_domain.specs.Passes.{domain_bounds}
+use Rattle.orc_words.specs.Bounds.{link_limit}
 use Rattle.orc_words.specs.Packed.{sequence_of}
 use Rattle.orc_domain.proofs.domain.OrcDomain.check.Given.{Over}
 use Rattle.orc_domain.proofs.domain.OrcDomain.check.Goals.{After-counter_load-counter}
@@ -28,34 +29,34 @@ counter_load-counter-requires-clause-allowed g c =
     subst (λ r. MayDo (domain_bounds c.args.self.now) s.view (CounterLoad r Check)) (sym c.row-row.ensures)
     (check_can s c.args.h.now c.requires.held (ready_calm s.view.record_is c.requires.ready))
 
-pub returns-then-sequence-limit-clause-checks : goal.returns-then-sequence-limit-clause-checks
-returns-then-sequence-limit-clause-checks g c =
+pub returns-then-sequence-link_limit-clause-checks : goal.returns-then-sequence-link_limit-clause-checks
+returns-then-sequence-link_limit-clause-checks g c =
     let k = c.args.self.now.board.words.shape in
     checks (stage g.D.Discipline k _ _ c.requires.belongs.keeps) c.args.h.now c.requires.held
     (stage g.D.Discipline k _ _ c.counter_load-counter.ensures.belongs.keeps) c.counter_load-counter.result
-    (loaded g (goal.at.returns-then-sequence-limit-clause-checks g c).After-counter_load-counter)
+    (loaded g (goal.at.returns-then-sequence-link_limit-clause-checks g c).After-counter_load-counter)
 
-pub returns-then-sequence-limit-clause-spent : goal.returns-then-sequence-limit-clause-spent
-returns-then-sequence-limit-clause-spent g c =
-    let m = loaded g (goal.at.returns-then-sequence-limit-clause-spent g c).After-counter_load-counter in
+pub returns-then-sequence-link_limit-clause-spent : goal.returns-then-sequence-link_limit-clause-spent
+returns-then-sequence-link_limit-clause-spent g c =
+    let m = loaded g (goal.at.returns-then-sequence-link_limit-clause-spent g c).After-counter_load-counter in
     let k = c.args.self.now.board.words.shape in
     let n = c.counter_load-counter.result in
-    let is = c.if-sequence-limit.true in
-    let one = c.limit.ensures in
+    let is = c.if-sequence-link_limit.true in
+    let one = c.link_limit.ensures in
     let two = c.shape.ensures in
-    let high : (domain_bounds c.args.self.now).limit + 64 ≤ sequence_of n = grind arith in
+    let high : link_limit (domain_bounds c.args.self.now) ≤ sequence_of n = grind arith in
     is_worn (stage g.D.Discipline k _ _ c.requires.belongs.keeps) c.args.h.now c.requires.held
     (stage g.D.Discipline k _ _ c.counter_load-counter.ensures.belongs.keeps) n m _ (λ i. record { row = c.row-row.ensures i; sequence = sequence_of n }) high
 
-pub returns-then-sequence-limit-clause-worn : goal.returns-then-sequence-limit-clause-worn
-returns-then-sequence-limit-clause-worn g c =
-    let m = loaded g (goal.at.returns-then-sequence-limit-clause-worn g c).After-counter_load-counter in
+pub returns-then-sequence-link_limit-clause-worn : goal.returns-then-sequence-link_limit-clause-worn
+returns-then-sequence-link_limit-clause-worn g c =
+    let m = loaded g (goal.at.returns-then-sequence-link_limit-clause-worn g c).After-counter_load-counter in
     let k = c.args.self.now.board.words.shape in
     let n = c.counter_load-counter.result in
-    let is = c.if-sequence-limit.true in
-    let one = c.limit.ensures in
+    let is = c.if-sequence-link_limit.true in
+    let one = c.link_limit.ensures in
     let two = c.shape.ensures in
-    let high : (domain_bounds c.args.self.now).limit + 64 ≤ sequence_of n = grind arith in
+    let high : link_limit (domain_bounds c.args.self.now) ≤ sequence_of n = grind arith in
     is_worn_in (stage g.D.Discipline k _ _ c.requires.belongs.keeps) c.args.h.now c.requires.held
     (stage g.D.Discipline k _ _ c.counter_load-counter.ensures.belongs.keeps) n m _ (λ i. record { row = c.row-row.ensures i; sequence = sequence_of n }) high
 

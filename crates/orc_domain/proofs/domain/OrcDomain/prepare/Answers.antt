@@ -4,18 +4,19 @@ use Rattle.orc_heap.specs.Calls.{RefusesSwing}
 use Rattle.orc_heap.specs.Seats.{HoldsWant}
 use Rattle.orc_machine_board.specs.Views.{shows}
 use Rattle.orc_domain.proofs.Linking.{link_other}
+use Rattle.orc_domain.proofs.Searching.{idle_none}
 use Rattle.orc_domain.proofs.Stages.{seat, stage}
-use Rattle.orc_domain.proofs.Swinging.{checks_none, if_err_map, not_equal}
+use Rattle.orc_domain.proofs.Swinging.{if_err_map, not_equal}
 use Rattle.orc_domain.specs.Passes.{domain_bounds}
 use Rattle.orc_domain.specs.Seats.{seat_by}
 use Rattle.orc_words.specs.declared.packed.RowLink.{RowLink}
 use Rattle.orc_domain.proofs.domain.OrcDomain.prepare.Goals as goal
 
 pub returns-in_default-clause-checks : goal.returns-in_default-clause-checks
-returns-in_default-clause-checks g c = checks_none (domain_bounds c.args.self.now) (shows c.args.p.now)
+returns-in_default-clause-checks g c = idle_none (domain_bounds c.args.self.now) (shows c.args.p.now)
 
 pub returns-then-eq-clause-checks : goal.returns-then-eq-clause-checks
-returns-then-eq-clause-checks g c = checks_none (domain_bounds c.args.self.now) (shows c.args.p.now)
+returns-then-eq-clause-checks g c = idle_none (domain_bounds c.args.self.now) (shows c.args.p.now)
 
 pub returns-clause-spent : goal.returns-clause-spent
 returns-clause-spent g c =

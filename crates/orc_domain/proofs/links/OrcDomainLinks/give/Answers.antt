@@ -1,6 +1,6 @@
 use Rattle.std.proofs.Common.{ap, arith, refl, subst, sym, ◌∙◌, ◌%◌, ◌+◌, ◌<◌, ◌≡◌}
 use Rattle.std.proofs.Math.Nat.{mod-lt}
-use Rattle.orc_domain.proofs.Giving.{Took, filled_later, first_can, gives, gives_between, gives_later, publish_can, second_can}
+use Rattle.orc_domain.proofs.Giving.{Took, filled_later, first_can, gives, gives_between, gives_later, gives_leaves, publish_can, second_can}
 use Rattle.orc_domain.proofs.Rounds.{next_grows, tries_all, tries_then}
 use Rattle.orc_domain.proofs.Stages.{stage}
 use Rattle.orc_domain.proofs.TakingIn.{takes_free}
@@ -29,6 +29,10 @@ returns-in_default-clause-lacking g c =
     let u = stage d k _ _ c.take_in_free.ensures.belongs.keeps in
     tries_all c.args.p.now.next s u c.requires.pass.inside
     (tries_then _ _ _ _ _ _ _ (c.search.ensures.tried c.in_default.is) c.take_in_free.ensures.idle)
+
+pub returns-in_default-clause-leaves : goal.returns-in_default-clause-leaves
+returns-in_default-clause-leaves g c =
+    (tries_then _ _ _ _ _ _ _ (c.search.ensures.tried c.in_default.is) c.take_in_free.ensures.idle).idle.leaves
 
 pub returns-in_default-clause-taken_in : goal.returns-in_default-clause-taken_in
 returns-in_default-clause-taken_in g c =
@@ -112,6 +116,19 @@ returns-clause-later g c =
     let v = stage d k _ _ c.fill-2.ensures.belongs.keeps in
     let w = stage d k _ _ c.publish.ensures.belongs.keeps in
     gives_later s t c.in-Some.row took u c.args.first c.fill.result c.fill.ensures.made
+    v c.args.second c.fill-2.result c.fill-2.ensures.made c.args.slot c.requires.slot w c.publish.result c.publish.ensures.made
+
+pub returns-clause-leaves : goal.returns-clause-leaves
+returns-clause-leaves g c =
+    let k = c.args.self.now.board.words.shape in
+    let d = g.D.Discipline in
+    let took = taken g (goal.at.returns-clause-leaves g c).In-Some in
+    let s = stage d k _ _ c.requires.pass.board.keeps in
+    let t = stage d k _ _ c.search.ensures.belongs.keeps in
+    let u = stage d k _ _ c.fill.ensures.belongs.keeps in
+    let v = stage d k _ _ c.fill-2.ensures.belongs.keeps in
+    let w = stage d k _ _ c.publish.ensures.belongs.keeps in
+    gives_leaves s t c.in-Some.row took u c.args.first c.fill.result c.fill.ensures.made
     v c.args.second c.fill-2.result c.fill-2.ensures.made c.args.slot c.requires.slot w c.publish.result c.publish.ensures.made
 
 pub returns-clause-given : goal.returns-clause-given

@@ -1,6 +1,7 @@
-use Rattle.std.proofs.Common.{◌≡◌, ◌≢◌}
-use Rattle.orc_plain_domain.proofs.Equal.{links_agree, links_differ}
-use Rattle.orc_domain.proofs.Looking.{Begun, clear_can, calm3, held_between, held_leaves, load_can, look_held, look_moved, look_null, moved_between, moved_leaves, null_between, null_leaves, publish_can, reload_can}
+use Rattle.std.proofs.Common.{refl}
+use Rattle.orc_domain.proofs.Looking.{Begun, begin_can, held_leaves, look_between, look_held, look_moved, look_null, moved_between, moved_leaves, null_between, null_leaves}
+use Rattle.orc_machine_rest.proofs.TakenIn.{done_later}
+use Rattle.orc_domain.proofs.Protected.{may_protect, stayed, went_off}
 use Rattle.orc_domain.proofs.Stages.{stage}
 use Rattle.orc_domain.proofs.links.OrcDomainLinks.look.Given.{Over}
 use Rattle.orc_domain.proofs.links.OrcDomainLinks.look.Goals.{After-word_at-word}
@@ -17,7 +18,7 @@ begun g c = record {
 }
 
 pub load-one-requires-clause-allowed : goal.load-one-requires-clause-allowed
-load-one-requires-clause-allowed g c = load_can (begun g (goal.at.load-one-requires-clause-allowed g c).After-word_at-word)
+load-one-requires-clause-allowed g c = begin_can (begun g (goal.at.load-one-requires-clause-allowed g c).After-word_at-word)
 
 pub returns-in_default-clause-pass : goal.returns-in_default-clause-pass
 returns-in_default-clause-pass g c =
@@ -44,89 +45,12 @@ returns-in_default-clause-taken_in g c =
     let t = stage g.D.Discipline k _ _ one.ensures.belongs.keeps in
     null_leaves l t one.result one.ensures.made one.ensures.link
 
-pub publish-requires-clause-allowed : goal.publish-requires-clause-allowed
-publish-requires-clause-allowed g c =
-    let k = c.args.self.now.board.words.shape in
-    let l = begun g (goal.at.publish-requires-clause-allowed g c).After-word_at-word in
+pub protect-same-requires-clause-allowed : goal.protect-same-requires-clause-allowed
+protect-same-requires-clause-allowed g c =
+    let l = begun g (goal.at.protect-same-requires-clause-allowed g c).After-word_at-word in
     let one = c.load-one in
-    let t = stage g.D.Discipline k _ _ one.ensures.belongs.keeps in
-    publish_can l t one.result one.ensures.made one.ensures.link c.in-Some.row c.in-Some.is
-
-pub load-two-requires-clause-allowed : goal.load-two-requires-clause-allowed
-load-two-requires-clause-allowed g c =
-    let k = c.args.self.now.board.words.shape in
-    let l = begun g (goal.at.load-two-requires-clause-allowed g c).After-word_at-word in
-    let one = c.load-one in
-    let t = stage g.D.Discipline k _ _ one.ensures.belongs.keeps in
-    let u = stage g.D.Discipline k _ _ c.publish.ensures.belongs.keeps in
-    reload_can l t one.result one.ensures.made one.ensures.link c.in-Some.row c.in-Some.is u c.publish.result c.publish.ensures.made
-
-pub unlock-requires-clause-allowed : goal.unlock-requires-clause-allowed
-unlock-requires-clause-allowed g c =
-    let k = c.args.self.now.board.words.shape in
-    let l = begun g (goal.at.unlock-requires-clause-allowed g c).After-word_at-word in
-    let one = c.load-one in
-    let t = stage g.D.Discipline k _ _ one.ensures.belongs.keeps in
-    let u = stage g.D.Discipline k _ _ c.publish.ensures.belongs.keeps in
-    let two = c.load-two in
-    let y = stage g.D.Discipline k _ _ two.ensures.belongs.keeps in
-    clear_can l t one.result one.ensures.made one.ensures.link c.in-Some.row c.in-Some.is u c.publish.result c.publish.ensures.made
-    y two.result two.ensures.made two.ensures.link
-
-pub unlock-requires-clause-calm : goal.unlock-requires-clause-calm
-unlock-requires-clause-calm g c =
-    let k = c.args.self.now.board.words.shape in
-    let l = begun g (goal.at.unlock-requires-clause-calm g c).After-word_at-word in
-    let one = c.load-one in
-    let t = stage g.D.Discipline k _ _ one.ensures.belongs.keeps in
-    let u = stage g.D.Discipline k _ _ c.publish.ensures.belongs.keeps in
-    let two = c.load-two in
-    let y = stage g.D.Discipline k _ _ two.ensures.belongs.keeps in
-    calm3 l t one.result one.ensures.made one.ensures.link c.in-Some.row c.in-Some.is u c.publish.result c.publish.ensures.made
-    y two.result two.ensures.made two.ensures.link
-
-pub returns-then-ne-clause-pass : goal.returns-then-ne-clause-pass
-returns-then-ne-clause-pass g c =
-    let k = c.args.self.now.board.words.shape in
-    let l = begun g (goal.at.returns-then-ne-clause-pass g c).After-word_at-word in
-    let one = c.load-one in
-    let t = stage g.D.Discipline k _ _ one.ensures.belongs.keeps in
-    let u = stage g.D.Discipline k _ _ c.publish.ensures.belongs.keeps in
-    let two = c.load-two in
-    let y = stage g.D.Discipline k _ _ two.ensures.belongs.keeps in
-    let z = stage g.D.Discipline k _ _ c.unlock.ensures.belongs.keeps in
-    let other : two.result ≢ one.result = links_differ two.result one.result c.ne.result c.ne.ensures c.if-ne.true in
-    let next = moved_between l t one.result one.ensures.made one.ensures.link c.in-Some.row c.in-Some.is u c.publish.result c.publish.ensures.made
-    y two.result two.ensures.made two.ensures.link other z c.unlock.ensures.unlocks in
-    record { board = c.unlock.ensures.belongs; ready = next.ready; untouched = next.untouched; inside = c.requires.pass.inside }
-
-pub returns-then-ne-clause-looked : goal.returns-then-ne-clause-looked
-returns-then-ne-clause-looked g c =
-    let k = c.args.self.now.board.words.shape in
-    let l = begun g (goal.at.returns-then-ne-clause-looked g c).After-word_at-word in
-    let one = c.load-one in
-    let t = stage g.D.Discipline k _ _ one.ensures.belongs.keeps in
-    let u = stage g.D.Discipline k _ _ c.publish.ensures.belongs.keeps in
-    let two = c.load-two in
-    let y = stage g.D.Discipline k _ _ two.ensures.belongs.keeps in
-    let z = stage g.D.Discipline k _ _ c.unlock.ensures.belongs.keeps in
-    let other : two.result ≢ one.result = links_differ two.result one.result c.ne.result c.ne.ensures c.if-ne.true in
-    look_moved l t one.result one.ensures.made one.ensures.link c.in-Some.row c.in-Some.is u c.publish.result c.publish.ensures.made
-    y two.result two.ensures.made two.ensures.link other z c.unlock.ensures.unlocks
-
-pub returns-then-ne-clause-taken_in : goal.returns-then-ne-clause-taken_in
-returns-then-ne-clause-taken_in g c =
-    let k = c.args.self.now.board.words.shape in
-    let l = begun g (goal.at.returns-then-ne-clause-taken_in g c).After-word_at-word in
-    let one = c.load-one in
-    let t = stage g.D.Discipline k _ _ one.ensures.belongs.keeps in
-    let u = stage g.D.Discipline k _ _ c.publish.ensures.belongs.keeps in
-    let two = c.load-two in
-    let y = stage g.D.Discipline k _ _ two.ensures.belongs.keeps in
-    let z = stage g.D.Discipline k _ _ c.unlock.ensures.belongs.keeps in
-    let other : two.result ≢ one.result = links_differ two.result one.result c.ne.result c.ne.ensures c.if-ne.true in
-    moved_leaves l t one.result one.ensures.made one.ensures.link c.in-Some.row c.in-Some.is u c.publish.result c.publish.ensures.made
-    y two.result two.ensures.made two.ensures.link other z c.unlock.ensures.unlocks
+    may_protect c.args.self.now.board _ _ c.args.place.now c.word_at-word.result c.args.slot one.result c.requires.pass.board one.ensures.belongs l
+    one.ensures.made one.ensures.link c.in-Some.row c.in-Some.is
 
 pub returns-clause-pass : goal.returns-clause-pass
 returns-clause-pass g c =
@@ -134,13 +58,13 @@ returns-clause-pass g c =
     let l = begun g (goal.at.returns-clause-pass g c).After-word_at-word in
     let one = c.load-one in
     let t = stage g.D.Discipline k _ _ one.ensures.belongs.keeps in
-    let u = stage g.D.Discipline k _ _ c.publish.ensures.belongs.keeps in
-    let two = c.load-two in
-    let y = stage g.D.Discipline k _ _ two.ensures.belongs.keeps in
-    let same : two.result ≡ one.result = links_agree two.result one.result c.ne.result c.ne.ensures c.if-ne.false in
-    let next = held_between l t one.result one.ensures.made one.ensures.link c.in-Some.row c.in-Some.is u c.publish.result c.publish.ensures.made
-    y two.result two.ensures.made two.ensures.link same in
-    record { board = two.ensures.belongs; ready = next.ready; untouched = next.untouched; inside = c.requires.pass.inside }
+    let e = went_off c.protect-same.ensures.protects c.if-same.false in
+    let u = stage g.D.Discipline k _ _ e.published.belongs.keeps in
+    let y = stage g.D.Discipline k _ _ e.reread.belongs.keeps in
+    let z = stage g.D.Discipline k _ _ c.protect-same.ensures.belongs.keeps in
+    let next = moved_between l t one.result one.ensures.made one.ensures.link c.in-Some.row c.in-Some.is u e.published.number e.published.made
+    y e.two e.reread.made e.reread.is e.other z e.unlocks in
+    record { board = c.protect-same.ensures.belongs; ready = next.ready; untouched = next.untouched; inside = c.requires.pass.inside }
 
 pub returns-clause-looked : goal.returns-clause-looked
 returns-clause-looked g c =
@@ -148,12 +72,12 @@ returns-clause-looked g c =
     let l = begun g (goal.at.returns-clause-looked g c).After-word_at-word in
     let one = c.load-one in
     let t = stage g.D.Discipline k _ _ one.ensures.belongs.keeps in
-    let u = stage g.D.Discipline k _ _ c.publish.ensures.belongs.keeps in
-    let two = c.load-two in
-    let y = stage g.D.Discipline k _ _ two.ensures.belongs.keeps in
-    let same : two.result ≡ one.result = links_agree two.result one.result c.ne.result c.ne.ensures c.if-ne.false in
-    look_held l t one.result one.ensures.made one.ensures.link c.in-Some.row c.in-Some.is u c.publish.result c.publish.ensures.made
-    y two.result two.ensures.made two.ensures.link same c.new.result c.new.ensures
+    let e = went_off c.protect-same.ensures.protects c.if-same.false in
+    let u = stage g.D.Discipline k _ _ e.published.belongs.keeps in
+    let y = stage g.D.Discipline k _ _ e.reread.belongs.keeps in
+    let z = stage g.D.Discipline k _ _ c.protect-same.ensures.belongs.keeps in
+    look_moved l t one.result one.ensures.made one.ensures.link c.in-Some.row c.in-Some.is u e.published.number e.published.made
+    y e.two e.reread.made e.reread.is e.other z e.unlocks
 
 pub returns-clause-taken_in : goal.returns-clause-taken_in
 returns-clause-taken_in g c =
@@ -161,9 +85,71 @@ returns-clause-taken_in g c =
     let l = begun g (goal.at.returns-clause-taken_in g c).After-word_at-word in
     let one = c.load-one in
     let t = stage g.D.Discipline k _ _ one.ensures.belongs.keeps in
-    let u = stage g.D.Discipline k _ _ c.publish.ensures.belongs.keeps in
-    let two = c.load-two in
-    let y = stage g.D.Discipline k _ _ two.ensures.belongs.keeps in
-    let same : two.result ≡ one.result = links_agree two.result one.result c.ne.result c.ne.ensures c.if-ne.false in
-    held_leaves l t one.result one.ensures.made one.ensures.link c.in-Some.row c.in-Some.is u c.publish.result c.publish.ensures.made
-    y two.result two.ensures.made two.ensures.link same
+    let e = went_off c.protect-same.ensures.protects c.if-same.false in
+    let u = stage g.D.Discipline k _ _ e.published.belongs.keeps in
+    let y = stage g.D.Discipline k _ _ e.reread.belongs.keeps in
+    let z = stage g.D.Discipline k _ _ c.protect-same.ensures.belongs.keeps in
+    moved_leaves l t one.result one.ensures.made one.ensures.link c.in-Some.row c.in-Some.is u e.published.number e.published.made
+    y e.two e.reread.made e.reread.is e.other z e.unlocks
+
+pub returns-clause-later : goal.returns-clause-later
+returns-clause-later g c =
+    let k = c.args.self.now.board.words.shape in
+    let l = begun g (goal.at.returns-clause-later g c).After-word_at-word in
+    let one = c.load-one in
+    let t = stage g.D.Discipline k _ _ one.ensures.belongs.keeps in
+    let e = went_off c.protect-same.ensures.protects c.if-same.false in
+    let u = stage g.D.Discipline k _ _ e.published.belongs.keeps in
+    let y = stage g.D.Discipline k _ _ e.reread.belongs.keeps in
+    let z = stage g.D.Discipline k _ _ c.protect-same.ensures.belongs.keeps in
+    done_later _ _ _ _ (moved_leaves l t one.result one.ensures.made one.ensures.link c.in-Some.row c.in-Some.is u e.published.number e.published.made
+    y e.two e.reread.made e.reread.is e.other z e.unlocks).done
+
+pub returns-then-same-clause-pass : goal.returns-then-same-clause-pass
+returns-then-same-clause-pass g c =
+    let k = c.args.self.now.board.words.shape in
+    let l = begun g (goal.at.returns-then-same-clause-pass g c).After-word_at-word in
+    let one = c.load-one in
+    let t = stage g.D.Discipline k _ _ one.ensures.belongs.keeps in
+    let e = stayed c.protect-same.ensures.protects c.if-same.true in
+    let u = stage g.D.Discipline k _ _ e.published.belongs.keeps in
+    let y = stage g.D.Discipline k _ _ e.reread.belongs.keeps in
+    let next = look_between l t one.result one.ensures.made one.ensures.link c.in-Some.row c.in-Some.is u e.published.number e.published.made
+    y one.result e.reread.made e.reread.is refl in
+    record { board = e.reread.belongs; ready = next.ready; untouched = next.untouched; inside = c.requires.pass.inside }
+
+pub returns-then-same-clause-looked : goal.returns-then-same-clause-looked
+returns-then-same-clause-looked g c =
+    let k = c.args.self.now.board.words.shape in
+    let l = begun g (goal.at.returns-then-same-clause-looked g c).After-word_at-word in
+    let one = c.load-one in
+    let t = stage g.D.Discipline k _ _ one.ensures.belongs.keeps in
+    let e = stayed c.protect-same.ensures.protects c.if-same.true in
+    let u = stage g.D.Discipline k _ _ e.published.belongs.keeps in
+    let y = stage g.D.Discipline k _ _ e.reread.belongs.keeps in
+    look_held l t one.result one.ensures.made one.ensures.link c.in-Some.row c.in-Some.is u e.published.number e.published.made
+    y one.result e.reread.made e.reread.is refl c.new-held.result c.new-held.ensures
+
+pub returns-then-same-clause-taken_in : goal.returns-then-same-clause-taken_in
+returns-then-same-clause-taken_in g c =
+    let k = c.args.self.now.board.words.shape in
+    let l = begun g (goal.at.returns-then-same-clause-taken_in g c).After-word_at-word in
+    let one = c.load-one in
+    let t = stage g.D.Discipline k _ _ one.ensures.belongs.keeps in
+    let e = stayed c.protect-same.ensures.protects c.if-same.true in
+    let u = stage g.D.Discipline k _ _ e.published.belongs.keeps in
+    let y = stage g.D.Discipline k _ _ e.reread.belongs.keeps in
+    held_leaves l t one.result one.ensures.made one.ensures.link c.in-Some.row c.in-Some.is u e.published.number e.published.made
+    y one.result e.reread.made e.reread.is refl
+
+pub returns-then-same-clause-later : goal.returns-then-same-clause-later
+returns-then-same-clause-later g c =
+    let k = c.args.self.now.board.words.shape in
+    let l = begun g (goal.at.returns-then-same-clause-later g c).After-word_at-word in
+    let one = c.load-one in
+    let t = stage g.D.Discipline k _ _ one.ensures.belongs.keeps in
+    let e = stayed c.protect-same.ensures.protects c.if-same.true in
+    let u = stage g.D.Discipline k _ _ e.published.belongs.keeps in
+    let y = stage g.D.Discipline k _ _ e.reread.belongs.keeps in
+    done_later _ _ _ _ (held_leaves l t one.result one.ensures.made one.ensures.link c.in-Some.row c.in-Some.is u e.published.number e.published.made
+    y one.result e.reread.made e.reread.is refl).done

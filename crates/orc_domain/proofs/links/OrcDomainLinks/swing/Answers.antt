@@ -12,8 +12,8 @@ returns-in_err-prepare-clause-pass g c =
     let t = stage g.D.Discipline k _ _ e.belongs.keeps in
     record {
       board = e.belongs;
-      ready = still_ready s.view.record_is t.view.record_is e.checks.idle.same is.ready;
-      untouched = read_untouched s t e.checks.idle is.untouched;
+      ready = still_ready s.view.record_is t.view.record_is e.checks.same is.ready;
+      untouched = read_untouched s t e.checks is.untouched;
       inside = is.inside;
     }
 
@@ -24,7 +24,7 @@ exchange-done-requires-clause-untouched g c =
     let e = c.prepare.ensures in
     let s = stage g.D.Discipline k _ _ is.board.keeps in
     let t = stage g.D.Discipline k _ _ e.belongs.keeps in
-    read_untouched s t e.checks.idle is.untouched
+    read_untouched s t e.checks is.untouched
 
 pub exchange-done-requires-clause-allowed : goal.exchange-done-requires-clause-allowed
 exchange-done-requires-clause-allowed g c =
@@ -32,7 +32,7 @@ exchange-done-requires-clause-allowed g c =
     let e = c.prepare.ensures in
     let s = stage g.D.Discipline k _ _ c.requires.pass.board.keeps in
     let t = stage g.D.Discipline k _ _ e.belongs.keeps in
-    move_on s t e.checks.idle c.args.place.now c.args.from.now c.args.to.now c.args.note c.requires.allowed
+    move_on s t e.checks c.args.place.now c.args.from.now c.args.to.now c.args.note c.requires.allowed
 
 pub returns-clause-swung : goal.returns-clause-swung
 returns-clause-swung g c =
@@ -41,7 +41,7 @@ returns-clause-swung g c =
     let s = stage g.D.Discipline k _ _ c.requires.pass.board.keeps in
     let t = stage g.D.Discipline k _ _ e.belongs.keeps in
     let u = stage g.D.Discipline k _ _ c.exchange-done.ensures.belongs.keeps in
-    swings_both s t e.checks.idle u c.args.place.now c.args.from.now c.args.to.now c.args.note c.exchange-done.result c.exchange-done.ensures.swung
+    swings_both s t e.checks u c.args.place.now c.args.from.now c.args.to.now c.args.note c.exchange-done.result c.exchange-done.ensures.swung
 
 pub returns-clause-taken_in : goal.returns-clause-taken_in
 returns-clause-taken_in g c =
@@ -50,4 +50,4 @@ returns-clause-taken_in g c =
     let s = stage g.D.Discipline k _ _ c.requires.pass.board.keeps in
     let t = stage g.D.Discipline k _ _ e.belongs.keeps in
     let u = stage g.D.Discipline k _ _ c.exchange-done.ensures.belongs.keeps in
-    leaves_both s t e.checks.idle u e.checks.leaves c.exchange-done.ensures.leaves
+    leaves_both s t e.checks u e.checks.leaves c.exchange-done.ensures.leaves
