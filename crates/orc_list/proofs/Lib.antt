@@ -1,5 +1,4 @@
 pub mod Ordered
-pub mod Running
 pub mod Starting
 pub mod Making
 pub mod Answering

@@ -12,6 +12,7 @@ use Rattle.orc_heap.specs.declared.events.Place.TheVariants.{Root}
 use Rattle.orc_heap.specs.declared.holds.Looked.TheVariants.{Moved, Stable}
 use Rattle.orc_heap.specs.declared.holds.Seen.{Seen}
 use Rattle.orc_ordered_search.proofs.Held.{FreshIs}
+use Rattle.orc_ordered_search.proofs.Running.{goes_nothing}
 use Rattle.orc_ordered_search.proofs.Starting.{start_few, start_looks}
 use Rattle.orc_ordered_search.proofs.Stepping.{passed_some}
 use Rattle.orc_ordered_search.specs.Searches.{Begins, HasRoom}
@@ -21,7 +22,6 @@ use Rattle.orc_chain_rule.specs.ChainDiscipline.{ChainHolds, ChainMay}
 use Rattle.orc_chain_rule.specs.Laws.Kinds.{key_linked}
 use Rattle.orc_list.specs.Searches.{FindsMoved, Passed, Walks, list_reading}
 use Rattle.orc_list.proofs.Ordered.{list_ordering}
-use Rattle.orc_list.proofs.Running.{goes_nothing}
 
 begins_at_root : (n : HeapNumbers) (root wanted : ℕ) (s : Seat ChainNote) → root ≡ wanted % n.roots → Begins (list_reading n) (Root root) wanted None s s
 begins_at_root n root wanted s is = record {

@@ -1,13 +1,11 @@
 -- Why a call of the list is refused: facts of a journal and two places in it.
 use Rattle.std.specs.List.{list_all}
-use Rattle.std.specs.Prelude.{List, drop, if◌then◌else◌, length, take, true, ℕ, [], ◌∷◌, ◌*◌, ◌+◌, ◌<◌, ◌==◌, ◌≡◌, ◌≢◌, ◌≤◌}
+use Rattle.std.specs.Prelude.{List, drop, length, take, true, ℕ, ◌*◌, ◌+◌, ◌==◌, ◌≡◌, ◌≢◌, ◌≤◌}
 use Rattle.orc_fault.specs.declared.Spent.{Spent as SpentRow}
 use Rattle.orc_heap.specs.Heap.{HeapNumbers}
 use Rattle.orc_heap.specs.Journals.{run_heap}
-use Rattle.orc_heap.specs.Moves.{move_with}
 use Rattle.orc_heap.specs.declared.events.Event.{Event}
 use Rattle.orc_history.specs.Journals.{Within}
-use Rattle.orc_history.specs.Parts.{part_begin}
 use Rattle.orc_history.specs.declared.set.SetEntry.{SetEntry}
 use Rattle.orc_history.specs.declared.set.ListRefused.{ListRefused}
 use Rattle.orc_history.specs.declared.set.ListRefused.TheVariants.{Again, NoNode, Spent}

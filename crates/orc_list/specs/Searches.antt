@@ -1,14 +1,12 @@
 -- What a search of a list finds: where a key belongs on its chain. After Harris 2001.
-use Rattle.std.specs.Prelude.{Bool, Err, Ok, Option, Result, Some, false, ℕ, ◌≡◌, ◌≤◌}
+use Rattle.std.specs.Prelude.{Bool, Option, false, ℕ, ◌≤◌}
 use Rattle.orc_heap.specs.Heap.{HeapNumbers}
 use Rattle.orc_heap.specs.Seats.{Seat}
 use Rattle.orc_heap.specs.Slots.{Hold, Slots}
 use Rattle.orc_heap.specs.declared.events.Place.TheVariants.{Root}
 use Rattle.orc_heap.specs.declared.holds.Looked.{Looked}
-use Rattle.orc_heap.specs.declared.holds.Looked.TheVariants.{Moved, Stable}
-use Rattle.orc_heap.specs.declared.holds.Seen.{Seen}
 use Rattle.orc_ordered_search.specs.Reading.{Reading}
-use Rattle.orc_ordered_search.specs.Searches.{FindsAbsent as FindsRankAbsent, FindsMoved as FindsRankMoved, FindsPresent as FindsRankPresent, InHand as HasInHand, LooksOn as LooksOnAt, NextFollows as NextRankFollows, Passed as PassedAt, Stops as StopsAt, Walks as WalksAt}
+use Rattle.orc_ordered_search.specs.Searches.{FindsAbsent as FindsRankAbsent, FindsMoved as FindsRankMoved, FindsPresent as FindsRankPresent, InHand as HasInHand, LooksBy as LooksByAt, LooksOn as LooksOnAt, NextFollows as NextRankFollows, Passed as PassedAt, Stops as StopsAt, Walks as WalksAt}
 use Rattle.orc_ordered_search.specs.Ways.{IsFew}
 use Rattle.orc_chain_rule.specs.declared.chain.ChainNote.{ChainNote}
 use Rattle.orc_chain_rule.specs.ChainDiscipline.{chain_order, entries_in}
@@ -55,13 +53,7 @@ Stops n root wanted left first at s t = StopsAt (list_reading n) (Root root) wan
 
 -- by what the look found
 abbrev pub LooksBy : HeapNumbers → ℕ → ℕ → Option Hold → Option Hold → Hold → ℕ → Seat ChainNote → Looked → Seat ChainNote → Type 0
-LooksBy n root wanted left first at key s (Stable seen next) t = LooksOn n root wanted left first at key seen.mark next s t
-LooksBy n root wanted left first at key s Moved t = Stops n root wanted left first at s t
-
--- the look found an unmarked link to this node, or anything else
-abbrev pub FindsPlain : Looked → Result Hold Looked → Type 0
-FindsPlain looked (Ok next) = (seen : Seen) × (looked ≡ Stable seen (Some next)) × (seen.mark ≡ false)
-FindsPlain looked (Err other) = other ≡ looked
+LooksBy n root wanted left first at key s looked t = LooksByAt (list_reading n) (Root root) wanted left first at key false 0 s looked t
 
 -- beside what these slots held the pass has four once linked nodes in hand, as far as there are so many
 abbrev pub InHand : HeapNumbers → Slots → Option Hold → Option Hold → Option Hold → Option Hold → Seat ChainNote → Type 0

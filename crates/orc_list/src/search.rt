@@ -5,11 +5,11 @@ ghost use mathlib.Core.List.{IsPrefix};
 ghost use Rattle.orc_heap.specs.Seats.{Seat};
 ghost use Rattle.orc_chain_rule.specs.declared.chain.ChainNote.{ChainNote};
 ghost use Rattle.orc_ordered_search.specs.Searches.{HasRoom};
-ghost use Rattle.orc_list.specs.Searches.{Finds, FindsMoved, FindsPlain, LooksBy, LooksOn, Passed, StepsTo, Stops, Walks};
+ghost use Rattle.orc_list.specs.Searches.{Finds, FindsMoved, LooksBy, LooksOn, Passed, StepsTo, Stops, Walks};
 
 use crate::spot::{Spot, keep_first, let_all_go, let_go, slot_of, spare_slot};
 use orc_chain_rule::Chain;
-use orc_heap::{At, Held, Links, Looked};
+use orc_heap::{At, Held, Links, Looked, LookedOn};
 
 /// How far a search has come: the left place, the first of the marked nodes behind it, if there is one, and the node
 /// to which these lead, with its key.
@@ -248,25 +248,6 @@ fn step<L: Links<Rule = Chain>>(
     step_by(links, p, root, wanted, walk, looked)
 }
 
-// The node to which an unmarked link led, or else what the look found.
-#[inline(always)]
-fn plain_next(looked: Looked) -> Result<Held, Looked>
-    ensures { FindsPlain looked result }
-{
-    match looked {
-        Looked::Stable(seen, next) => {
-            if seen.mark {
-                return Err(Looked::Stable(seen, next));
-            }
-            match next {
-                Some(next) => Ok(next),
-                None => Err(Looked::Stable(seen, None)),
-            }
-        }
-        Looked::Moved => Err(Looked::Moved),
-    }
-}
-
 // Goes on over unmarked nodes with lower keys, and then one step more. The two nodes in hand stand in variables of their own, and
 // so in registers: most steps of a search are of this kind.
 fn pass_lower<L: Links<Rule = Chain>>(
@@ -290,16 +271,15 @@ fn pass_lower<L: Links<Rule = Chain>>(
     let mut left = left;
     let mut at = at;
     let mut key = key;
+    let spare = spare_slot(left.slot(), 8, at.slot());
     while key < wanted {
-        let slot = spare_slot(left.slot(), 8, at.slot());
-        match plain_next(links.look(p, &At::Node(&at), slot)) {
-            Ok(next) => {
-                links.release(p, left);
+        match links.look_on(p, &At::Node(&at), left, spare) {
+            LookedOn::On(next) => {
                 key = links.value(p, &next, 0);
                 left = at;
                 at = next;
             }
-            Err(looked) => {
+            LookedOn::Stays(left, looked) => {
                 let walk = Walk {
                     left: Some(left),
                     first: None,
@@ -307,6 +287,10 @@ fn pass_lower<L: Links<Rule = Chain>>(
                     key,
                 };
                 return step_by(links, p, root, wanted, walk, looked);
+            }
+            LookedOn::Moved => {
+                links.release(p, at);
+                return Stepped::End(Searched::Over);
             }
         }
     }

@@ -4,6 +4,7 @@ pub mod Quiets
 pub mod Held
 pub mod Stepping
 pub mod Walking
+pub mod Running
 pub mod Starting
 pub mod Alone
 pub mod Making

@@ -93,7 +93,7 @@ pub sees_run_snoc : {N : Type 0} (es : List (Event N)) (from : Link) (over : Lis
 sees_run_snoc es from [] id link run seen mark = (run, link, seen, mark, refl)
 sees_run_snoc es from (x ∷ xs) id link (is, next, s, m, run) seen mark = (is, next, s, m, sees_run_snoc es next xs id link run seen mark)
 
-next_is_of : {N : Type 0} (ord : Ordering N) (t : Seat N) (wanted id key : ℕ) (next : Option ℕ) → IsOf ord.reading wanted id key t → NextFollows ord.reading id next t
+pub next_is_of : {N : Type 0} (ord : Ordering N) (t : Seat N) (wanted id key : ℕ) (next : Option ℕ) → IsOf ord.reading wanted id key t → NextFollows ord.reading id next t
     → NextIsOf ord.reading wanted (key + 1) next t
 next_is_of {N} ord t wanted id key None k f = tt
 next_is_of {N} ord t wanted id key (Some next) k (high, own, follows) =
@@ -103,49 +103,39 @@ next_is_of {N} ord t wanted id key (Some next) k (high, own, follows) =
 
 -- a look at the node that the search has come to
 
-pub looks_on : {N : Type 0} (ord : Ordering N) (start : Place) (wanted : ℕ) (left first : Option Hold) (at : Hold) (key : ℕ) (counted : Bool) (passed : ℕ) (mark : Bool) (next : Option Hold) (next_id : ℕ)
+pub looking_at : {N : Type 0} (ord : Ordering N) (start : Place) (wanted : ℕ) (left first : Option Hold) (at : Hold) (key : ℕ) (counted : Bool) (passed : ℕ) (mark : Bool) (next : Option ℕ)
     (s t u : Seat N) (before : List (Event N))
     → (w : Walks ord.reading start wanted left first at key counted passed s t)
-    → Hands s.slots u.slots (hand next next_id ∷ hand left w.left_id ∷ hand first w.first_id ∷ hand (Some at) w.id ∷ []) → IsApartOf 1 next
-    → (p : Puts t (before ++ event_of t (Look (Next w.id) (record { to = node_of next next_id; mark = mark })) None ∷ []) u) → length before ≤ 1
-    → AreLoads (before ++ event_of t (Look (Next w.id) (record { to = node_of next next_id; mark = mark })) None ∷ [])
-    → noted_entries ord.reading.entries_in (before ++ event_of t (Look (Next w.id) (record { to = node_of next next_id; mark = mark })) None ∷ []) ≡ []
-    → gives_in (before ++ event_of t (Look (Next w.id) (record { to = node_of next next_id; mark = mark })) None ∷ []) ≡ 0
-    → moves_in (before ++ event_of t (Look (Next w.id) (record { to = node_of next next_id; mark = mark })) None ∷ []) ≡ 0
-    → u.fresh ≡ t.fresh → ord.holds t.seen → AllAllowed ord.may [] u.seen → LooksOn ord.reading start wanted left first at key counted passed mark next s u
-looks_on {N} ord start wanted left first at key counted passed mark next next_id s t u before w hands apart p short loads entries gives moves fresh holds all =
-    let link : Link = record { to = node_of next next_id; mark = mark } in
+    → (p : Puts t (before ++ event_of t (Look (Next w.id) (record { to = next; mark = mark })) None ∷ []) u) → length before ≤ 1
+    → AreLoads (before ++ event_of t (Look (Next w.id) (record { to = next; mark = mark })) None ∷ [])
+    → noted_entries ord.reading.entries_in (before ++ event_of t (Look (Next w.id) (record { to = next; mark = mark })) None ∷ []) ≡ []
+    → gives_in (before ++ event_of t (Look (Next w.id) (record { to = next; mark = mark })) None ∷ []) ≡ 0
+    → moves_in (before ++ event_of t (Look (Next w.id) (record { to = next; mark = mark })) None ∷ []) ≡ 0
+    → u.fresh ≡ t.fresh → ord.holds t.seen → AllAllowed ord.may [] u.seen
+    → Looking ord.reading start wanted left first w.left_id w.first_id w.id key counted passed mark next s
+    (w.own ++ (before ++ event_of t (Look (Next w.id) (record { to = next; mark = mark })) None ∷ [])) u
+looking_at {N} ord start wanted left first at key counted passed mark next s t u before w p short loads entries gives moves fresh holds all =
+    let link : Link = record { to = next; mark = mark } in
     let e : Event N = event_of t (Look (Next w.id) link) None in
     let ys : List (Event N) = before ++ e ∷ [] in
     let linked = rank_linked ord.reading.order (heap_of ord.reading.numbers t) w.id key w.is_of.has_key in
     let told = look_tells ord t u w.id key link before [] holds w.is_of.has_key p all in
     let found = look_found ord.reading.numbers ord.may ord.fits t u (Next w.id) link None before [] p all linked in
     let b = behind_puts ord t u ys p all start wanted left first w.left_id w.first_id (Some w.id) s w.own w.behind loads fresh entries gives moves in
-    let seen : Sees (w.own ++ ys) (Next w.id) link = sees_right w.own ys (Next w.id) link (sees_right before (e ∷ []) (Next w.id) link (inl refl)) in
     record {
-      own = w.own ++ ys;
-      left_id = w.left_id;
-      first_id = w.first_id;
-      id = w.id;
-      next_id = next_id;
-      hands = hands;
-      apart = (apart, w.apart);
-      looking = record {
-        behind = b;
-        is_of = is_of_puts ord t u ys p all wanted w.id key w.is_of;
-        still = lift ys p b.quiet.puts found;
-        frozen = told.frozen;
-        follows = told.follows;
-        sees = seen;
-        kind = λ is. uncounted_puts ord t u ys p all w.id (w.kind is);
-        visits =
-            visits_puts ord t u ys p all start wanted passed 2 4 (Some w.id) w.own (omega (arith, length-append before (e ∷ []), short)) w.visits;
-      };
+      behind = b;
+      is_of = is_of_puts ord t u ys p all wanted w.id key w.is_of;
+      still = lift ys p b.quiet.puts found;
+      frozen = told.frozen;
+      follows = told.follows;
+      sees = sees_right w.own ys (Next w.id) link (sees_right before (e ∷ []) (Next w.id) link (inl refl));
+      kind = λ is. uncounted_puts ord t u ys p all w.id (w.kind is);
+      visits = visits_puts ord t u ys p all start wanted passed 2 4 (Some w.id) w.own (omega (arith, length-append before (e ∷ []), short)) w.visits;
     }
   where
     lift : (ys : List (Event N)) (p : Puts t ys u) (q : Puts s (w.own ++ ys) u)
-        → ShowsOrMoved ord.reading.numbers (Next w.id) (record { to = node_of next next_id; mark = mark }) t u p.part
-        → ShowsOrMoved ord.reading.numbers (Next w.id) (record { to = node_of next next_id; mark = mark }) s u q.part
+        → ShowsOrMoved ord.reading.numbers (Next w.id) (record { to = next; mark = mark }) t u p.part
+        → ShowsOrMoved ord.reading.numbers (Next w.id) (record { to = next; mark = mark }) s u q.part
     lift ys p q (inl shows) = inl shows
     lift ys p q (inr moved) = inr (omega (arith, moved, own_moves_right s t u w.own ys (w.own ++ ys) w.behind.quiet.puts p q))
 
@@ -182,7 +172,7 @@ begins_here h first_id id over is = ([], ap (λ z. z ++ id ∷ []) is)
 
 -- past a node with a lower key, which is the left place from then on
 
-past_lower : {N : Type 0} (ord : Ordering N) (start : Place) (wanted : ℕ) (left first : Option Hold) (left_id first_id id key : ℕ) (counted : Bool) (passed : ℕ) (next : Option ℕ) (at : Hold) (s : Seat N)
+pub past_lower : {N : Type 0} (ord : Ordering N) (start : Place) (wanted : ℕ) (left first : Option Hold) (left_id first_id id key : ℕ) (counted : Bool) (passed : ℕ) (next : Option ℕ) (at : Hold) (s : Seat N)
     (own : List (Event N)) (t : Seat N)
     → Looking ord.reading start wanted left first left_id first_id id key counted passed false next s own t → key < wanted
     → Behind ord.reading start wanted (Some at) None id first_id next s own t
@@ -226,7 +216,7 @@ module _ {N : Type 0} (ord : Ordering N) (start : Place) (wanted : ℕ) (left fi
         counted = (passed, v.counted, inr (omega arith, inl (link, k.sees, refl)));
       }
 
-  visits_lower : (counted : Bool) (passed : ℕ) → Looking ord.reading start wanted left first left_id first_id id key counted passed false next s own t
+  pub visits_lower : (counted : Bool) (passed : ℕ) → Looking ord.reading start wanted left first left_id first_id id key counted passed false next s own t
       → key < wanted → Visits ord.reading start wanted (count_on counted passed) 2 next own t
   visits_lower true passed k less =
       let v = k.visits in

@@ -14,6 +14,8 @@ use Rattle.orc_heap.specs.declared.events.Event.{Event}
 use Rattle.orc_heap.specs.declared.events.Link.{Link}
 use Rattle.orc_heap.specs.declared.events.Place.{Place}
 use Rattle.orc_heap.specs.declared.events.Place.TheVariants.{Next, Root}
+use Rattle.orc_heap.specs.declared.holds.Looked.{Looked}
+use Rattle.orc_heap.specs.declared.holds.Looked.TheVariants.{Moved, Stable}
 use Rattle.orc_ordered_chains.specs.Chains.{FollowsOn, HasRank, IsAbove, IsChainPlace, IsRun, link_over}
 use Rattle.orc_ordered_search.specs.Ways.{AllGoOn, AreLoads, EndsRun, IsFew, IsWay, RanksFall, Sees}
 use Rattle.orc_ordered_search.specs.Reading.{Reading}
@@ -269,6 +271,11 @@ module _ {N : Type 0} where
     pub has_key : HasRank r.order (heap_of r.numbers t) id key
     pub moved : 1 ≤ moves_in (from_own s.agent behind.quiet.puts.part)
     pub few : IsFew 4 own
+
+  -- by what the look at that node's link found
+  abbrev pub LooksBy : Reading N → Place → ℕ → Option Hold → Option Hold → Hold → ℕ → Bool → ℕ → Seat N → Looked → Seat N → Type 0
+  LooksBy r start wanted left first at key counted passed s (Stable seen next) t = LooksOn r start wanted left first at key counted passed seen.mark next s t
+  LooksBy r start wanted left first at key counted passed s Moved t = Stops r start wanted left first at s t
 
   -- a node was let go, if there is one
   pub record LetsGo (node : Option Hold) (s t : Seat N) : Type 0 where

@@ -1,3 +1,4 @@
+pub mod Reversing
 pub mod Ordered
 pub mod Beginning
 pub mod Asking
@@ -17,4 +18,3 @@ pub mod Crowded
 pub mod Looking
 pub mod Reaching
 pub mod Stopping
-pub mod Reversing

@@ -1,7 +1,6 @@
 -- The discipline of the split-ordered set, as a search needs it.
 use mathlib.Core.List.{IsPrefix}
-use Rattle.std.proofs.Common.{append_assoc, List, None, Option, Some, [], ap, arith, false, refl, subst, suc, sym, zero, ℕ, ◌*◌, ◌+◌, ◌++◌, ◌<◌, ◌==◌, ◌∙◌, ◌∷◌, ◌≡◌, ◌≤◌, ◌^◌}
-use Rattle.std.specs.Int.{reverse_bits, w64}
+use Rattle.std.proofs.Common.{append_assoc, Bool, List, None, Option, Some, [], ap, arith, false, refl, subst, suc, sym, true, zero, ℕ, ◌++◌, ◌<◌, ◌==◌, ◌∙◌, ◌∷◌, ◌≡◌, ◌≤◌, ◌^◌}
 use Rattle.orc_heap.proofs.Calls.{Puts-trans}
 use Rattle.orc_heap.proofs.Hands.{hand_held, holds_of}
 use Rattle.orc_heap.proofs.SingleActs.{some_same}
@@ -13,7 +12,7 @@ use Rattle.orc_heap.specs.Journals.{run_heap}
 use Rattle.orc_heap.specs.OwnEvents.{Only}
 use Rattle.orc_heap.specs.Seats.{Seat, heap_of}
 use Rattle.orc_heap.specs.Hands.{Hands, hand}
-use Rattle.orc_heap.specs.Slots.{Hold, Slots, id_in}
+use Rattle.orc_heap.specs.Slots.{Hold, Holds, Slots, id_in}
 use Rattle.orc_heap.specs.declared.events.Event.{Event}
 use Rattle.orc_heap.specs.declared.events.Link.{Link}
 use Rattle.orc_heap.specs.declared.events.Place.{Place}
@@ -29,10 +28,13 @@ use Rattle.orc_ordered_search.proofs.Stepping.{passed_some}
 use Rattle.orc_split_rule.proofs.Later.{holds_later, may_fits, nothing_yet, values_later}
 use Rattle.orc_split_rule.proofs.OwnEntries.{entries_own}
 use Rattle.orc_split_rule.specs.SplitDiscipline.{SplitHolds, SplitMay}
-use Rattle.orc_split_rule.specs.SplitOrder.{place_of, reversed, split_order}
+use Rattle.orc_split_rule.specs.SplitOrder.{place_of, split_order}
 use Rattle.orc_split_rule.specs.Laws.Kept.{marked_next, split_keeps, split_moves_linked}
 use Rattle.orc_split_rule.specs.declared.split.SplitNote.{SplitNote}
-use Rattle.orc_split_set.specs.SplitSearches.{BeginsAt, IsDummyIfAny, says_key, split_reading}
+use Rattle.orc_split_set.specs.SplitSearches.{BeginsAt, IsDummyIfAny, StepsTo, says_key, split_place, split_reading}
+use Rattle.orc_split_set.proofs.Reversing.{reversed_fits}
+use Rattle.orc_split_set.specs.declared.search.Stepped.{Stepped}
+use Rattle.orc_split_set.specs.declared.search.Stepped.TheVariants.{End, On}
 
 abbrev pub split_ordering : HeapNumbers → Ordering SplitNote
 split_ordering n = record {
@@ -49,19 +51,20 @@ split_ordering n = record {
   moves = λ es e holds may. split_moves_linked n es e holds may;
 }
 
-pub place_is : (a b : ℕ) → a < 2 ^ 64 → reverse_bits w64 a * 2 + b ≡ 2 * reversed a + b
-unfolding reversed
-place_is a b low = omega (arith, low)
+-- a place of such a value is a number of 128 bits
+pub rank_fits : (value : ℕ) (has_key : Bool) → value < 2 ^ 64 → split_place value has_key < 2 ^ 128
+rank_fits value true less = omega (arith, reversed_fits value less)
+rank_fits value false less = omega (arith, reversed_fits value less)
 
 -- values that were read of a node on the chain give its place, and whether it has a key
 
-place_read : (first second : Option ℕ) (rank a b : ℕ) → place_of first second ≡ Some rank → ((v : ℕ) → first ≡ Some v → a ≡ v)
-    → ((v : ℕ) → second ≡ Some v → b ≡ v) → 2 * reversed a + b ≡ rank
-place_read None second rank a b is one two = cc
-place_read (Some f) None rank a b is one two = cc
-place_read (Some f) (Some zero) rank a b is one two = rw (one f refl, two 0 refl) (omega (arith, some_same is))
-place_read (Some f) (Some (suc zero)) rank a b is one two = rw (one f refl, two 1 refl) (some_same is)
-place_read (Some f) (Some (suc (suc s))) rank a b is one two = cc
+place_read : (first second : Option ℕ) (place a b : ℕ) → place_of first second ≡ Some place → ((v : ℕ) → first ≡ Some v → a ≡ v)
+    → ((v : ℕ) → second ≡ Some v → b ≡ v) → split_place a (b == 1) ≡ place
+place_read None second place a b is one two = cc
+place_read (Some f) None place a b is one two = cc
+place_read (Some f) (Some zero) place a b is one two = rw (one f refl, two 0 refl) (some_same is)
+place_read (Some f) (Some (suc zero)) place a b is one two = rw (one f refl, two 1 refl) (some_same is)
+place_read (Some f) (Some (suc (suc s))) place a b is one two = cc
 
 kind_read : (first second : Option ℕ) (rank b : ℕ) → place_of first second ≡ Some rank → ((v : ℕ) → second ≡ Some v → b ≡ v) → (b == 1) ≡ false
     → says_key second ≡ false
@@ -72,9 +75,9 @@ pub go_on_some : (n : HeapNumbers) (start : Place) (wanted least passed : ℕ) (
     → Passed (split_reading n) start wanted least passed left first (Some at) s t
     → Only [] t u → ReadsValue (heap_of n u) (id_in t.slots at) 0 a → Only [] u v → ReadsValue (heap_of n v) (id_in u.slots at) 1 b
     → AllAllowed (SplitMay n) [] u.seen → AllAllowed (SplitMay n) [] v.seen
-    → Walks (split_reading n) start wanted left first at (2 * reversed a + b) (b == 1) passed s v × (least ≤ 2 * reversed a + b)
+    → Walks (split_reading n) start wanted left first at (split_place a (b == 1)) (b == 1) passed s v × (least ≤ split_place a (b == 1))
 go_on_some n start wanted least passed left first at a b s t u v w one read_one two read_two all_u all_v =
-    passed_some (split_ordering n) start wanted least passed left first at (2 * reversed a + b) (b == 1) s t v w both place kind all_v
+    passed_some (split_ordering n) start wanted least passed left first at (split_place a (b == 1)) (b == 1) s t v w both place kind all_v
   where
     both : Only [] t v
     both = record { slots = two.slots ∙ one.slots; fresh = two.fresh ∙ one.fresh; puts = Puts-trans t u v [] [] one.puts two.puts }
@@ -100,7 +103,7 @@ go_on_some n start wanted least passed left first at a b s t u v w one read_one 
         let here : read.node ≡ own.node = some_same (sym read.there ∙ own.there) in
         read.is x (ap (λ (y : Node). y.second) here ∙ is)
 
-    place : (rank : ℕ) → HasRank split_order (heap_of n v) (id_in t.slots at) rank → 2 * reversed a + b ≡ rank
+    place : (rank : ℕ) → HasRank split_order (heap_of n v) (id_in t.slots at) rank → split_place a (b == 1) ≡ rank
     place rank own =
         let l : IsLinkedNode (heap_of n v) (id_in t.slots at) = record { node = own.node; there = own.there; linked = own.linked } in
         place_read own.node.first own.node.second rank a b own.rank_is (first_read l) (second_read l)
@@ -149,3 +152,13 @@ looks_from p q slot looked t u is k = subst (λ (z : Place). Looks z slot t look
 -- a list that goes on, and goes on again
 pub goes_on : {S : Type 0} (a b c : List S) → IsPrefix a b → IsPrefix b c → IsPrefix a c
 goes_on a b c (xs, one) (ys, two) = (xs ++ ys, sym (append_assoc a xs ys) ∙ (ap (λ z. z ++ ys) one ∙ two))
+
+-- what is held stays so where nothing happens
+pub held_still : (s t : Seat SplitNote) (h : Hold) → Only [] s t → Holds s.slots h → Holds t.slots h
+held_still s t h only held = subst (λ (z : Slots). Holds z h) (sym only.slots) held
+
+-- a step that comes at least so far comes at least less far
+pub steps_up : (n : HeapNumbers) (start : Place) (wanted low least : ℕ) (s : Seat SplitNote) (r : Stepped) (t : Seat SplitNote)
+    → StepsTo n start wanted least s r t → low ≤ least → StepsTo n start wanted low s r t
+steps_up n start wanted low least s (On walk) t (w, up, high) le = (w, omega (arith, up, le), high)
+steps_up n start wanted low least s (End found) t f le = f

@@ -13,8 +13,9 @@ use Rattle.orc_ordered_search.specs.Reading.{Reading}
 use Rattle.orc_ordered_search.specs.Searches.{Begins, FindsAbsent, FindsMoved, FindsPresent, Quiet, Walks}
 use Rattle.orc_ordered_search.specs.Turns.{Tires}
 use Rattle.orc_split_rule.specs.SplitDiscipline.{IsDummy, IsSize, entries_in, greatest, size_of}
-use Rattle.orc_split_rule.specs.SplitOrder.{split_order}
+use Rattle.orc_split_rule.specs.SplitOrder.{dummy_place, key_place, split_order}
 use Rattle.orc_split_rule.specs.declared.split.SplitNote.{SplitNote}
+use Rattle.orc_split_set.specs.declared.order.SplitPlace.{SplitPlace}
 use Rattle.orc_split_set.specs.declared.search.Searched.{Searched}
 use Rattle.orc_split_set.specs.declared.search.Searched.TheVariants.{Absent, Over, Present}
 use Rattle.orc_split_set.specs.declared.search.Stepped.{Stepped}
@@ -28,6 +29,14 @@ says_key (Some second) = second == 1
 -- the events of a split-ordered set, where nodes with keys are counted
 abbrev pub split_reading : HeapNumbers → Reading SplitNote
 split_reading n = record { numbers = n; order = split_order; entries_in = entries_in; counts = λ first second. says_key second }
+
+-- a place in split order as a number
+abbrev pub split_place : ℕ → Bool → ℕ
+split_place value true = key_place value
+split_place value false = dummy_place value
+
+abbrev pub rank_of : SplitPlace → ℕ
+rank_of place = split_place place.value place.has_key
 
 -- the node is a dummy, if there is one
 abbrev pub IsDummyIfAny : Heap → Option Hold → ℕ → Type 0
@@ -48,7 +57,8 @@ Finds n start wanted s (Present left first node next passed) t = FindsPresent (s
 -- what a step of a search came to: a node with no lower place than this, or the end
 abbrev pub StepsTo : HeapNumbers → Place → ℕ → ℕ → Seat SplitNote → Stepped → Seat SplitNote → Type 0
 StepsTo n start wanted least s (On walk) t =
-    Walks (split_reading n) start wanted walk.left walk.first walk.at walk.place walk.has_key walk.passed s t × (least ≤ walk.place) × (walk.place < 2 ^ 128)
+    Walks (split_reading n) start wanted walk.left walk.first walk.at (rank_of walk.place) walk.place.has_key walk.passed s t × (least ≤ rank_of walk.place)
+    × (rank_of walk.place < 2 ^ 128)
 StepsTo n start wanted least s (End found) t = Finds n start wanted s found t
 
 -- a read of the size: two Looks at the most, and the pass holds what it held; or the link moved meanwhile

@@ -2,8 +2,9 @@
 
 ghost use Rattle.std.specs.Prelude.{◌≡◌};
 ghost use Rattle.orc_split_set.specs.NewNodes.{kind_of, note_for, place_for, value_of};
+ghost use Rattle.orc_split_set.specs.SplitSearches.{rank_of};
 
-use crate::order::place_of;
+use crate::order::SplitPlace;
 use orc_history::SetEntry;
 use orc_split_rule::SplitNote;
 
@@ -38,10 +39,12 @@ impl NewNode {
     }
 
     // The place in split order where the node belongs.
-    pub(crate) fn place(self) -> u128
-        ensures { result ≡ place_for self }
+    pub(crate) fn place(self) -> SplitPlace
+        ensures { rank_of result ≡ place_for self }
     {
-        place_of(self.value(), self.kind())
+        let value = self.value();
+        let has_key = self.kind() == 1;
+        SplitPlace { value, has_key }
     }
 
     // What this agent says of the Move that links the node.

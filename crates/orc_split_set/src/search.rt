@@ -1,29 +1,27 @@
 //! The search for a place in split order.
 
-ghost use Rattle.std.specs.Prelude.{◌≡◌, ◌+◌, ◌<◌, ℕ, Bool, false, true};
+ghost use Rattle.std.specs.Prelude.{◌≡◌, ◌+◌, ◌<◌, ℕ, Bool, None, Some, false, true};
 ghost use mathlib.Core.List.{IsPrefix};
 ghost use Rattle.orc_heap.specs.Seats.{Seat};
 ghost use Rattle.orc_heap.specs.declared.events.Place.{Place};
-ghost use Rattle.orc_ordered_search.specs.Searches.{FindsMoved, HasRoom, LooksOn, Passed, Stops, Walks, count_on};
+ghost use Rattle.orc_ordered_search.specs.Searches.{FindsMoved, HasRoom, LooksBy, LooksOn, Passed, Stops, Walks, count_on};
 ghost use Rattle.orc_split_rule.specs.declared.split.SplitNote.{SplitNote};
 ghost use Rattle.orc_split_set.specs.NewNodes.{place_for};
-ghost use Rattle.orc_split_set.specs.SplitSearches.{BeginsAt, Finds, StepsTo, split_reading};
+ghost use Rattle.orc_split_set.specs.SplitSearches.{BeginsAt, Finds, StepsTo, rank_of, split_reading};
 
 use crate::node::NewNode;
-use crate::order::place_of;
+use crate::order::SplitPlace;
 use crate::spot::{keep_first, let_all_go, let_go, place_from, slot_of, spare_slot};
-use orc_heap::{At, Held, Links, Looked};
+use orc_heap::{At, Held, Links, Looked, LookedOn};
 use orc_split_rule::Split;
 
 /// How far a search has come: the left place, the first of the marked nodes behind it, if there is one, and the node
-/// to which these lead, with its place in split order and whether it has a key. It went past so many unmarked nodes with
-/// keys, and counts up to 9.
+/// to which these lead, with its place in split order. It went past so many unmarked nodes with keys, and counts up to 9.
 pub struct Walk {
     pub left: Option<Held>,
     pub first: Option<Held>,
     pub at: Held,
-    pub place: u128,
-    pub has_key: bool,
+    pub place: SplitPlace,
     pub passed: u32,
 }
 
@@ -74,16 +72,15 @@ fn go_on<L: Links<Rule = Split>>(
 {
     match next {
         Some(at) => {
-            let first_value = links.value(p, &at, 0);
-            let second_value = links.value(p, &at, 1);
-            let place = place_of(first_value, second_value);
-            let has_key = second_value == 1;
+            let value = links.value(p, &at, 0);
+            let kind = links.value(p, &at, 1);
+            let has_key = kind == 1;
+            let place = SplitPlace { value, has_key };
             Stepped::On(Walk {
                 left,
                 first,
                 at,
                 place,
-                has_key,
                 passed,
             })
         }
@@ -118,21 +115,22 @@ fn step_past<L: Links<Rule = Split>>(
 ) -> Stepped
     requires pass { L.belongs links.now p.old }
     requires looks { (start : Place) × (wanted : ℕ) × (s : Seat SplitNote)
-        × LooksOn (split_reading (L.numbers links.now)) start wanted walk.left walk.first walk.at walk.place walk.has_key walk.passed true next s
+        × LooksOn (split_reading (L.numbers links.now)) start wanted walk.left walk.first walk.at (rank_of walk.place) walk.place.has_key walk.passed true
+        next s
         (L.seat links.now p.old) }
     ensures pass { L.belongs links.now p.new }
     ensures later { IsPrefix (L.journal p.old) (L.journal p.new) }
     ensures stepped { (start : Place) (wanted : ℕ) (s : Seat SplitNote)
-        → LooksOn (split_reading (L.numbers links.now)) start wanted walk.left walk.first walk.at walk.place walk.has_key walk.passed true next s
+        → LooksOn (split_reading (L.numbers links.now)) start wanted walk.left walk.first walk.at (rank_of walk.place) walk.place.has_key walk.passed true
+        next s
         (L.seat links.now p.old)
-        → StepsTo (L.numbers links.now) start wanted (walk.place + 1) s result (L.seat links.now p.new) }
+        → StepsTo (L.numbers links.now) start wanted (rank_of walk.place + 1) s result (L.seat links.now p.new) }
 {
     let Walk {
         left,
         first,
         at,
         place: _,
-        has_key: _,
         passed,
     } = walk;
     let first = keep_first(links, p, first, at);
@@ -143,33 +141,34 @@ fn step_past<L: Links<Rule = Split>>(
 fn step_behind<L: Links<Rule = Split>>(
     links: &L,
     p: &mut L::Pass,
-    wanted: u128,
+    wanted: SplitPlace,
     walk: Walk,
     next: Option<Held>,
 ) -> Stepped
     requires pass { L.belongs links.now p.old }
     requires looks { (start : Place) × (s : Seat SplitNote)
-        × LooksOn (split_reading (L.numbers links.now)) start wanted walk.left walk.first walk.at walk.place walk.has_key walk.passed false next s
+        × LooksOn (split_reading (L.numbers links.now)) start (rank_of wanted) walk.left walk.first walk.at (rank_of walk.place) walk.place.has_key
+        walk.passed false next s
         (L.seat links.now p.old) }
-    requires lower { walk.place < wanted }
+    requires lower { rank_of walk.place < rank_of wanted }
     ensures pass { L.belongs links.now p.new }
     ensures later { IsPrefix (L.journal p.old) (L.journal p.new) }
     ensures stepped { (start : Place) (s : Seat SplitNote)
-        → LooksOn (split_reading (L.numbers links.now)) start wanted walk.left walk.first walk.at walk.place walk.has_key walk.passed false next s
+        → LooksOn (split_reading (L.numbers links.now)) start (rank_of wanted) walk.left walk.first walk.at (rank_of walk.place) walk.place.has_key
+        walk.passed false next s
         (L.seat links.now p.old)
-        → StepsTo (L.numbers links.now) start wanted (walk.place + 1) s result (L.seat links.now p.new) }
+        → StepsTo (L.numbers links.now) start (rank_of wanted) (rank_of walk.place + 1) s result (L.seat links.now p.new) }
 {
     let Walk {
         left,
         first,
         at,
-        place: _,
-        has_key,
+        place,
         passed,
     } = walk;
     let_go(links, p, left);
     let_go(links, p, first);
-    let passed = count_one(has_key, passed);
+    let passed = count_one(place.has_key, passed);
     go_on(links, p, Some(at), None, next, passed)
 }
 
@@ -177,26 +176,28 @@ fn step_behind<L: Links<Rule = Split>>(
 fn step_from<L: Links<Rule = Split>>(
     links: &L,
     p: &mut L::Pass,
-    wanted: u128,
+    wanted: SplitPlace,
     walk: Walk,
     mark: bool,
     next: Option<Held>,
 ) -> Stepped
     requires pass { L.belongs links.now p.old }
     requires looks { (start : Place) × (s : Seat SplitNote)
-        × LooksOn (split_reading (L.numbers links.now)) start wanted walk.left walk.first walk.at walk.place walk.has_key walk.passed mark next s
+        × LooksOn (split_reading (L.numbers links.now)) start (rank_of wanted) walk.left walk.first walk.at (rank_of walk.place) walk.place.has_key
+        walk.passed mark next s
         (L.seat links.now p.old) }
     ensures pass { L.belongs links.now p.new }
     ensures later { IsPrefix (L.journal p.old) (L.journal p.new) }
     ensures stepped { (start : Place) (s : Seat SplitNote)
-        → LooksOn (split_reading (L.numbers links.now)) start wanted walk.left walk.first walk.at walk.place walk.has_key walk.passed mark next s
+        → LooksOn (split_reading (L.numbers links.now)) start (rank_of wanted) walk.left walk.first walk.at (rank_of walk.place) walk.place.has_key
+        walk.passed mark next s
         (L.seat links.now p.old)
-        → StepsTo (L.numbers links.now) start wanted (walk.place + 1) s result (L.seat links.now p.new) }
+        → StepsTo (L.numbers links.now) start (rank_of wanted) (rank_of walk.place + 1) s result (L.seat links.now p.new) }
 {
     if mark {
         return step_past(links, p, walk, next);
     }
-    if walk.place < wanted {
+    if walk.place.is_before(wanted) {
         return step_behind(links, p, wanted, walk, next);
     }
     let Walk {
@@ -204,23 +205,22 @@ fn step_from<L: Links<Rule = Split>>(
         first,
         at,
         place,
-        has_key: _,
         passed,
     } = walk;
-    if place == wanted {
-        return Stepped::End(Searched::Present {
+    if wanted.is_before(place) {
+        let_go(links, p, next);
+        return Stepped::End(Searched::Absent {
             left,
             first,
-            node: at,
-            next,
+            right: Some(at),
             passed,
         });
     }
-    let_go(links, p, next);
-    Stepped::End(Searched::Absent {
+    Stepped::End(Searched::Present {
         left,
         first,
-        right: Some(at),
+        node: at,
+        next,
         passed,
     })
 }
@@ -241,27 +241,33 @@ fn stop<L: Links<Rule = Split>>(links: &L, p: &mut L::Pass, walk: Walk)
         first,
         at,
         place: _,
-        has_key: _,
         passed: _,
     } = walk;
     let_all_go(links, p, left, first, Some(at), None);
 }
 
-// Looks at the link of the node that the search has come to.
-fn step<L: Links<Rule = Split>>(links: &L, p: &mut L::Pass, wanted: u128, walk: Walk) -> Stepped
+// Goes on by what the look at the link of that node found.
+fn step_by<L: Links<Rule = Split>>(
+    links: &L,
+    p: &mut L::Pass,
+    wanted: SplitPlace,
+    walk: Walk,
+    looked: Looked,
+) -> Stepped
     requires pass { L.belongs links.now p.old }
-    requires walks { (start : Place) × (s : Seat SplitNote) × HasRoom s.slots
-        × Walks (split_reading (L.numbers links.now)) start wanted walk.left walk.first walk.at walk.place walk.has_key walk.passed s
+    requires looked { (start : Place) × (s : Seat SplitNote)
+        × LooksBy (split_reading (L.numbers links.now)) start (rank_of wanted) walk.left walk.first walk.at (rank_of walk.place) walk.place.has_key
+        walk.passed s looked
         (L.seat links.now p.old) }
     ensures pass { L.belongs links.now p.new }
     ensures later { IsPrefix (L.journal p.old) (L.journal p.new) }
-    ensures stepped { (start : Place) (s : Seat SplitNote) → HasRoom s.slots
-        → Walks (split_reading (L.numbers links.now)) start wanted walk.left walk.first walk.at walk.place walk.has_key walk.passed s
+    ensures stepped { (start : Place) (s : Seat SplitNote)
+        → LooksBy (split_reading (L.numbers links.now)) start (rank_of wanted) walk.left walk.first walk.at (rank_of walk.place) walk.place.has_key
+        walk.passed s looked
         (L.seat links.now p.old)
-        → StepsTo (L.numbers links.now) start wanted (walk.place + 1) s result (L.seat links.now p.new) }
+        → StepsTo (L.numbers links.now) start (rank_of wanted) (rank_of walk.place + 1) s result (L.seat links.now p.new) }
 {
-    let slot = spare_slot(slot_of(&walk.left), slot_of(&walk.first), walk.at.slot());
-    match links.look(p, &At::Node(&walk.at), slot) {
+    match looked {
         Looked::Stable(seen, next) => step_from(links, p, wanted, walk, seen.mark, next),
         Looked::Moved => {
             stop(links, p, walk);
@@ -270,22 +276,167 @@ fn step<L: Links<Rule = Split>>(links: &L, p: &mut L::Pass, wanted: u128, walk: 
     }
 }
 
+// Looks at the link of the node that the search has come to.
+fn step<L: Links<Rule = Split>>(
+    links: &L,
+    p: &mut L::Pass,
+    wanted: SplitPlace,
+    walk: Walk,
+) -> Stepped
+    requires pass { L.belongs links.now p.old }
+    requires walks { (start : Place) × (s : Seat SplitNote) × HasRoom s.slots
+        × Walks (split_reading (L.numbers links.now)) start (rank_of wanted) walk.left walk.first walk.at (rank_of walk.place) walk.place.has_key walk.passed s
+        (L.seat links.now p.old) }
+    ensures pass { L.belongs links.now p.new }
+    ensures later { IsPrefix (L.journal p.old) (L.journal p.new) }
+    ensures stepped { (start : Place) (s : Seat SplitNote) → HasRoom s.slots
+        → Walks (split_reading (L.numbers links.now)) start (rank_of wanted) walk.left walk.first walk.at (rank_of walk.place) walk.place.has_key walk.passed s
+        (L.seat links.now p.old)
+        → StepsTo (L.numbers links.now) start (rank_of wanted) (rank_of walk.place + 1) s result (L.seat links.now p.new) }
+{
+    let slot = spare_slot(slot_of(&walk.left), slot_of(&walk.first), walk.at.slot());
+    let looked = links.look(p, &At::Node(&walk.at), slot);
+    step_by(links, p, wanted, walk, looked)
+}
+
+// Goes on over unmarked nodes with lower places, and then one step more. The two nodes in hand stand in variables of their own, and
+// so in registers: most steps of a search are of this kind.
+fn pass_lower<L: Links<Rule = Split>>(
+    links: &L,
+    p: &mut L::Pass,
+    wanted: SplitPlace,
+    left: Held,
+    at: Held,
+    place: SplitPlace,
+    passed: u32,
+) -> Stepped
+    requires pass { L.belongs links.now p.old }
+    requires walks { (start : Place) × (s : Seat SplitNote) × HasRoom s.slots
+        × Walks (split_reading (L.numbers links.now)) start (rank_of wanted) (Some left) None at (rank_of place) place.has_key passed s (L.seat links.now
+        p.old) }
+    ensures pass { L.belongs links.now p.new }
+    ensures later { IsPrefix (L.journal p.old) (L.journal p.new) }
+    ensures stepped { (start : Place) (s : Seat SplitNote) → HasRoom s.slots
+        → Walks (split_reading (L.numbers links.now)) start (rank_of wanted) (Some left) None at (rank_of place) place.has_key passed s (L.seat links.now p.old)
+        → StepsTo (L.numbers links.now) start (rank_of wanted) (rank_of place + 1) s result (L.seat links.now p.new) }
+{
+    let mut left = left;
+    let mut at = at;
+    let mut place = place;
+    let mut passed = passed;
+    let spare = spare_slot(left.slot(), 8, at.slot());
+    while place.is_before(wanted) {
+        match links.look_on(p, &At::Node(&at), left, spare) {
+            LookedOn::On(next) => {
+                passed = count_one(place.has_key, passed);
+                let value = links.value(p, &next, 0);
+                let kind = links.value(p, &next, 1);
+                let has_key = kind == 1;
+                place = SplitPlace { value, has_key };
+                left = at;
+                at = next;
+            }
+            LookedOn::Stays(left, looked) => {
+                let walk = Walk {
+                    left: Some(left),
+                    first: None,
+                    at,
+                    place,
+                    passed,
+                };
+                return step_by(links, p, wanted, walk, looked);
+            }
+            LookedOn::Moved => {
+                links.release(p, at);
+                return Stepped::End(Searched::Over);
+            }
+        }
+    }
+    let walk = Walk {
+        left: Some(left),
+        first: None,
+        at,
+        place,
+        passed,
+    };
+    step(links, p, wanted, walk)
+}
+
+// Goes on as far as may be at once: over all unmarked nodes with lower places, where no marked one is in hand, and else by one step.
+fn advance<L: Links<Rule = Split>>(
+    links: &L,
+    p: &mut L::Pass,
+    wanted: SplitPlace,
+    walk: Walk,
+) -> Stepped
+    requires pass { L.belongs links.now p.old }
+    requires walks { (start : Place) × (s : Seat SplitNote) × HasRoom s.slots
+        × Walks (split_reading (L.numbers links.now)) start (rank_of wanted) walk.left walk.first walk.at (rank_of walk.place) walk.place.has_key walk.passed s
+        (L.seat links.now p.old) }
+    ensures pass { L.belongs links.now p.new }
+    ensures later { IsPrefix (L.journal p.old) (L.journal p.new) }
+    ensures stepped { (start : Place) (s : Seat SplitNote) → HasRoom s.slots
+        → Walks (split_reading (L.numbers links.now)) start (rank_of wanted) walk.left walk.first walk.at (rank_of walk.place) walk.place.has_key walk.passed s
+        (L.seat links.now p.old)
+        → StepsTo (L.numbers links.now) start (rank_of wanted) (rank_of walk.place + 1) s result (L.seat links.now p.new) }
+{
+    let Walk {
+        left,
+        first,
+        at,
+        place,
+        passed,
+    } = walk;
+    match first {
+        Some(first) => {
+            let first = Some(first);
+            step(
+                links,
+                p,
+                wanted,
+                Walk {
+                    left,
+                    first,
+                    at,
+                    place,
+                    passed,
+                },
+            )
+        }
+        None => match left {
+            Some(left) => pass_lower(links, p, wanted, left, at, place, passed),
+            None => step(
+                links,
+                p,
+                wanted,
+                Walk {
+                    left: None,
+                    first: None,
+                    at,
+                    place,
+                    passed,
+                },
+            ),
+        },
+    }
+}
+
 // Looks at the link at which the search begins.
 fn start<L: Links<Rule = Split>>(
     links: &L,
     p: &mut L::Pass,
-    wanted: u128,
+    wanted: SplitPlace,
     left: Option<Held>,
 ) -> Stepped
     requires pass { L.belongs links.now p.old }
     requires roots { 0 < (L.numbers links.now).roots }
     requires begins { (place : Place) × (s : Seat SplitNote) × HasRoom s.slots
-        × BeginsAt (L.numbers links.now) place wanted left s (L.seat links.now p.old) }
+        × BeginsAt (L.numbers links.now) place (rank_of wanted) left s (L.seat links.now p.old) }
     ensures pass { L.belongs links.now p.new }
     ensures later { IsPrefix (L.journal p.old) (L.journal p.new) }
     ensures stepped { (place : Place) (s : Seat SplitNote) → HasRoom s.slots
-        → BeginsAt (L.numbers links.now) place wanted left s (L.seat links.now p.old)
-        → StepsTo (L.numbers links.now) place wanted 0 s result (L.seat links.now p.new) }
+        → BeginsAt (L.numbers links.now) place (rank_of wanted) left s (L.seat links.now p.old)
+        → StepsTo (L.numbers links.now) place (rank_of wanted) 0 s result (L.seat links.now p.new) }
 {
     let slot = spare_slot(slot_of(&left), 8, 8);
     match links.look(p, &place_from(&left), slot) {
@@ -301,25 +452,25 @@ fn start<L: Links<Rule = Split>>(
 fn search<L: Links<Rule = Split>>(
     links: &L,
     p: &mut L::Pass,
-    wanted: u128,
+    wanted: SplitPlace,
     left: Option<Held>,
 ) -> Searched
     requires pass { L.belongs links.now p.old }
     requires roots { 0 < (L.numbers links.now).roots }
     requires begins { (place : Place) × (s : Seat SplitNote) × HasRoom s.slots
-        × BeginsAt (L.numbers links.now) place wanted left s (L.seat links.now p.old) }
+        × BeginsAt (L.numbers links.now) place (rank_of wanted) left s (L.seat links.now p.old) }
     ensures pass { L.belongs links.now p.new }
     ensures later { IsPrefix (L.journal p.old) (L.journal p.new) }
     ensures found { (place : Place) (s : Seat SplitNote) → HasRoom s.slots
-        → BeginsAt (L.numbers links.now) place wanted left s (L.seat links.now p.old)
-        → Finds (L.numbers links.now) place wanted s result (L.seat links.now p.new) }
+        → BeginsAt (L.numbers links.now) place (rank_of wanted) left s (L.seat links.now p.old)
+        → Finds (L.numbers links.now) place (rank_of wanted) s result (L.seat links.now p.new) }
 {
     let mut walk = match start(links, p, wanted, left) {
         Stepped::On(walk) => walk,
         Stepped::End(found) => return found,
     };
     loop {
-        match step(links, p, wanted, walk) {
+        match advance(links, p, wanted, walk) {
             Stepped::On(next) => walk = next,
             Stepped::End(found) => return found,
         }

@@ -2,7 +2,7 @@
 
 use orc_chain_rule::Chain;
 use orc_heap::Links;
-use orc_list::{List, OneList};
+use orc_list::List;
 
 mod examples;
 
@@ -14,6 +14,4 @@ fn is_sent<T: Send>() {}
 fn lists_cross_threads<L: Links<Rule = Chain> + Send + Sync>() {
     is_shared::<List<L>>();
     is_sent::<List<L>>();
-    is_shared::<OneList<L>>();
-    is_sent::<OneList<L>>();
 }

@@ -16,7 +16,7 @@ use orc_chain_rule::{Chain, ChainNote};
 use orc_fault::Again;
 use orc_heap::{Act, Links, Place};
 use orc_history::{SetEntry, SharedSet};
-use orc_list::OneList;
+use orc_set::Set;
 
 // While agent 1 looked, agent 2 added 5 and took it out, and agent 3 led past its node: these use up three turns of agent 1, and
 // not four. An answer that changes nothing uses up none.
@@ -44,9 +44,9 @@ fn others_use_up_turns()
         × (entered_by_others {S = Event ChainNote} (λ j. j) 1 es 2 4 ≡ SetEntry.Asked 3 5 true ∷ []) }
 {}
 
-// A caller that names the set's type sees what its list promises, and not the trait's clauses alone.
+// A caller that names the set's type sees what its lists promise, and not the trait's clauses alone.
 fn remove_in_three_turns<L: Links<Rule = Chain>>(
-    set: &OneList<L>,
+    set: &Set<L>,
     p: &mut L::Pass,
 ) -> Result<bool, Again>
     requires { IsUsable L.Links set.now.list.links p.old }

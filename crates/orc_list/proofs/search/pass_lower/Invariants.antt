@@ -1,4 +1,4 @@
-use Rattle.std.proofs.Common.{None, Some, ◌-◌, ◌≤◌}
+use Rattle.std.proofs.Common.{None, Some, ◌-◌, ◌<◌, ◌≢◌, ◌≤◌}
 use mathlib.Core.List.{IsPrefix}
 use Rattle.orc_heap.specs.Seats.{Seat}
 use Rattle.orc_chain_rule.specs.declared.chain.ChainNote.{ChainNote}
@@ -11,6 +11,7 @@ abbrev pub invariant-loop-key : goal.invariant-loop-key
 invariant-loop-key g l = record {
   pass : g.L.Links.belongs l.links l.p;
   later : IsPrefix (g.L.Links.journal l.fn.p) (g.L.Links.journal l.p);
+  spare : (2 ≤ l.spare) × (l.spare < 6) × (l.spare ≢ l.left.slot) × (l.spare ≢ l.at.slot);
   up : l.fn.key ≤ l.key;
   walks : (s : Seat ChainNote) → HasRoom s.slots
       → Walks (g.L.Links.numbers l.links) l.root l.wanted (Some l.fn.left) None l.fn.at l.fn.key s (g.L.Links.seat l.links l.fn.p)

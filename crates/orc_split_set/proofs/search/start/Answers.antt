@@ -5,7 +5,7 @@ use Rattle.orc_heap.specs.declared.events.Place.{Place}
 use Rattle.orc_ordered_search.specs.Searches.{HasRoom, Passed}
 use Rattle.orc_ordered_search.proofs.Starting.{start_looks, start_moved}
 use Rattle.orc_split_rule.specs.declared.split.SplitNote.{SplitNote}
-use Rattle.orc_split_set.specs.SplitSearches.{BeginsAt, split_reading}
+use Rattle.orc_split_set.specs.SplitSearches.{BeginsAt, rank_of, split_reading}
 use Rattle.orc_split_set.proofs.Ordered.{looks_from, never_marked, split_ordering, start_held, start_place}
 use Rattle.orc_split_set.proofs.search.start.Given.{Over}
 use Rattle.orc_split_set.proofs.search.start.Goals.{In-Stable}
@@ -13,8 +13,8 @@ use Rattle.orc_split_set.proofs.search.start.Goals as goal
 
 -- the look found a link to this node, or a null one
 passed : (g : Over) (c : In-Stable g) → let d = c.args.links.now in let n = g.L.Links.numbers d in let a = c.args in
-    (place : Place) (s : Seat SplitNote) → HasRoom s.slots → BeginsAt n place a.wanted a.left s (g.L.Links.seat d a.p.now)
-    → Passed (split_reading n) place a.wanted 0 0 a.left None c.in-Stable.next s (g.L.Links.seat d c.look.new.p)
+    (place : Place) (s : Seat SplitNote) → HasRoom s.slots → BeginsAt n place (rank_of a.wanted) a.left s (g.L.Links.seat d a.p.now)
+    → Passed (split_reading n) place (rank_of a.wanted) 0 0 a.left None c.in-Stable.next s (g.L.Links.seat d c.look.new.p)
 passed g c = λ place s room b.
     let d = c.args.links.now in
     let n = g.L.Links.numbers d in
@@ -24,10 +24,10 @@ passed g c = λ place s room b.
     let holds = g.met.L.Links.obeys d a.p.now c.requires.pass in
     let k = c.spare_slot-slot.ensures in
     let e = c.in-Stable.ensures in
-    start_looks (split_ordering n) place a.wanted a.left s t u b.begins holds (never_marked n place a.wanted a.left s t holds b)
+    start_looks (split_ordering n) place (rank_of a.wanted) a.left s t u b.begins holds (never_marked n place (rank_of a.wanted) a.left s t holds b)
     (g.met.L.Links.allowed d c.look.new.p e.pass) c.spare_slot-slot.result _ c.in-Stable.next room k.range.0 k.range.1
     (λ e. k.left (e ∙ sym c.slot_of.ensures))
-    (looks_from _ place c.spare_slot-slot.result _ t u (c.place_from.ensures.place t.slots ∙ start_place n place a.wanted a.left s t b) e.looked)
+    (looks_from _ place c.spare_slot-slot.result _ t u (c.place_from.ensures.place t.slots ∙ start_place n place (rank_of a.wanted) a.left s t b) e.looked)
 
 pub look-requires-clause-place : goal.look-requires-clause-place
 look-requires-clause-place g c =
@@ -35,16 +35,16 @@ look-requires-clause-place g c =
     let n = g.L.Links.numbers d in
     let t = g.L.Links.seat d c.args.p.now in
     let (place, s, room, b) = c.requires.begins in
-    c.place_from.ensures.held n t.slots c.requires.roots (start_held n place c.args.wanted c.args.left s t b)
+    c.place_from.ensures.held n t.slots c.requires.roots (start_held n place (rank_of c.args.wanted) c.args.left s t b)
 
 pub go_on-requires-clause-passed : goal.go_on-requires-clause-passed
 go_on-requires-clause-passed g c =
     let (place, s, room, b) = c.requires.begins in
-    (place, c.args.wanted, s, 0, passed g (goal.at.go_on-requires-clause-passed g c).In-Stable place s room b)
+    (place, (rank_of c.args.wanted), s, 0, passed g (goal.at.go_on-requires-clause-passed g c).In-Stable place s room b)
 
 pub returns-in-Stable-clause-stepped : goal.returns-in-Stable-clause-stepped
 returns-in-Stable-clause-stepped g c = λ place s room b.
-    c.go_on.ensures.stepped place c.args.wanted s 0 (passed g (goal.at.returns-in-Stable-clause-stepped g c).In-Stable place s room b)
+    c.go_on.ensures.stepped place (rank_of c.args.wanted) s 0 (passed g (goal.at.returns-in-Stable-clause-stepped g c).In-Stable place s room b)
 
 pub returns-in-Moved-clause-stepped : goal.returns-in-Moved-clause-stepped
 returns-in-Moved-clause-stepped g c = λ place s room b.
@@ -55,7 +55,7 @@ returns-in-Moved-clause-stepped g c = λ place s room b.
     let a = c.args in
     let v = g.L.Links.seat d c.let_go.new.p in
     let e = c.in-Moved.ensures in
-    start_moved (split_ordering n) place a.wanted c.spare_slot-slot.result a.left s t u v b.begins
-    (looks_from _ place c.spare_slot-slot.result _ t u (c.place_from.ensures.place t.slots ∙ start_place n place a.wanted a.left s t b) e.looked)
+    start_moved (split_ordering n) place (rank_of a.wanted) c.spare_slot-slot.result a.left s t u v b.begins
+    (looks_from _ place c.spare_slot-slot.result _ t u (c.place_from.ensures.place t.slots ∙ start_place n place (rank_of a.wanted) a.left s t b) e.looked)
     (g.met.L.Links.allowed d c.look.new.p e.pass) c.let_go.ensures.let_go (λ i h. g.met.L.Links.fresh_is d c.look.new.p i e.pass h)
     (g.met.L.Links.allowed d c.let_go.new.p c.let_go.ensures.pass)

@@ -5,7 +5,7 @@ use Rattle.orc_heap.specs.declared.events.Place.{Place}
 use Rattle.orc_ordered_search.specs.Searches.{Passed, count_on}
 use Rattle.orc_ordered_search.proofs.Stepping.{passed_lower}
 use Rattle.orc_split_rule.specs.declared.split.SplitNote.{SplitNote}
-use Rattle.orc_split_set.specs.SplitSearches.{split_reading}
+use Rattle.orc_split_set.specs.SplitSearches.{rank_of, split_reading}
 use Rattle.orc_split_set.proofs.Ordered.{split_ordering}
 use Rattle.orc_split_set.proofs.search.step_behind.Goals as goal
 
@@ -19,16 +19,19 @@ go_on-requires-clause-passed g c =
     let v = g.L.Links.seat d c.let_go-2.new.p in
     let e = c.let_go.ensures in
     let f = c.let_go-2.ensures in
-    let m = a.walk.place + 1 in
-    let counted : (start : Place) (s : Seat SplitNote) → Passed (split_reading n) start a.wanted m (count_on a.walk.has_key a.walk.passed) (Some a.walk.at) None a.next s v
-    → Passed (split_reading n) start a.wanted m c.count_one-passed.result (Some a.walk.at) None a.next s v
-    = λ start s k. subst (λ (x : ℕ). Passed (split_reading n) start a.wanted m x (Some a.walk.at) None a.next s v) (sym c.count_one-passed.ensures) k in
+    let m = rank_of a.walk.place + 1 in
+    let counted : (start : Place) (s : Seat SplitNote) → Passed (split_reading n) start (rank_of a.wanted) m (count_on a.walk.place.has_key a.walk.passed)
+    (Some a.walk.at) None a.next s v
+    → Passed (split_reading n) start (rank_of a.wanted) m c.count_one-passed.result (Some a.walk.at) None a.next s v
+    = λ start s k. subst (λ (x : ℕ). Passed (split_reading n) start (rank_of a.wanted) m x (Some a.walk.at) None a.next s v) (sym c.count_one-passed.ensures)
+    k in
     let (start, s, w) = c.requires.looks in (
       start,
-      a.wanted,
+      (rank_of a.wanted),
       s,
       m,
-      counted start s (passed_lower (split_ordering n) start a.wanted a.walk.left a.walk.first a.walk.at a.walk.place a.walk.has_key a.walk.passed a.next s t u v w c.requires.lower e.let_go f.let_go
+      counted start s (passed_lower (split_ordering n) start (rank_of a.wanted) a.walk.left a.walk.first a.walk.at (rank_of a.walk.place) a.walk.place.has_key
+          a.walk.passed a.next s t u v w c.requires.lower e.let_go f.let_go
           (λ i h. g.met.L.Links.fresh_is d a.p.now i c.requires.pass h) (λ i h. g.met.L.Links.fresh_is d c.let_go.new.p i e.pass h)
           (g.met.L.Links.allowed d c.let_go.new.p e.pass) (g.met.L.Links.allowed d c.let_go-2.new.p f.pass)),
     )
@@ -43,10 +46,13 @@ returns-clause-stepped g c = λ start s w.
     let v = g.L.Links.seat d c.let_go-2.new.p in
     let e = c.let_go.ensures in
     let f = c.let_go-2.ensures in
-    let m = a.walk.place + 1 in
-    let counted : (start : Place) (s : Seat SplitNote) → Passed (split_reading n) start a.wanted m (count_on a.walk.has_key a.walk.passed) (Some a.walk.at) None a.next s v
-    → Passed (split_reading n) start a.wanted m c.count_one-passed.result (Some a.walk.at) None a.next s v
-    = λ start s k. subst (λ (x : ℕ). Passed (split_reading n) start a.wanted m x (Some a.walk.at) None a.next s v) (sym c.count_one-passed.ensures) k in
-    c.go_on.ensures.stepped start a.wanted s m (counted start s (passed_lower (split_ordering n) start a.wanted a.walk.left a.walk.first a.walk.at a.walk.place a.walk.has_key a.walk.passed a.next s t u v w c.requires.lower e.let_go f.let_go
+    let m = rank_of a.walk.place + 1 in
+    let counted : (start : Place) (s : Seat SplitNote) → Passed (split_reading n) start (rank_of a.wanted) m (count_on a.walk.place.has_key a.walk.passed)
+    (Some a.walk.at) None a.next s v
+    → Passed (split_reading n) start (rank_of a.wanted) m c.count_one-passed.result (Some a.walk.at) None a.next s v
+    = λ start s k. subst (λ (x : ℕ). Passed (split_reading n) start (rank_of a.wanted) m x (Some a.walk.at) None a.next s v) (sym c.count_one-passed.ensures)
+    k in
+    c.go_on.ensures.stepped start (rank_of a.wanted) s m (counted start s (passed_lower (split_ordering n) start (rank_of a.wanted) a.walk.left a.walk.first
+    a.walk.at (rank_of a.walk.place) a.walk.place.has_key a.walk.passed a.next s t u v w c.requires.lower e.let_go f.let_go
     (λ i h. g.met.L.Links.fresh_is d a.p.now i c.requires.pass h) (λ i h. g.met.L.Links.fresh_is d c.let_go.new.p i e.pass h)
     (g.met.L.Links.allowed d c.let_go.new.p e.pass) (g.met.L.Links.allowed d c.let_go-2.new.p f.pass)))

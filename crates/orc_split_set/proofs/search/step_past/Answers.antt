@@ -1,6 +1,7 @@
 -- The marked node belongs to the run.
 use Rattle.std.proofs.Common.{◌+◌}
 use Rattle.orc_ordered_search.proofs.Stepping.{passed_marked}
+use Rattle.orc_split_set.specs.SplitSearches.{rank_of}
 use Rattle.orc_split_set.proofs.Ordered.{split_ordering}
 use Rattle.orc_split_set.proofs.search.step_past.Goals as goal
 
@@ -16,8 +17,9 @@ go_on-requires-clause-passed g c =
       start,
       wanted,
       s,
-      a.walk.place + 1,
-      passed_marked (split_ordering n) start wanted a.walk.left a.walk.first a.walk.at a.walk.place a.walk.has_key a.walk.passed a.next k.result s t u w k.ensures.kept
+      rank_of a.walk.place + 1,
+      passed_marked (split_ordering n) start wanted a.walk.left a.walk.first a.walk.at (rank_of a.walk.place) a.walk.place.has_key a.walk.passed a.next
+          k.result s t u w k.ensures.kept
           (λ i e. g.met.L.Links.fresh_is d a.p.now i c.requires.pass e) (g.met.L.Links.allowed d k.new.p k.ensures.pass),
     )
 
@@ -29,6 +31,7 @@ returns-clause-stepped g c = λ start wanted s w.
     let a = c.args in
     let k = c.keep_first-first in
     let u = g.L.Links.seat d k.new.p in
-    c.go_on.ensures.stepped start wanted s (a.walk.place + 1)
-    (passed_marked (split_ordering n) start wanted a.walk.left a.walk.first a.walk.at a.walk.place a.walk.has_key a.walk.passed a.next k.result s t u w k.ensures.kept
+    c.go_on.ensures.stepped start wanted s (rank_of a.walk.place + 1)
+    (passed_marked (split_ordering n) start wanted a.walk.left a.walk.first a.walk.at (rank_of a.walk.place) a.walk.place.has_key a.walk.passed a.next
+    k.result s t u w k.ensures.kept
     (λ i e. g.met.L.Links.fresh_is d a.p.now i c.requires.pass e) (g.met.L.Links.allowed d k.new.p k.ensures.pass))

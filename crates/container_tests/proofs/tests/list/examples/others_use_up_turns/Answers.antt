@@ -2,7 +2,6 @@
 use Rattle.std.proofs.Common.{List, Some, [], arith, ℕ, ◌≡◌, ◌≤◌}
 use Rattle.std.specs.List.{slice_get}
 use Rattle.orc_chain_rule.specs.Counts.{AreLeftOver}
-use Rattle.orc_chain_rule.specs.declared.chain.ChainNote.{ChainNote}
 use Rattle.orc_heap.specs.Heap.{Node, new_heap}
 use Rattle.container_tests.proofs.tests.list.examples.others_use_up_turns.Goals as goal
 
