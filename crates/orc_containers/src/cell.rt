@@ -1,17 +1,17 @@
 //! A cell of two parts and its passes.
 
-ghost use Rattle.std.specs.Prelude.{◌≡◌, ◌+◌, ◌*◌, ◌<◌, ◌^◌, ℕ, [], All, IfOk, length, slice_index_or};
+ghost use Rattle.std.specs.Prelude.{◌≡◌, ◌+◌, ◌*◌, ◌<◌, ◌≤◌, ◌^◌, ℕ, [], All, IfOk, length, slice_index_or};
 ghost use Rattle.orc_cell.specs.CellCalls.{IsUsable, history};
 ghost use Rattle.orc_heap.specs.Domains.{agent};
 ghost use Rattle.orc_words.specs.Bounds.{Bounds, bounds_of};
 
-use crate::unmade::{LIMIT, Unmade};
+use crate::unmade::Unmade;
 use orc_any_domain::Domain;
 use orc_cell::Cell;
 use orc_fault::NoMemory;
 use orc_heap::Seed;
 use orc_pairs_rule::Pairs;
-use orc_words::{Shape, ShapeFault};
+use orc_words::{HIGHEST_LIMIT, Shape, ShapeFault};
 use std::alloc::Global;
 
 /// A cell over a domain of this shape, whose rows have two links and which has 1 + 2 × agents roots, and a pass for each agent, in
@@ -33,6 +33,7 @@ pub fn cell_over<L: Domain<Rule = Pairs>>(
     ensures fresh { IfOk result (λ made. All (λ p. history L.Links made.0.links p ≡ []) made.1.items) }
     ensures all { IfOk result (λ made. L.agents made.0.links ≡ (bounds_of shape.now).agents) }
     ensures bounds { IfOk result (λ made. L.bounds made.0.links ≡ bounds_of shape.now) }
+    ensures opening { IfOk result (λ made. L.opening made.0.links ≡ []) }
 {
     let (domain, passes) = L::make(alloc, shape, Seed::Empty)?;
     Ok((Cell::new(domain), passes))
@@ -53,6 +54,7 @@ pub fn new_cell<L: Domain<Rule = Pairs>>(
     ensures agents { IfOk result (λ made. (i : ℕ) (p : L.Pass) → i < length made.1.items
         → agent L.Links made.0.links (slice_index_or made.1.items i p) ≡ i) }
     ensures passes { IfOk result (λ made. length made.1.items ≡ agents) }
+    ensures few { IfOk result (λ made. agents ≤ 16) }
     ensures fresh { IfOk result (λ made. All (λ p. history L.Links made.0.links p ≡ []) made.1.items) }
     ensures all { IfOk result (λ made. L.agents made.0.links ≡ agents) }
     ensures bounds { let asked : Bounds = record { rows = rows; roots = 1 + 2 * agents; agents = agents; limit = 2 ^ 39; links = 2 } in
@@ -61,7 +63,7 @@ pub fn new_cell<L: Domain<Rule = Pairs>>(
     if agents > 16 {
         return Err(Unmade::Shape(ShapeFault::Agents(agents)));
     }
-    let shape = Shape::with_links(rows, 1 + 2 * agents, agents, LIMIT, 2)?;
+    let shape = Shape::with_links(rows, 1 + 2 * agents, agents, HIGHEST_LIMIT, 2)?;
     let made = cell_over(alloc, &shape)?;
     Ok(made)
 }

@@ -1,16 +1,19 @@
 //! A queue and its passes.
 
 ghost use Rattle.std.specs.Prelude.{◌≡◌, ◌<◌, ◌≤◌, ◌^◌, ℕ, [], All, IfOk, length, slice_index_or};
+ghost use Rattle.orc_fifo_rule.specs.declared.fifo.FifoNote.TheVariants.{Begin};
+ghost use Rattle.orc_heap.specs.Seeds.{opening_events};
+ghost use Rattle.orc_heap.specs.declared.seed.Seed.TheVariants.{Dummy};
 ghost use Rattle.orc_words.specs.Bounds.{Bounds, bounds_of};
 
-use crate::unmade::{LIMIT, Unmade};
+use crate::unmade::Unmade;
 use orc_any_domain::Domain;
 use orc_fault::NoMemory;
 use orc_fifo_rule::{Fifo, FifoNote};
 use orc_heap::Seed;
 use orc_history::{LearnQueue, SharedQueue};
 use orc_queue::Queue;
-use orc_words::Shape;
+use orc_words::{HIGHEST_LIMIT, Shape};
 use std::alloc::Global;
 
 /// A queue over a domain of this shape, whose first job gets the position `first`, at most 2^62, and a pass for each agent, in
@@ -36,6 +39,7 @@ pub fn queue_over<L: Domain<Rule = Fifo>>(
     ensures all { IfOk result (λ made. ⟦<Queue<L> as LearnQueue>⟧.agents made.0 ≡ (bounds_of shape.now).agents) }
     ensures first { IfOk result (λ made. ⟦<Queue<L> as SharedQueue>⟧.first made.0 ≡ first) }
     ensures bounds { IfOk result (λ made. L.bounds made.0.links ≡ bounds_of shape.now) }
+    ensures opening { IfOk result (λ made. L.opening made.0.links ≡ opening_events (Dummy first Begin)) }
 {
     let seed = Seed::Dummy {
         first,
@@ -60,6 +64,7 @@ pub fn new_queue<L: Domain<Rule = Fifo>>(
     ensures agents { IfOk result (λ made. (i : ℕ) (p : L.Pass) → i < length made.1.items
         → ⟦<Queue<L> as SharedQueue>⟧.agent_of made.0 (slice_index_or made.1.items i p) ≡ i) }
     ensures passes { IfOk result (λ made. length made.1.items ≡ agents) }
+    ensures few { IfOk result (λ made. agents ≤ 16) }
     ensures fresh { IfOk result (λ made. All (λ p. ⟦<Queue<L> as SharedQueue>⟧.history made.0
         (⟦<Queue<L> as SharedQueue>⟧.journal p) ≡ []) made.1.items) }
     ensures all { IfOk result (λ made. ⟦<Queue<L> as LearnQueue>⟧.agents made.0 ≡ agents) }
@@ -67,7 +72,7 @@ pub fn new_queue<L: Domain<Rule = Fifo>>(
     ensures bounds { let asked : Bounds = record { rows = rows; roots = 2; agents = agents; limit = 2 ^ 39; links = 1 } in
         IfOk result (λ made. L.bounds made.0.links ≡ asked) }
 {
-    let shape = Shape::new(rows, 2, agents, LIMIT)?;
+    let shape = Shape::new(rows, 2, agents, HIGHEST_LIMIT)?;
     let made = queue_over(alloc, &shape, 0)?;
     Ok(made)
 }

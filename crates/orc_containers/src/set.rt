@@ -1,9 +1,9 @@
 //! A set of sorted lists and its passes; one list is a set with one bucket.
 
-ghost use Rattle.std.specs.Prelude.{◌≡◌, ◌<◌, ◌^◌, ℕ, [], All, IfOk, length, slice_index_or};
+ghost use Rattle.std.specs.Prelude.{◌≡◌, ◌<◌, ◌≤◌, ◌^◌, ℕ, [], All, IfOk, length, slice_index_or};
 ghost use Rattle.orc_words.specs.Bounds.{Bounds, bounds_of};
 
-use crate::unmade::{LIMIT, Unmade};
+use crate::unmade::Unmade;
 use orc_any_domain::Domain;
 use orc_chain_rule::Chain;
 use orc_fault::NoMemory;
@@ -11,7 +11,7 @@ use orc_heap::Seed;
 use orc_history::{LearnSet, SharedSet};
 use orc_list::List;
 use orc_set::Set;
-use orc_words::Shape;
+use orc_words::{HIGHEST_LIMIT, Shape};
 use std::alloc::Global;
 
 /// An empty set over a domain of this shape, with a bucket for each of its roots, and a pass for each agent, in order.
@@ -31,6 +31,7 @@ pub fn set_over<L: Domain<Rule = Chain>>(
         (⟦<Set<L> as SharedSet>⟧.journal p) ≡ []) made.1.items) }
     ensures all { IfOk result (λ made. ⟦<Set<L> as LearnSet>⟧.agents made.0 ≡ (bounds_of shape.now).agents) }
     ensures bounds { IfOk result (λ made. L.bounds made.0.list.links ≡ bounds_of shape.now) }
+    ensures opening { IfOk result (λ made. L.opening made.0.list.links ≡ []) }
 {
     let (domain, passes) = L::make(alloc, shape, Seed::Empty)?;
     let list = List::new(domain);
@@ -54,13 +55,14 @@ pub fn new_set<L: Domain<Rule = Chain>>(
     ensures agents { IfOk result (λ made. (i : ℕ) (p : L.Pass) → i < length made.1.items
         → ⟦<Set<L> as SharedSet>⟧.agent_of made.0 (slice_index_or made.1.items i p) ≡ i) }
     ensures passes { IfOk result (λ made. length made.1.items ≡ agents) }
+    ensures few { IfOk result (λ made. agents ≤ 16) }
     ensures fresh { IfOk result (λ made. All (λ p. ⟦<Set<L> as SharedSet>⟧.history made.0
         (⟦<Set<L> as SharedSet>⟧.journal p) ≡ []) made.1.items) }
     ensures all { IfOk result (λ made. ⟦<Set<L> as LearnSet>⟧.agents made.0 ≡ agents) }
     ensures bounds { let asked : Bounds = record { rows = rows; roots = buckets; agents = agents; limit = 2 ^ 39; links = 1 } in
         IfOk result (λ made. L.bounds made.0.list.links ≡ asked) }
 {
-    let shape = Shape::new(rows, buckets, agents, LIMIT)?;
+    let shape = Shape::new(rows, buckets, agents, HIGHEST_LIMIT)?;
     let made = set_over(alloc, &shape)?;
     Ok(made)
 }
@@ -79,6 +81,7 @@ pub fn new_list<L: Domain<Rule = Chain>>(
     ensures agents { IfOk result (λ made. (i : ℕ) (p : L.Pass) → i < length made.1.items
         → ⟦<Set<L> as SharedSet>⟧.agent_of made.0 (slice_index_or made.1.items i p) ≡ i) }
     ensures passes { IfOk result (λ made. length made.1.items ≡ agents) }
+    ensures few { IfOk result (λ made. agents ≤ 16) }
     ensures fresh { IfOk result (λ made. All (λ p. ⟦<Set<L> as SharedSet>⟧.history made.0
         (⟦<Set<L> as SharedSet>⟧.journal p) ≡ []) made.1.items) }
     ensures all { IfOk result (λ made. ⟦<Set<L> as LearnSet>⟧.agents made.0 ≡ agents) }

@@ -1,17 +1,17 @@
 //! A split-ordered set and its passes.
 
-ghost use Rattle.std.specs.Prelude.{◌≡◌, ◌+◌, ◌<◌, ◌^◌, ℕ, [], All, IfOk, length, slice_index_or};
+ghost use Rattle.std.specs.Prelude.{◌≡◌, ◌+◌, ◌<◌, ◌≤◌, ◌^◌, ℕ, [], All, IfOk, length, slice_index_or};
 ghost use Rattle.orc_split_rule.specs.SplitDiscipline.{IsSize};
 ghost use Rattle.orc_words.specs.Bounds.{Bounds, bounds_of};
 
-use crate::unmade::{LIMIT, Unmade};
+use crate::unmade::Unmade;
 use orc_any_domain::Domain;
 use orc_fault::NoMemory;
 use orc_heap::Seed;
 use orc_history::{LearnSet, SharedSet};
 use orc_split_rule::Split;
 use orc_split_set::SplitSet;
-use orc_words::Shape;
+use orc_words::{HIGHEST_LIMIT, Shape};
 use std::alloc::Global;
 
 /// An empty set over a domain of this shape, which doubles its buckets up to the `greatest` number of them, a power of two up to
@@ -35,6 +35,7 @@ pub fn split_set_over<L: Domain<Rule = Split>>(
         (⟦<SplitSet<L> as SharedSet>⟧.journal p) ≡ []) made.1.items) }
     ensures all { IfOk result (λ made. ⟦<SplitSet<L> as LearnSet>⟧.agents made.0 ≡ (bounds_of shape.now).agents) }
     ensures bounds { IfOk result (λ made. L.bounds made.0.links ≡ bounds_of shape.now) }
+    ensures opening { IfOk result (λ made. L.opening made.0.links ≡ []) }
 {
     let (domain, passes) = L::make(alloc, shape, Seed::Empty)?;
     Ok((SplitSet::new(domain, greatest), passes))
@@ -58,13 +59,14 @@ pub fn new_split_set<L: Domain<Rule = Split>>(
     ensures agents { IfOk result (λ made. (i : ℕ) (p : L.Pass) → i < length made.1.items
         → ⟦<SplitSet<L> as SharedSet>⟧.agent_of made.0 (slice_index_or made.1.items i p) ≡ i) }
     ensures passes { IfOk result (λ made. length made.1.items ≡ agents) }
+    ensures few { IfOk result (λ made. agents ≤ 16) }
     ensures fresh { IfOk result (λ made. All (λ p. ⟦<SplitSet<L> as SharedSet>⟧.history made.0
         (⟦<SplitSet<L> as SharedSet>⟧.journal p) ≡ []) made.1.items) }
     ensures all { IfOk result (λ made. ⟦<SplitSet<L> as LearnSet>⟧.agents made.0 ≡ agents) }
     ensures bounds { let asked : Bounds = record { rows = rows; roots = greatest + 1; agents = agents; limit = 2 ^ 39; links = 1 } in
         IfOk result (λ made. L.bounds made.0.links ≡ asked) }
 {
-    let shape = Shape::new(rows, greatest + 1, agents, LIMIT)?;
+    let shape = Shape::new(rows, greatest + 1, agents, HIGHEST_LIMIT)?;
     let made = split_set_over(alloc, &shape, greatest)?;
     Ok(made)
 }

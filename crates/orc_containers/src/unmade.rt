@@ -1,10 +1,7 @@
-//! Why nothing was made, and the number that a caller needn't choose.
+//! Why nothing was made.
 
 use orc_fault::NoMemory;
 use orc_words::ShapeFault;
-
-/// From which life or sequence on a row is taken no more, where the caller asks for no other limit: the highest one.
-pub const LIMIT: u64 = 549_755_813_888;
 
 /// Why no container could be made.
 #[derive(Clone, Copy, Debug, PartialEq, Eq, Drop)]

@@ -1,6 +1,3 @@
-pub mod Actual
 pub mod DeskPasses
 pub mod Growing
-mod Quiet
-mod Reusing
 mod SameSizes

@@ -20,7 +20,7 @@ use Rattle.orc_board.specs.Reportable.{AreReportable}
 use Rattle.orc_board.specs.Runs.{Ran}
 use Rattle.orc_board.specs.Stretches.{View}
 use Rattle.orc_run.specs.Containers.{queue_over}
-use Rattle.orc_run.specs.Journals.{GoesOnQuietly}
+use Rattle.orc_at_rest.specs.Journals.{GoesOnQuietly}
 use Rattle.orc_workers.proofs.CameBack.{for_both}
 use Rattle.orc_run.proofs.Growing.{Silent, ran_more}
 

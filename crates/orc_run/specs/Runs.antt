@@ -24,8 +24,8 @@ use Rattle.orc_run.specs.declared.set.SetRest.{SetRest}
 use Rattle.orc_run.specs.declared.set.SetRest.TheVariants as at_rest
 use Rattle.orc_run.specs.Containers.{queue_over, set_over, split_over}
 use Rattle.orc_run.specs.Domains.{agents_of, queue_seed, run_bounds}
-use Rattle.orc_run.specs.Journals.{HasJournal}
-use Rattle.orc_run.specs.Reuse.{LeaksNothing, ReusesSafely}
+use Rattle.orc_at_rest.specs.Journals.{HasJournal}
+use Rattle.orc_at_rest.specs.Reuse.{LeaksNothing, ReusesSafely}
 use Rattle.orc_run.specs.Sets.{HasSetJournal, SetLeaksNothing, SetReusesSafely, set_roots}
 
 -- the sizes of each queue's domain, and of the set's, in a run of so many posters and takers with so many rows

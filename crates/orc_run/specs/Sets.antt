@@ -14,8 +14,8 @@ use Rattle.orc_run.specs.declared.set.SetChoice.TheVariants as choice
 use Rattle.orc_run.specs.declared.set.SetRest.{SetRest}
 use Rattle.orc_run.specs.declared.set.SetRest.TheVariants as at_rest
 use Rattle.orc_run.specs.Domains.{empty_seed, most_buckets}
-use Rattle.orc_run.specs.Journals.{HasJournal}
-use Rattle.orc_run.specs.Reuse.{LeaksNothing, ReusesSafely}
+use Rattle.orc_at_rest.specs.Journals.{HasJournal}
+use Rattle.orc_at_rest.specs.Reuse.{LeaksNothing, ReusesSafely}
 
 -- there are 1 to 256 lists
 abbrev pub IsInRange : SetChoice → Type 0

@@ -9,20 +9,11 @@ ghost use Rattle.orc_run.specs.Domains.{empty_seed, most_buckets, queue_seed, ru
 use crate::lists::{ListsPass, RunLists};
 use crate::queue::{QueuePass, RunQueue};
 use crate::split::{RunSplit, SplitPass};
-use orc_domain::OrcDomain;
+use orc_containers::{queue_over, set_over, split_set_over};
 use orc_fault::NoMemory;
-use orc_fifo_rule::FifoNote;
-use orc_heap::Seed;
 use orc_history::{LearnQueue, LearnSet, SharedQueue, SharedSet};
-use orc_list::List;
-use orc_queue::Queue;
-use orc_set::Set;
-use orc_split_set::SplitSet;
-use orc_words::Shape;
+use orc_words::{HIGHEST_LIMIT, Shape};
 use std::alloc::Global;
-
-/// From which life or sequence on a row is taken no more.
-const LIMIT: u64 = 549_755_813_888;
 
 /// To how many buckets a split-ordered set grows at most.
 const MOST_BUCKETS: u32 = 256;
@@ -34,7 +25,7 @@ fn shape_of(rows: u32, roots: u32, agents: u32) -> Shape
     requires agents { (1 ≤ agents) × (agents ≤ 16) }
     ensures { bounds_of result ≡ run_bounds rows roots agents }
 {
-    let Ok(shape) = Shape::new(rows, roots, agents, LIMIT) else {
+    let Ok(shape) = Shape::new(rows, roots, agents, HIGHEST_LIMIT) else {
         unreachable!()
     };
     shape
@@ -63,12 +54,7 @@ pub fn make_queue(
     ensures bounds { IfOk result (λ made. domain_bounds made.0.queue.links ≡ run_bounds rows 2 agents) }
     ensures seed { IfOk result (λ made. board_seed made.0.queue.links.board ≡ queue_seed) }
 {
-    let seed = Seed::Dummy {
-        first: 0,
-        begin: FifoNote::Begin,
-    };
-    let (domain, passes) = OrcDomain::make(alloc, &shape_of(rows, 2, agents), seed)?;
-    let queue = Queue::new(domain);
+    let (queue, passes) = queue_over(alloc, &shape_of(rows, 2, agents), 0)?;
     Ok((RunQueue { queue }, passes))
 }
 
@@ -92,8 +78,7 @@ pub(crate) fn make_lists(
     ensures bounds { IfOk result (λ made. domain_bounds made.0.set.list.links ≡ run_bounds rows buckets agents) }
     ensures seed { IfOk result (λ made. board_seed made.0.set.list.links.board ≡ empty_seed) }
 {
-    let (domain, passes) = OrcDomain::make(alloc, &shape_of(rows, buckets, agents), Seed::Empty)?;
-    let set = Set::new(List::new(domain), buckets);
+    let (set, passes) = set_over(alloc, &shape_of(rows, buckets, agents))?;
     Ok((RunLists { set }, passes))
 }
 
@@ -116,7 +101,6 @@ pub(crate) fn make_split(
     ensures seed { IfOk result (λ made. board_seed made.0.set.links.board ≡ empty_seed) }
 {
     let shape = shape_of(rows, MOST_BUCKETS + 1, agents);
-    let (domain, passes) = OrcDomain::make(alloc, &shape, Seed::Empty)?;
-    let set = SplitSet::new(domain, MOST_BUCKETS);
+    let (set, passes) = split_set_over(alloc, &shape, MOST_BUCKETS)?;
     Ok((RunSplit { set }, passes))
 }

@@ -13,7 +13,6 @@ mod split;
 mod work;
 
 pub use containers::make_queue;
-pub use ending::bring_to_rest;
 pub use queue::{QueuePass, RunQueue};
 pub use run::{Finished, run_lines};
 pub use set::{SetChoice, SetRest};

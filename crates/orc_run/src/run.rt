@@ -7,9 +7,9 @@ ghost use Rattle.orc_run.specs.Sets.{IsInRange};
 ghost use Rattle.orc_run.specs.declared.set.SetChoice.{SetChoice};
 
 use crate::containers::{make_lists, make_split};
-use crate::ending::bring_to_rest;
 use crate::set::{SetChoice, SetRest};
 use crate::work::{Worked, work};
+use orc_at_rest::bring_to_rest;
 use orc_board::{Gate, Replies};
 use orc_domain::OrcRest;
 use orc_fault::NoMemory;

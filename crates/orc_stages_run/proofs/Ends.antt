@@ -16,8 +16,8 @@ use Rattle.orc_domain.specs.declared.at_rest.OrcRest.{OrcRest}
 use Rattle.orc_stages.specs.Run.{AreIdle, HaveSeen, StandAhead, TookFirst}
 use Rattle.orc_stages.specs.declared.replies.StageDesk.{StageDesk}
 use Rattle.orc_stages.proofs.Taken.{ahead_many, taken_passes, taken_seen}
-use Rattle.orc_run.proofs.DeskPasses.{ArePasses}
-use Rattle.orc_run.specs.Journals.{IsLeft}
+use Rattle.orc_at_rest.proofs.Passes.{ArePasses}
+use Rattle.orc_at_rest.specs.Journals.{IsLeft}
 use Rattle.orc_run.specs.declared.queue.RunQueue.{RunQueue}
 use Rattle.orc_stages_run.specs.Queues.{AreLeft, LeavesMore}
 

@@ -19,7 +19,7 @@ use Rattle.orc_board.specs.Stretches.{queue_view}
 use Rattle.orc_stages.specs.Desks.{view_at}
 use Rattle.orc_stages.specs.Learning.{AreFor}
 use Rattle.orc_run.specs.Containers.{queue_over}
-use Rattle.orc_run.specs.Journals.{GoesOnQuietly, IsLeft}
+use Rattle.orc_at_rest.specs.Journals.{GoesOnQuietly, IsLeft}
 use Rattle.orc_run.specs.declared.queue.RunQueue.{RunQueue}
 use Rattle.orc_run.specs.contracts.queue.RunQueueLearnQueue.TheImpl as learns
 use Rattle.orc_run.specs.contracts.queue.RunQueueSharedQueue.TheImpl as queue

@@ -7,12 +7,13 @@ ghost use Rattle.orc_sound.specs.declared.steps.Step.{Step};
 ghost use Rattle.orc_stages.specs.Run.{AreIdle, HaveSeen};
 ghost use Rattle.orc_stages_run.specs.Queues.{IsFor, LeavesMore};
 
+use orc_at_rest::bring_to_rest;
 use orc_board::ReplyList;
 use orc_domain::OrcRest;
 use orc_fault::NoMemory;
 use orc_fifo_rule::Fifo;
 use orc_history::SharedQueue;
-use orc_run::{QueuePass, RunQueue, bring_to_rest};
+use orc_run::{QueuePass, RunQueue};
 use orc_stages::{StageDesk, take_first};
 use std::alloc::Global;
 

@@ -9,16 +9,13 @@ ghost use Rattle.orc_watch_run.specs.Passes.{AreFresh};
 ghost use Rattle.orc_words.specs.Bounds.{bounds_of};
 
 use orc_cell::Cell;
+use orc_containers::cell_over;
 use orc_domain::{OrcDomain, OrcPass};
 use orc_fault::NoMemory;
-use orc_heap::{Links, Seed};
+use orc_heap::Links;
 use orc_pairs_rule::Pairs;
-use orc_watch_run::new_passes_are_fresh;
-use orc_words::Shape;
+use orc_words::{HIGHEST_LIMIT, Shape};
 use std::alloc::Global;
-
-/// From which life or sequence on a row is taken no more.
-const LIMIT: u64 = 549_755_813_888;
 
 /// A cell over a reclaiming domain.
 pub(crate) type OrcCell = Cell<OrcDomain<Pairs>>;
@@ -32,7 +29,7 @@ fn shape_of(rows: u32, agents: u32) -> Shape
     requires agents { (1 ≤ agents) × (agents ≤ 16) }
     ensures { bounds_of result ≡ cell_bounds rows agents }
 {
-    let Ok(shape) = Shape::with_links(rows, 1 + 2 * agents, agents, LIMIT, 2) else {
+    let Ok(shape) = Shape::with_links(rows, 1 + 2 * agents, agents, HIGHEST_LIMIT, 2) else {
         unreachable!()
     };
     shape
@@ -51,8 +48,6 @@ pub(crate) fn make_cell(
     ensures bounds { IfOk result (λ made. domain_bounds made.0.links ≡ cell_bounds rows agents) }
     ensures seed { IfOk result (λ made. board_seed made.0.links.board ≡ Empty) }
 {
-    let (domain, passes) = OrcDomain::make(alloc, &shape_of(rows, agents), Seed::Empty)?;
-    let cell = Cell::new(domain);
-    new_passes_are_fresh(&cell, &passes);
+    let (cell, passes) = cell_over(alloc, &shape_of(rows, agents))?;
     Ok((cell, passes))
 }

@@ -4,7 +4,6 @@
 mod answer;
 mod learning;
 mod lines;
-mod passes;
 mod reserve;
 mod run;
 mod seating;
@@ -13,5 +12,4 @@ mod workplace;
 
 pub use answer::{publish_parts, read_parts};
 pub use lines::watch_lines;
-pub use passes::new_passes_are_fresh;
 pub use run::{Watched, run_watch};

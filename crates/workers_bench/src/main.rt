@@ -10,7 +10,6 @@ mod bare;
 mod laps;
 mod lines;
 mod options;
-mod plain;
 mod races;
 
 use lines::falling;

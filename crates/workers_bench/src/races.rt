@@ -5,16 +5,22 @@ ghost use Rattle.orc_jobs.specs.GoodLines.{AreGood};
 
 use crate::laps::{Lap, lap_of_calls, lap_of_workers};
 use crate::options::Options;
-use crate::plain::{ROWS, queue_over, set_over};
 use orc_board::OpenGate;
+use orc_chain_rule::Chain;
+use orc_containers::{new_queue, new_set};
+use orc_fifo_rule::Fifo;
 use orc_history::{LearnQueue, SharedQueue};
 use orc_jobs::Lines;
+use orc_plain_domain::PlainDomain;
 use orc_run::{SetChoice, run_lines};
 use std::alloc::Global;
 use std::io;
 use std::sync::Wait;
 use std::thread::Threads;
 use std::time::Clock;
+
+// How many rows each domain has.
+const ROWS: u32 = 65_535;
 
 // A lap by workers over these queues and a set over a plain domain.
 fn workers_beside_a_set<R: Threads + Wait + Clock + Sync, Q: LearnQueue + Sync>(
@@ -45,7 +51,8 @@ where
     requires rush_all { (length rush_passes.items ≡ 1 + (posters + takers)) × (Q.agents rush.now ≡ 1 + (posters + takers)) }
     requires first { (Q.first queue.now ≡ 0) × (Q.first rush.now ≡ 0) }
 {
-    let Ok((set, set_passes)) = set_over(alloc, buckets, 1 + posters + takers) else {
+    let agents = 1 + posters + takers;
+    let Ok((set, set_passes)) = new_set::<PlainDomain<Chain>>(alloc, ROWS, agents, buckets) else {
         return Ok(None);
     };
     lap_of_workers(
@@ -75,10 +82,11 @@ fn workers_on_plain<R: Threads + Wait + Clock + Sync>(
     requires good { AreGood lines.now }
     requires posters { (1 ≤ posters) × (posters ≤ 8) × (takers ≤ 7) }
 {
-    let Ok((queue, queue_passes)) = queue_over(alloc, 1 + posters + takers) else {
+    let agents = 1 + posters + takers;
+    let Ok((queue, queue_passes)) = new_queue::<PlainDomain<Fifo>>(alloc, ROWS, agents) else {
         return Ok(None);
     };
-    let Ok((rush, rush_passes)) = queue_over(alloc, 1 + posters + takers) else {
+    let Ok((rush, rush_passes)) = new_queue::<PlainDomain<Fifo>>(alloc, ROWS, agents) else {
         return Ok(None);
     };
     workers_beside_a_set(
@@ -110,7 +118,8 @@ where
     requires threads { (1 ≤ threads) × (threads ≤ 8) }
     requires queue { All (λ p. Q.usable queue p) queue_passes.items }
 {
-    let Ok((set, set_passes)) = set_over(alloc, buckets, 1 + threads) else {
+    let made = new_set::<PlainDomain<Chain>>(alloc, ROWS, 1 + threads, buckets);
+    let Ok((set, set_passes)) = made else {
         return Ok(None);
     };
     lap_of_calls(rt, posts, threads, (queue, set, queue_passes, set_passes))
@@ -126,7 +135,7 @@ fn calls_on_plain<R: Threads + Clock + Sync>(
 ) -> io::Result<Option<Lap>>
     requires threads { (1 ≤ threads) × (threads ≤ 8) }
 {
-    let Ok((queue, passes)) = queue_over(alloc, 1 + threads) else {
+    let Ok((queue, passes)) = new_queue::<PlainDomain<Fifo>>(alloc, ROWS, 1 + threads) else {
         return Ok(None);
     };
     calls_beside_a_set(rt, alloc, posts, buckets, threads, queue, passes)

@@ -21,6 +21,11 @@ returns-clause-agents g c = c.in_ok-made.ensures.agents
 pub returns-clause-passes : goal.returns-clause-passes
 returns-clause-passes g c = c.in_ok-made.ensures.passes ∙ ap (λ (b : Bounds). b.agents) c.in_ok-shape.ensures.asked
 
+pub returns-clause-few : goal.returns-clause-few
+returns-clause-few g c =
+    let agents : (bounds_of c.in_ok-shape.shape).agents ≡ c.args.agents = ap (λ (b : Bounds). b.agents) c.in_ok-shape.ensures.asked in
+    omega (arith, agents, c.in_ok-shape.shape.few_agents)
+
 pub returns-clause-fresh : goal.returns-clause-fresh
 returns-clause-fresh g c = c.in_ok-made.ensures.fresh
 

@@ -1,6 +1,6 @@
 -- The shape has these numbers.
-use Rattle.std.proofs.Common.{ap, ◌∙◌}
-use Rattle.orc_words.specs.Bounds.{Bounds}
+use Rattle.std.proofs.Common.{ap, arith, ◌∙◌, ◌≡◌}
+use Rattle.orc_words.specs.Bounds.{Bounds, bounds_of}
 use Rattle.orc_containers.proofs.set.new_set.Goals as goal
 
 pub returns-clause-usable : goal.returns-clause-usable
@@ -11,6 +11,11 @@ returns-clause-agents g c = c.in_ok-made.ensures.agents
 
 pub returns-clause-passes : goal.returns-clause-passes
 returns-clause-passes g c = c.in_ok-made.ensures.passes ∙ ap (λ (b : Bounds). b.agents) c.in_ok-shape.ensures.asked
+
+pub returns-clause-few : goal.returns-clause-few
+returns-clause-few g c =
+    let agents : (bounds_of c.in_ok-shape.shape).agents ≡ c.args.agents = ap (λ (b : Bounds). b.agents) c.in_ok-shape.ensures.asked in
+    omega (arith, agents, c.in_ok-shape.shape.few_agents)
 
 pub returns-clause-fresh : goal.returns-clause-fresh
 returns-clause-fresh g c = c.in_ok-made.ensures.fresh

@@ -51,3 +51,6 @@ returns-clause-all g c =
 pub returns-clause-bounds : goal.returns-clause-bounds
 returns-clause-bounds g c =
     sizes_are g.L.Links g.L.Domain.bounds _ _ _ (ap (λ l. l.links) c.new-set.ensures ∙ c.new-list.ensures) c.in_ok-domain.ensures.bounds
+
+pub returns-clause-opening : goal.returns-clause-opening
+returns-clause-opening g c = ap g.L.Links.opening (ap (λ l. l.links) c.new-set.ensures ∙ c.new-list.ensures) ∙ c.in_ok-domain.ensures.opening

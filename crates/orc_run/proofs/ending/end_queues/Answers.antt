@@ -1,6 +1,7 @@
 -- The passes of all desks are all passes of their containers.
 use Rattle.std.proofs.Common.{false, true}
-use Rattle.orc_run.proofs.DeskPasses.{are_all, are_idle, left_of, queue_passes, queue_saw, set_passes, set_saw}
+use Rattle.orc_at_rest.proofs.Passes.{are_all, are_idle, left_of}
+use Rattle.orc_run.proofs.DeskPasses.{queue_passes, queue_saw, set_passes, set_saw}
 use Rattle.orc_run.specs.contracts.queue.RunQueueSharedQueue.TheImpl as queue
 use Rattle.orc_run.proofs.ending.end_queues.Goals as goal
 

@@ -5,8 +5,8 @@ use Rattle.orc_run.specs.Containers.{set_over}
 use Rattle.orc_run.specs.Domains.{agents_of, empty_seed, run_bounds}
 use Rattle.orc_run.specs.Runs.{set_bounds}
 use Rattle.orc_run.specs.declared.set.SetChoice.TheVariants as choice
-use Rattle.orc_run.proofs.Actual.{left_journal, left_rest, left_reuse}
-use Rattle.orc_run.proofs.DeskPasses.{are_all, are_idle, left_of}
+use Rattle.orc_at_rest.proofs.Actual.{left_journal, left_rest, left_reuse}
+use Rattle.orc_at_rest.proofs.Passes.{are_all, are_idle, left_of}
 use Rattle.orc_run.proofs.SameSizes.{set_at_rest}
 use Rattle.orc_run.proofs.run.run_over_lists.Goals as goal
 

@@ -7,7 +7,7 @@ use Rattle.orc_domain.specs.Passes.{domain_bounds, domain_numbers, domain_openin
 use Rattle.orc_workers.proofs.CameBack.{for_both}
 use Rattle.orc_run.specs.Domains.{agents_of, queue_seed, run_bounds}
 use Rattle.orc_run.specs.Runs.{EndsWithoutLeak, HasQueueJournal, ReusesRowsSafely, queue_bounds}
-use Rattle.orc_run.proofs.Actual.{left_journal, left_rest, left_reuse}
+use Rattle.orc_at_rest.proofs.Actual.{left_journal, left_rest, left_reuse}
 use Rattle.orc_run.specs.declared.queue.RunQueue.{RunQueue}
 use Rattle.orc_run.proofs.SameSizes.{ran_both}
 use Rattle.orc_run.proofs.work.work.Goals as goal

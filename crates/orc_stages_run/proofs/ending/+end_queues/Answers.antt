@@ -3,7 +3,7 @@ use Rattle.std.proofs.Common.{rules, ◌≡◌, ◌<◌, ◌≤◌, ℕ, suc, Li
 use Rattle.std.specs.List.{AllByRecursion}
 use Rattle.orc_stages.specs.Run.{AreIdle}
 use Rattle.orc_stages.proofs.Taken.{first_and_rest, idle_passes}
-use Rattle.orc_run.proofs.DeskPasses.{are_all, are_idle, left_of}
+use Rattle.orc_at_rest.proofs.Passes.{are_all, are_idle, left_of}
 use Rattle.orc_run.specs.contracts.queue.RunQueueSharedQueue.TheImpl as queue
 use Rattle.orc_run.specs.declared.queue.RunQueue.{RunQueue}
 use Rattle.orc_stages_run.specs.Queues.{IsFor}

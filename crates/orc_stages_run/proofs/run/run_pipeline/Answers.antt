@@ -7,7 +7,7 @@ use Rattle.orc_stages.specs.Desks.{view_at}
 use Rattle.orc_stages.specs.Learning.{AreFor}
 use Rattle.orc_stages.specs.Pipeline.{IsPipeline}
 use Rattle.orc_stages.specs.Run.{HaveSeen, IsRunOf, first_seen}
-use Rattle.orc_run.proofs.Actual.{left_journal, left_rest, left_reuse}
+use Rattle.orc_at_rest.proofs.Actual.{left_journal, left_rest, left_reuse}
 use Rattle.orc_run.specs.Containers.{queue_over}
 use Rattle.orc_run.specs.Domains.{agents_of, queue_seed, run_bounds}
 use Rattle.orc_run.specs.Runs.{EndsWithoutLeak, HasQueueJournal, ReusesRowsSafely, queue_bounds}

@@ -1,11 +1,30 @@
--- The discipline holds before all events.
-use Rattle.std.proofs.Common.{◌≡◌, ◌*◌, ◌+◌, ap, arith}
+-- What any domain's cell promises, said of a reclaiming one.
+use Rattle.std.proofs.Common.{ap, arith, ◌*◌, ◌+◌, ◌∙◌, ◌≡◌}
+use Rattle.orc_at_rest.proofs.Seeds.{seed_told}
+use Rattle.orc_heap.specs.declared.seed.Seed.TheVariants.{Empty}
+use Rattle.orc_watch_run.proofs.Rooms.{fresh_of}
 use Rattle.orc_words.specs.Bounds.{Bounds, bounds_of}
-use Rattle.orc_projection.specs.Mirror.{numbers_of}
-use Rattle.orc_pairs_rule.proofs.Later.{nothing_yet}
 use Rattle.orc_watch_domain.proofs.cell.make_cell.Goals as goal
 
-pub make-requires-clause-holds : goal.make-requires-clause-holds
-make-requires-clause-holds c =
+pub cell_over-requires-clause-links : goal.cell_over-requires-clause-links
+cell_over-requires-clause-links c = ap (λ (b : Bounds). b.links) c.shape_of.ensures
+
+pub cell_over-requires-clause-roots : goal.cell_over-requires-clause-roots
+cell_over-requires-clause-roots c =
     let roots : (bounds_of c.shape_of.result).roots ≡ 1 + 2 * c.args.agents = ap (λ (b : Bounds). b.roots) c.shape_of.ensures in
-    nothing_yet (numbers_of (bounds_of c.shape_of.result)) (omega (arith, roots))
+    let agents : (bounds_of c.shape_of.result).agents ≡ c.args.agents = ap (λ (b : Bounds). b.agents) c.shape_of.ensures in
+    omega (arith, roots, agents)
+
+pub returns-clause-fresh : goal.returns-clause-fresh
+returns-clause-fresh c =
+    let made = c.in_ok-cell.ensures in
+    fresh_of _ c.in_ok-cell.cell.links 0 c.in_ok-cell.passes.items made.usable made.fresh (λ i q low. let n = made.agents i q low in omega (arith, n))
+
+pub returns-clause-passes : goal.returns-clause-passes
+returns-clause-passes c = c.in_ok-cell.ensures.passes ∙ ap (λ (b : Bounds). b.agents) c.shape_of.ensures
+
+pub returns-clause-bounds : goal.returns-clause-bounds
+returns-clause-bounds c = c.in_ok-cell.ensures.bounds ∙ c.shape_of.ensures
+
+pub returns-clause-seed : goal.returns-clause-seed
+returns-clause-seed c = seed_told _ Empty c.in_ok-cell.ensures.opening
