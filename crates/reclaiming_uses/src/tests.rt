@@ -6,3 +6,4 @@ mod four_threads;
 mod hold_in_queue;
 mod mark_in_list;
 mod set_calls;
+mod split_calls;

@@ -7,8 +7,8 @@ ghost use Rattle.orc_stress.specs.Passes.{AreReady};
 ghost use Rattle.stress.specs.Stops.{HasStopped};
 
 use crate::calls::call_cell;
-use crate::domains::Ending;
-use crate::runs::Resting;
+use crate::runs::{Resting, rested};
+use orc_any_domain::Domain;
 use orc_cell::Cell;
 use orc_heap::{Held, Links};
 use orc_pairs_rule::Pairs;
@@ -19,12 +19,12 @@ const UNPUBLISHED: u64 = u64::MAX;
 
 // A cell, whose calls are made in so many tries.
 #[derive(Drop)]
-pub(crate) struct DrivenCell<L: Ending<Rule = Pairs>> {
+pub(crate) struct DrivenCell<L: Domain<Rule = Pairs>> {
     cell: Cell<L>,
     turns: u64,
 }
 
-impl<L: Ending<Rule = Pairs>> DrivenCell<L> {
+impl<L: Domain<Rule = Pairs>> DrivenCell<L> {
     // Takes a cell, whose calls are made as the settings say.
     pub(crate) fn new(cell: Cell<L>, settings: &Settings) -> DrivenCell<L>
         ensures { result.cell ≡ cell }
@@ -36,7 +36,7 @@ impl<L: Ending<Rule = Pairs>> DrivenCell<L> {
     }
 }
 
-impl<L: Ending<Rule = Pairs>> Container for DrivenCell<L> {
+impl<L: Domain<Rule = Pairs>> Container for DrivenCell<L> {
     type Pass = L::Pass;
 
     type Hold = Option<Held>;
@@ -75,13 +75,13 @@ impl<L: Ending<Rule = Pairs>> Container for DrivenCell<L> {
     }
 }
 
-impl<L: Ending<Rule = Pairs>> Resting for DrivenCell<L> {
+impl<L: Domain<Rule = Pairs>> Resting for DrivenCell<L> {
     ghost agents = { λ c. L.agents c.cell.links };
 
     fn rest(self, passes: Vec<L::Pass>) -> Counts
         requires ready { AreReady (IsUsable L.Links self.cell.links) (agent L.Links self.cell.links) passes.items }
         requires all { length passes.items ≡ L.agents self.cell.links }
     {
-        self.cell.into_links().end(passes)
+        rested(self.cell.into_links(), passes)
     }
 }

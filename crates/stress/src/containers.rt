@@ -1,18 +1,18 @@
 //! Containers over domains, as they are driven.
 
-ghost use Rattle.std.specs.Prelude.{◌≡◌, ◌<◌};
+ghost use Rattle.std.specs.Prelude.{◌≡◌, ◌<◌, length};
+ghost use Rattle.orc_any_domain.specs.Domains.{IsIdlePass};
 ghost use Rattle.orc_heap.specs.Domains.{agent};
-ghost use Rattle.stress.specs.Passes.{AreAllIdle, IsIdlePass};
+ghost use Rattle.orc_stress.specs.Passes.{AreReady};
 ghost use Rattle.stress.specs.Stops.{IsStopped};
 
 use crate::calls::{call_queue, call_set, inserted};
-use crate::domains::Ending;
-use crate::runs::Resting;
+use crate::runs::{Resting, rested};
 use crate::stops::{hold_first, let_go};
+use orc_any_domain::Domain;
 use orc_chain_rule::Chain;
 use orc_fifo_rule::Fifo;
 use orc_heap::Held;
-use orc_list::OneList;
 use orc_queue::Queue;
 use orc_set::Set;
 use orc_split_rule::Split;
@@ -21,7 +21,7 @@ use orc_stress::{Ask, Container, Counts, Outcome, Settings, Stop};
 use std::marker::PhantomData;
 
 // A container over a domain, which agents call with passes of that.
-pub(crate) trait Over<L: Ending> {
+pub(crate) trait Over<L: Domain> {
     // the domain that it stands on
     ghost domain_of: { Self → L };
 
@@ -41,7 +41,7 @@ pub(crate) trait Over<L: Ending> {
         ensures agent { agent L.Links (domain_of self.now) p.new ≡ agent L.Links (domain_of self.now) p.old };
 }
 
-impl<L: Ending<Rule = Fifo>> Over<L> for Queue<L> {
+impl<L: Domain<Rule = Fifo>> Over<L> for Queue<L> {
     ghost domain_of = { λ c. c.links };
 
     fn domain(&self) -> &L {
@@ -62,7 +62,7 @@ impl<L: Ending<Rule = Fifo>> Over<L> for Queue<L> {
     }
 }
 
-impl<L: Ending<Rule = Chain>> Over<L> for OneList<L> {
+impl<L: Domain<Rule = Chain>> Over<L> for Set<L> {
     ghost domain_of = { λ c. c.list.links };
 
     fn domain(&self) -> &L {
@@ -83,28 +83,7 @@ impl<L: Ending<Rule = Chain>> Over<L> for OneList<L> {
     }
 }
 
-impl<L: Ending<Rule = Chain>> Over<L> for Set<L> {
-    ghost domain_of = { λ c. c.list.links };
-
-    fn domain(&self) -> &L {
-        self.links()
-    }
-
-    fn into_domain(self) -> L {
-        self.into_links()
-    }
-
-    fn call(&self, p: &mut L::Pass, ask: &Ask, turns: u64) -> Outcome {
-        if let Ask::TakeAndStop(key) = ask {
-            if self.mark_and_stop(p, *key) {
-                return Outcome::Removed(*key);
-            }
-        }
-        call_set(self, p, ask, turns)
-    }
-}
-
-impl<L: Ending<Rule = Split>> Over<L> for SplitSet<L> {
+impl<L: Domain<Rule = Split>> Over<L> for SplitSet<L> {
     ghost domain_of = { λ c. c.links };
 
     fn domain(&self) -> &L {
@@ -125,7 +104,7 @@ impl<L: Ending<Rule = Split>> Over<L> for SplitSet<L> {
 
 // A container as it is driven, over a domain that has a root.
 #[derive(Drop)]
-pub(crate) struct Rooted<L: Ending, C: Over<L>> {
+pub(crate) struct Rooted<L: Domain, C: Over<L>> {
     container: C,
     turns: u64,
     stop: Stop,
@@ -133,7 +112,7 @@ pub(crate) struct Rooted<L: Ending, C: Over<L>> {
     ghost root: { 0 < (L.numbers (C.domain_of container)).roots },
 }
 
-impl<L: Ending, C: Over<L>> Rooted<L, C> {
+impl<L: Domain, C: Over<L>> Rooted<L, C> {
     // Takes a container over a domain that has a root, whose calls are made and stopped as the settings say.
     pub(crate) fn new(container: C, settings: &Settings) -> Rooted<L, C>
         requires { 0 < (L.numbers (C.domain_of container)).roots }
@@ -148,7 +127,7 @@ impl<L: Ending, C: Over<L>> Rooted<L, C> {
     }
 }
 
-impl<L: Ending, C: Over<L>> Container for Rooted<L, C> {
+impl<L: Domain, C: Over<L>> Container for Rooted<L, C> {
     type Pass = L::Pass;
 
     type Hold = Option<Held>;
@@ -195,12 +174,13 @@ impl<L: Ending, C: Over<L>> Container for Rooted<L, C> {
     }
 }
 
-impl<L: Ending, C: Over<L>> Resting for Rooted<L, C> {
+impl<L: Domain, C: Over<L>> Resting for Rooted<L, C> {
     ghost agents = { λ c. L.agents (C.domain_of c.container) };
 
     fn rest(self, passes: Vec<L::Pass>) -> Counts
-        requires { AreAllIdle L.Links (C.domain_of self.container) passes.items }
+        requires ready { AreReady (IsIdlePass L.Links (C.domain_of self.container)) (agent L.Links (C.domain_of self.container)) passes.items }
+        requires all { length passes.items ≡ L.agents (C.domain_of self.container) }
     {
-        self.container.into_domain().end(passes)
+        rested(self.container.into_domain(), passes)
     }
 }

@@ -6,12 +6,13 @@ mod calls;
 mod cells;
 mod choices;
 mod containers;
-mod domains;
+mod driven;
 mod runs;
 mod sorted;
 mod stops;
 
-use choices::{Unmade, run};
+use choices::run;
+use orc_containers::Unmade;
 use orc_stress::{
     Counts, Driven, Refused, Settings, judge, print_figures, settings_of, tell_missing,
 };

@@ -1,11 +1,14 @@
 //! A run of any container.
 
-ghost use Rattle.std.specs.Prelude.{◌≡◌, ◌*◌, ◌≤◌, ℕ, IfOk, length};
+ghost use Rattle.std.specs.Prelude.{◌≡◌, ◌+◌, ◌*◌, ◌≤◌, ℕ, IfOk, length};
+ghost use Rattle.orc_any_domain.specs.Domains.{AreAllIdle};
 ghost use Rattle.orc_stress.specs.Answers.{calls_of};
 ghost use Rattle.orc_stress.specs.Passes.{AreReady};
 
+use orc_any_domain::Domain;
+use orc_fault::NoMemory;
 use orc_stress::{Container, Counts, Driven, Plan, drive};
-use std::alloc::{AllocError, Global};
+use std::alloc::Global;
 use std::thread::Threads;
 use std::time::{Clock, Instant};
 
@@ -20,6 +23,20 @@ pub(crate) trait Resting: Container {
         requires all { length passes.items ≡ agents self };
 }
 
+// Brings a domain to rest with all its passes, and counts rows.
+pub(crate) fn rested<L: Domain>(domain: L, passes: Vec<L::Pass>) -> Counts
+    requires { AreAllIdle L.Links domain passes.items }
+    ensures balance { result.given ≡ result.reused + result.linked }
+{
+    let rest = domain.end(passes);
+    let counts = L::counts(&rest);
+    Counts {
+        given: counts.given,
+        reused: counts.reused,
+        linked: counts.linked,
+    }
+}
+
 // Drives a container, and brings it to rest.
 #[tactic(auto, using(orc_stress::proofs::Staying::first_agents_stay, orc_stress::proofs::Staying::as_many_stay, orc_stress::proofs::Staying::first_ready))]
 pub(crate) fn drive_to_rest<R: Threads + Clock + Sync, C: Resting + Sync + Drop>(
@@ -29,7 +46,7 @@ pub(crate) fn drive_to_rest<R: Threads + Clock + Sync, C: Resting + Sync + Drop>
     instant: Instant,
     container: C,
     passes: Vec<C::Pass>,
-) -> Result<(Driven, Counts), AllocError>
+) -> Result<(Driven, Counts), NoMemory>
 where
     C::Pass: Send,
     requires ready { AreReady (C.ready container) (C.agent_of container) passes.items }

@@ -4,8 +4,9 @@ ghost use Rattle.std.specs.Prelude.{◌≡◌, ◌*◌, ◌≤◌, IfOk, length}
 ghost use Rattle.orc_stress.specs.Answers.{calls_of};
 
 use crate::runs::{Resting, drive_to_rest};
+use orc_fault::NoMemory;
 use orc_stress::{Answer, Ask, Container, Counts, Driven, Outcome, Plan};
-use std::alloc::{AllocError, Global};
+use std::alloc::Global;
 use std::collections::VecDeque;
 use std::thread::Threads;
 use std::time::{Clock, Instant};
@@ -123,7 +124,7 @@ pub(crate) fn run_sorted<R: Threads + Clock + Sync>(
     alloc: Global,
     plan: &Plan,
     instant: Instant,
-) -> Result<(Driven, Counts), AllocError>
+) -> Result<(Driven, Counts), NoMemory>
     requires { plan.now.threads ≤ 1 }
     ensures { IfOk result (λ r. calls_of r.0.tally.answers ≡ plan.now.threads * plan.now.load.calls) }
 {

@@ -4,7 +4,7 @@ ghost use Rattle.std.specs.Prelude.{◌≡◌, ◌<◌};
 ghost use Rattle.orc_heap.specs.Seats.{IsIdle};
 ghost use Rattle.stress.specs.Stops.{IsStopped};
 
-use crate::domains::Ending;
+use orc_any_domain::Domain;
 use orc_heap::{At, Held, Links, Looked};
 
 // Holds the first node behind root 0, where there is one.
@@ -36,7 +36,7 @@ fn release<L: Links>(links: &L, p: &mut L::Pass, held: Option<Held>)
 }
 
 // Lets go of it, and works through what was retired meanwhile and waited for the agent: so many rows.
-pub(crate) fn let_go<L: Ending>(links: &L, p: &mut L::Pass, held: Option<Held>) -> u32
+pub(crate) fn let_go<L: Domain>(links: &L, p: &mut L::Pass, held: Option<Held>) -> u32
     requires stopped { IsStopped L.Links links.now held p.old }
     ensures pass { L.belongs links.now p.new }
     ensures idle { IsIdle (L.seat links.now p.new) }

@@ -2,6 +2,7 @@
 #![tactic(auto)]
 
 mod asking;
+mod doubling;
 mod learning;
 mod many_threads;
 mod passes;
@@ -10,6 +11,7 @@ mod stopping;
 pub use asking::{
     QueueCase, SetCase, first_other_answer, first_other_reply, queue_answers, set_answers,
 };
+pub use doubling::{Doubling, doubles_and_rests};
 pub use learning::{each_sees_the_others, each_takes_the_others};
 pub use many_threads::{QueueSums, SetSums, add_and_take_out_by_all, present, put_and_take_by_all};
 pub use passes::{next_list_pass, next_pass, two_list_passes, two_passes};

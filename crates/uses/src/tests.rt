@@ -12,6 +12,7 @@ mod list_calls;
 mod meeting;
 mod queue_calls;
 mod set_calls;
+mod split_calls;
 mod watched;
 
 #[test]

@@ -1,12 +1,14 @@
-//! The calls of one agent, over any domain.
+//! The calls of one agent or two, over any domain.
 
 ghost use Rattle.std.specs.Prelude.{◌<◌, All, IfSome};
 ghost use Rattle.orc_split_set.specs.SetCalls.{IsUsable};
 
+use orc_containers::{Domain, new_split_set};
 use orc_heap::{At, Links, Looked};
 use orc_history::SharedSet;
 use orc_split_rule::Split;
 use orc_split_set::SplitSet;
+use std::alloc::Global;
 
 // Inserts nine even keys, in order. Answers how many were added.
 fn insert_evens<L: Links<Rule = Split>>(set: &SplitSet<L>, p: &mut L::Pass) -> u32
@@ -65,15 +67,23 @@ fn double_once<L: Links<Rule = Split>>(set: &SplitSet<L>, p: &mut L::Pass) -> Do
     }
 }
 
-/// Lets one agent do so.
-pub fn one_doubles<L: Links<Rule = Split>>(
-    set: &SplitSet<L>,
-    passes: &mut Vec<L::Pass>,
-) -> Option<Doubled>
-    requires usable { All (λ p. ⟦<SplitSet<L> as SharedSet>⟧.usable set.now p) passes.old.items }
-{
-    let mut p = next_pass(set, passes)?;
-    Some(double_once(set, &mut p))
+/// With one bucket an even key goes past at most 7 others, and 1 past all nine.
+pub const DOUBLED: Doubled = Doubled {
+    added: 9,
+    buckets: Some(1),
+    odd: Some(true),
+    buckets_then: Some(2),
+    present: 10,
+    three: Some(false),
+};
+
+/// Lets the one agent of a new set do so.
+pub fn one_doubles<L: Domain<Rule = Split> + Drop>(alloc: Global) -> Option<Doubled> {
+    let Ok((set, mut passes)) = new_split_set::<L>(alloc, 64, 1, 4) else {
+        return None;
+    };
+    let mut p = next_pass(&set, &mut passes)?;
+    Some(double_once(&set, &mut p))
 }
 
 // The numbers of buckets once one agent stopped before it doubled them, behind nine even keys, and once another one inserted 3.
@@ -100,16 +110,14 @@ fn double_after_a_stop<L: Links<Rule = Split>>(
     }
 }
 
-/// Lets two agents do so.
-pub fn the_next_doubles<L: Links<Rule = Split>>(
-    set: &SplitSet<L>,
-    passes: &mut Vec<L::Pass>,
-) -> Option<(u32, u32)>
-    requires usable { All (λ p. ⟦<SplitSet<L> as SharedSet>⟧.usable set.now p) passes.old.items }
-{
-    let mut two = next_pass(set, passes)?;
-    let mut one = next_pass(set, passes)?;
-    double_after_a_stop(set, &mut one, &mut two)
+/// Lets the two agents of a new set do so.
+pub fn the_next_doubles<L: Domain<Rule = Split> + Drop>(alloc: Global) -> Option<(u32, u32)> {
+    let Ok((set, mut passes)) = new_split_set::<L>(alloc, 64, 2, 4) else {
+        return None;
+    };
+    let mut two = next_pass(&set, &mut passes)?;
+    let mut one = next_pass(&set, &mut passes)?;
+    double_after_a_stop(&set, &mut one, &mut two)
 }
 
 // Whether the root of bucket 1 names a node. None where it moved meanwhile.
@@ -169,17 +177,23 @@ fn ask_after_a_stop<L: Links<Rule = Split>>(
     }
 }
 
-/// Lets two agents do so.
-pub fn the_next_anchors<L: Links<Rule = Split>>(
-    set: &SplitSet<L>,
-    passes: &mut Vec<L::Pass>,
-) -> Option<Unnamed>
-    requires usable { All (λ p. ⟦<SplitSet<L> as SharedSet>⟧.usable set.now p) passes.old.items }
-    requires roots { 2 < (L.numbers set.now.links).roots }
-{
-    let mut two = next_pass(set, passes)?;
-    let mut one = next_pass(set, passes)?;
-    Some(ask_after_a_stop(set, &mut one, &mut two))
+/// The other agent's question names the dummy.
+pub const ANCHORED: Unnamed = Unnamed {
+    linked: true,
+    again: false,
+    named: Some(false),
+    present: Some(true),
+    named_then: Some(true),
+};
+
+/// Lets the two agents of a new set do so.
+pub fn the_next_anchors<L: Domain<Rule = Split> + Drop>(alloc: Global) -> Option<Unnamed> {
+    let Ok((set, mut passes)) = new_split_set::<L>(alloc, 64, 2, 4) else {
+        return None;
+    };
+    let mut two = next_pass(&set, &mut passes)?;
+    let mut one = next_pass(&set, &mut passes)?;
+    Some(ask_after_a_stop(&set, &mut one, &mut two))
 }
 
 // Whether the two least numbers, one in the middle and the greatest were all added.
@@ -259,15 +273,13 @@ fn ends_among_many<L: Links<Rule = Split>>(set: &SplitSet<L>, p: &mut L::Pass) -
     }
 }
 
-/// Lets one agent do so.
-pub fn one_finds_ends<L: Links<Rule = Split>>(
-    set: &SplitSet<L>,
-    passes: &mut Vec<L::Pass>,
-) -> Option<u32>
-    requires usable { All (λ p. ⟦<SplitSet<L> as SharedSet>⟧.usable set.now p) passes.old.items }
-{
-    let mut p = next_pass(set, passes)?;
-    ends_among_many(set, &mut p)
+/// Lets the one agent of a new set do so.
+pub fn one_finds_ends<L: Domain<Rule = Split> + Drop>(alloc: Global) -> Option<u32> {
+    let Ok((set, mut passes)) = new_split_set::<L>(alloc, 2_048, 1, 256) else {
+        return None;
+    };
+    let mut p = next_pass(&set, &mut passes)?;
+    ends_among_many(&set, &mut p)
 }
 
 /// The next pass, of the agent with the greatest number that is left.

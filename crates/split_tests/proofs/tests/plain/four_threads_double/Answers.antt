@@ -1,6 +1,0 @@
--- The greatest number of buckets is a power of two.
-use Rattle.std.proofs.Common.{arith, refl}
-use Rattle.split_tests.proofs.tests.plain.four_threads_double.Goals as goal
-
-pub new_set-requires-clause-size : goal.new_set-requires-clause-size
-new_set-requires-clause-size g c = (omega arith, 8, refl)
