@@ -2,36 +2,29 @@
 #![tactic(auto)]
 
 ghost use Rattle.std.specs.Prelude.{◌≡◌, ◌⊎◌, pos};
-ghost use Rattle.mooringakee_c.specs.Codes.{Says};
-ghost use Rattle.mooringakee_c.specs.Making.{AreNewQueuePasses, AreNewSetPasses, AreNewSplitPasses, CanBeMade, CanBeSplit, Makes};
-ghost use Rattle.mooringakee_c.specs.QueueCalls.{Puts, Takes};
-ghost use Rattle.mooringakee_c.specs.Seats.{AtQueue, AtSet, AtSplit, Through};
-ghost use Rattle.mooringakee_c.specs.SetCalls.{Asks, Inserts, Removes};
-ghost use Rattle.mooringakee_c.specs.Settling.{Closes, CountsBacklog, GivesUp, Settles};
-ghost use Rattle.mooringakee_c.specs.SplitCalls.{CountsBuckets};
+ghost use Rattle.mooringakee_c.specs.Closing.{Closes};
+ghost use Rattle.mooringakee_c_passes.specs.Codes.{Says};
+ghost use Rattle.mooringakee_c_passes.specs.Making.{AreNewQueuePasses, AreNewSetPasses, AreNewSplitPasses, CanBeMade, CanBeSplit, Makes};
+ghost use Rattle.mooringakee_c_passes.specs.QueueCalls.{Puts, Takes};
+ghost use Rattle.mooringakee_c_passes.specs.Seats.{AtQueue, AtSet, AtSplit, Through};
+ghost use Rattle.mooringakee_c_passes.specs.SetCalls.{Asks, Inserts, Removes};
+ghost use Rattle.mooringakee_c_passes.specs.Settling.{CountsBacklog, GivesUp, Settles};
+ghost use Rattle.mooringakee_c_passes.specs.SplitCalls.{CountsBuckets};
 
-mod answer;
-mod ending;
-mod make;
-mod new_queue;
-mod new_set;
-mod new_split;
-mod pass;
-mod pointer;
-mod queue;
-mod seat;
-mod set;
-mod split;
-
-use answer::Answer;
-pub use ending::Counts;
 use given_back::Unfinished;
-use make::{are_free, hand_out, shape_of, split_shape_of};
-use new_queue::queue_seats;
-use new_set::set_seats;
-use new_split::split_seats;
-pub use pass::Pass;
+use mooringakee_c_passes::{
+    Answer, Pass, are_free, hand_out, queue_seats, set_seats, shape_of, split_seats, split_shape_of,
+};
 use std::alloc::Global;
+
+/// How many rows a container gave and freed, each as often as it did, and how many are out.
+#[repr(C)]
+#[derive(Clone, Copy, Drop)]
+pub struct Counts {
+    pub given: u64,
+    pub reused: u64,
+    pub linked: u32,
+}
 
 /// Makes a queue over so many rows, whose calls try so many turns, and puts a pass for each agent at these places, in order.
 #[unsafe(no_mangle)]
@@ -267,7 +260,11 @@ pub extern "C" fn mooringakee_proved_close(
     };
     match Box::into_inner(seat).close(alloc) {
         Ok(Some(told)) => {
-            *counts = told;
+            *counts = Counts {
+                given: told.given,
+                reused: told.reused,
+                linked: told.linked,
+            };
             Answer::Done.code()
         }
         Ok(None) => Answer::Others.code(),

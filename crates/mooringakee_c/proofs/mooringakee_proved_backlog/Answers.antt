@@ -1,8 +1,8 @@
 -- Where there is no pass, it says so.
 use Rattle.std.proofs.Common.{refl, ◌∙◌}
-use Rattle.mooringakee_c.specs.Settling.{CountsBacklog, backlog_at}
-use Rattle.mooringakee_c.specs.declared.answer.Answer.TheVariants.{Done}
-use Rattle.mooringakee_c.proofs.Saying.{says_none, says}
+use Rattle.mooringakee_c_passes.specs.Settling.{CountsBacklog, backlog_at}
+use Rattle.mooringakee_c_passes.specs.declared.answer.Answer.TheVariants.{Done}
+use Rattle.mooringakee_c_passes.proofs.Saying.{says_none, says}
 use Rattle.mooringakee_c.proofs.mooringakee_proved_backlog.Goals as goal
 
 pub returns-in_default-clause-answer : goal.returns-in_default-clause-answer

@@ -1,11 +1,24 @@
 -- Where there is no pass, it says so; else the pass is given up, and the last one is told of the rows.
-use Rattle.std.proofs.Common.{IfSome, None, Option, Some, subst}
-use Rattle.mooringakee_c.specs.Settling.{Tells}
-use Rattle.mooringakee_c.specs.declared.answer.Answer.TheVariants.{Done, Kept, NoMemory, NoPass, Others}
-use Rattle.mooringakee_c.specs.declared.ending.Counts.{Counts}
-use Rattle.mooringakee_c.specs.declared.seat.Seat.{Seat}
-use Rattle.mooringakee_c.proofs.Saying.{says_closed}
+use Rattle.std.proofs.Common.{IfSome, None, Option, Some, of_z, refl, subst, to_z, w32, ℤ, ◌≡◌}
+use Rattle.orc_any_domain.specs.declared.domain.RowCounts.{RowCounts}
+use Rattle.mooringakee_c_passes.specs.Codes.{Says, code_of}
+use Rattle.mooringakee_c_passes.specs.Settling.{Tells}
+use Rattle.mooringakee_c_passes.specs.declared.answer.Answer.{Answer}
+use Rattle.mooringakee_c_passes.specs.declared.answer.Answer.TheVariants.{Done, Kept, NoMemory, NoPass, Others}
+use Rattle.mooringakee_c_passes.specs.declared.seat.Seat.{Seat}
+use Rattle.mooringakee_c_passes.proofs.Saying.{says_of}
+use Rattle.mooringakee_c.specs.Closing.{Closes, TellsOf}
+use Rattle.mooringakee_c.specs.declared.Counts.{Counts}
 use Rattle.mooringakee_c.proofs.mooringakee_proved_close.Goals as goal
+
+-- the pass was closed, or there was none
+says_closed : (counts : Counts) (old new before : Option Seat) (answer : Answer) (code : ℤ) → code ≡ code_of answer → old ≡ before → new ≡ None
+    → Closes counts before answer None → Says (to_z w32 (of_z w32 code)) (λ a. Closes counts old a new)
+says_closed counts old new before answer code is was left done = says_of (Closes counts) old new before None answer code is was left done
+
+-- these are the counts of this container
+told_of : (told : RowCounts) → TellsOf told (record { given = told.given; reused = told.reused; linked = told.linked })
+told_of told = record { given = refl; reused = refl; linked = refl }
 
 pub returns-in_default-clause-answer : goal.returns-in_default-clause-answer
 returns-in_default-clause-answer c =
@@ -14,10 +27,14 @@ returns-in_default-clause-answer c =
 
 pub returns-in-Ok-Some-clause-answer : goal.returns-in-Ok-Some-clause-answer
 returns-in-Ok-Some-clause-answer c =
-    says_closed c.in-Ok-Some.told c.args.pass.now.pointer.seat c.take.new.self.pointer.seat (Some c.in-Some.seat.value) Done c.code-in-Ok-Some.result
-    c.code-in-Ok-Some.ensures c.in-Some.ensures.taken.0 c.take.ensures.left
-    (subst (λ (s : Seat). Tells s c.in-Ok-Some.told) c.into_inner.ensures
-    (subst (λ (o : Option Counts). IfSome o (λ counts. Tells c.into_inner.result counts)) c.in-Ok-Some.field-0-is c.in-Ok-Some.ensures))
+    let told = c.in-Ok-Some.told in
+    says_closed (record { given = told.given; reused = told.reused; linked = told.linked }) c.args.pass.now.pointer.seat c.take.new.self.pointer.seat
+    (Some c.in-Some.seat.value) Done c.code-in-Ok-Some.result c.code-in-Ok-Some.ensures c.in-Some.ensures.taken.0 c.take.ensures.left (
+      told,
+      subst (λ (s : Seat). Tells s told) c.into_inner.ensures
+          (subst (λ (o : Option RowCounts). IfSome o (λ counts. Tells c.into_inner.result counts)) c.in-Ok-Some.field-0-is c.in-Ok-Some.ensures),
+      told_of told,
+    )
 
 pub returns-in-Ok-None-clause-answer : goal.returns-in-Ok-None-clause-answer
 returns-in-Ok-None-clause-answer c =

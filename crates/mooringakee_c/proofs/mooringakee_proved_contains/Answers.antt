@@ -1,7 +1,7 @@
 -- Where there is no pass, it says so.
-use Rattle.mooringakee_c.specs.Seats.{AtSet}
-use Rattle.mooringakee_c.specs.SetCalls.{Asks}
-use Rattle.mooringakee_c.proofs.Saying.{says_none}
+use Rattle.mooringakee_c_passes.specs.Seats.{AtSet}
+use Rattle.mooringakee_c_passes.specs.SetCalls.{Asks}
+use Rattle.mooringakee_c_passes.proofs.Saying.{says_none}
 use Rattle.mooringakee_c.proofs.mooringakee_proved_contains.Goals as goal
 
 pub returns-in_default-clause-answer : goal.returns-in_default-clause-answer

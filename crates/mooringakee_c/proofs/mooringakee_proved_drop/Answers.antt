@@ -1,8 +1,8 @@
 -- Where there is no pass, it says so; else the pass settles, and is given up.
 use Rattle.std.proofs.Common.{subst}
-use Rattle.mooringakee_c.specs.Settling.{Settles}
-use Rattle.mooringakee_c.specs.declared.seat.Seat.{Seat}
-use Rattle.mooringakee_c.proofs.Saying.{says_given, says_gone}
+use Rattle.mooringakee_c_passes.specs.Settling.{Settles}
+use Rattle.mooringakee_c_passes.specs.declared.seat.Seat.{Seat}
+use Rattle.mooringakee_c_passes.proofs.Saying.{says_given, says_gone}
 use Rattle.mooringakee_c.proofs.mooringakee_proved_drop.Goals as goal
 
 pub returns-in_default : goal.returns-in_default

@@ -1,6 +1,6 @@
 -- Where there is no pass, it says so.
-use Rattle.mooringakee_c.specs.Settling.{Settles}
-use Rattle.mooringakee_c.proofs.Saying.{says_none}
+use Rattle.mooringakee_c_passes.specs.Settling.{Settles}
+use Rattle.mooringakee_c_passes.proofs.Saying.{says_none}
 use Rattle.mooringakee_c.proofs.mooringakee_proved_settle.Goals as goal
 
 pub returns-in_default : goal.returns-in_default

@@ -1,10 +1,10 @@
 -- Each refusal has its cause, and the new places make new passes.
 use Rattle.std.proofs.Common.{ap, arith, length, refl, sym, ◌+◌, ◌∙◌, ◌≡◌}
 use Rattle.orc_words.specs.Bounds.{Bounds, bounds_of}
-use Rattle.mooringakee_c.specs.Making.{sizes_of}
-use Rattle.mooringakee_c.specs.declared.answer.Answer.TheVariants.{Done, Live, NoMemory, Shape}
-use Rattle.mooringakee_c.proofs.NewPasses.{new_split_passes}
-use Rattle.mooringakee_c.proofs.Saying.{said}
+use Rattle.mooringakee_c_passes.specs.Making.{sizes_of}
+use Rattle.mooringakee_c_passes.specs.declared.answer.Answer.TheVariants.{Done, Live, NoMemory, Shape}
+use Rattle.mooringakee_c_passes.proofs.NewPasses.{new_split_passes}
+use Rattle.mooringakee_c_passes.proofs.Saying.{said}
 use Rattle.mooringakee_c.proofs.mooringakee_proved_split_set_make.Goals as goal
 
 pub returns-in_default : goal.returns-in_default

@@ -1,0 +1,17 @@
+-- The answer was entered, and a refusal has its cause.
+use Rattle.std.proofs.Common.{[], refl, ◌∷◌}
+use Rattle.orc_history.specs.declared.set.ListRefused.TheVariants.{Again}
+use Rattle.orc_history.specs.declared.set.SetEntry.TheVariants.{Removed}
+use Rattle.mooringakee_c_passes.specs.SplitSeats.{agent_at}
+use Rattle.mooringakee_c_passes.proofs.SplitPlaces.{entered, refused}
+use Rattle.mooringakee_c_passes.proofs.split.SplitSeat.remove.Goals as goal
+
+pub returns-in_default-clause-answer : goal.returns-in_default-clause-answer
+returns-in_default-clause-answer c =
+    refused c.args.self.now (record c.args.self.now { pass = c.remove.new.p }) c.requires refl refl refl c.deref.result.now.links (λ j. (c.deref.ensures j).links) c.in_default.ensures.usable Again
+    c.in_default.ensures.agent c.in_default.ensures.none c.in_default.ensures.licence
+
+pub returns-clause-answer : goal.returns-clause-answer
+returns-clause-answer c =
+    entered c.args.self.now (record c.args.self.now { pass = c.remove.new.p }) c.requires refl refl refl c.deref.result.now.links (λ j. (c.deref.ensures j).links) c.in-Ok.ensures.usable (Removed (agent_at c.args.self.now) c.args.key c.in-Ok.yes ∷ [])
+    c.in-Ok.ensures.agent c.in-Ok.ensures.removed

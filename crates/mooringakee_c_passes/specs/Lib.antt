@@ -1,0 +1,12 @@
+pub mod Codes
+pub mod Ending
+pub mod Held
+pub mod Making
+pub mod QueueCalls
+pub mod QueueSeats
+pub mod Seats
+pub mod SetCalls
+pub mod SetSeats
+pub mod Settling
+pub mod SplitCalls
+pub mod SplitSeats

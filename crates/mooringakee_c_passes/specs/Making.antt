@@ -1,0 +1,105 @@
+-- What making a container answers, by the passes at which it is to be made before it, `old`, and after it, `new`.
+use Rattle.std.specs.Prelude.{All, List, None, Some, [], length, ℕ, ◌+◌, ◌^◌, ◌≡◌, ◌≤◌}
+use Rattle.orc_chain_rule.specs.declared.chain.Chain.{Chain}
+use Rattle.orc_chain_rule.specs.declared.chain.ChainNote.{ChainNote}
+use Rattle.orc_fifo_rule.specs.declared.fifo.Fifo.{Fifo}
+use Rattle.orc_fifo_rule.specs.declared.fifo.FifoNote.{FifoNote}
+use Rattle.orc_domain.specs.Passes.{domain_bounds}
+use Rattle.orc_domain.specs.declared.domain.OrcDomain.{OrcDomain}
+use Rattle.orc_shared_words.specs.Lists.{EachAt}
+use Rattle.orc_split_rule.specs.SplitDiscipline.{IsSize}
+use Rattle.orc_split_rule.specs.declared.split.Split.{Split as SplitRule}
+use Rattle.orc_split_rule.specs.declared.split.SplitNote.{SplitNote}
+use Rattle.orc_words.specs.Bounds.{Bounds, IsShape}
+use Rattle.mooringakee_c_passes.specs.declared.answer.Answer.{Answer}
+use Rattle.mooringakee_c_passes.specs.declared.answer.Answer.TheVariants.{Done, Live, NoMemory, Shape}
+use Rattle.mooringakee_c_passes.specs.declared.pass.Pass.{Pass}
+use Rattle.mooringakee_c_passes.specs.declared.queue.QueueSeat.{QueueSeat}
+use Rattle.mooringakee_c_passes.specs.declared.set.SetSeat.{SetSeat}
+use Rattle.mooringakee_c_passes.specs.declared.split.SplitSeat.{SplitSeat}
+use Rattle.mooringakee_c_passes.specs.declared.seat.Seat.{Seat}
+use Rattle.mooringakee_c_passes.specs.declared.seat.Seat.TheVariants.{Queue, Set, Split}
+use Rattle.mooringakee_c_passes.specs.QueueSeats.{IsQueueSeat, agent_at, calls_seen}
+use Rattle.mooringakee_c_passes.specs.SetSeats.{IsSetSeat, agent_at as set_agent_at, calls_seen as set_calls_seen}
+use Rattle.mooringakee_c_passes.specs.SplitSeats.{IsSplitSeat, agent_at as split_agent_at, calls_seen as split_calls_seen}
+
+-- the sizes of a container with so many rows, roots and agents
+abbrev pub sizes_of : ℕ → ℕ → ℕ → Bounds
+sizes_of rows roots agents = record { rows = rows; roots = roots; agents = agents; limit = 2 ^ 39; links = 1 }
+
+-- all numbers of a container are in range
+abbrev pub CanBeMade : ℕ → ℕ → ℕ → ℕ → Type 0
+CanBeMade rows roots turns agents = IsShape (sizes_of rows roots agents) × (1 ≤ turns)
+
+-- so are those of a split-ordered set, which has a root for each bucket that there may be, and one more; these are a power of two up to 256
+abbrev pub CanBeSplit : ℕ → ℕ → ℕ → ℕ → Type 0
+CanBeSplit rows buckets turns agents = IsSize 256 buckets × CanBeMade rows (buckets + 1) turns agents
+
+-- there is no pass at any of these places
+abbrev pub AreFree : List Pass → Type 0
+AreFree passes = All (λ p. p.pointer.seat ≡ None) passes
+
+-- the agent's place at a new queue over this domain, whose calls have so many turns
+pub record IsNewQueueSeat (domain : OrcDomain Fifo FifoNote) (turns agent : ℕ) (seat : Seat) : Type 0 where
+  pub place : QueueSeat
+  pub is : seat ≡ Queue place
+  pub usable : IsQueueSeat place
+  pub domain_is : place.queue.value.links ≡ domain
+  pub turns_are : place.turns ≡ turns
+  pub agent_is : agent_at place ≡ agent
+  pub none : calls_seen place ≡ []
+
+-- the pass is that
+abbrev pub IsNewQueuePass : OrcDomain Fifo FifoNote → ℕ → ℕ → Pass → Type 0
+IsNewQueuePass domain turns agent pass = (seat : Seat) × (pass.pointer.seat ≡ Some seat) × IsNewQueueSeat domain turns agent seat
+
+-- a pass for each agent, in order, to one new queue
+abbrev pub AreNewQueuePasses : ℕ → ℕ → List Pass → Type 0
+AreNewQueuePasses rows turns passes = (domain : OrcDomain Fifo FifoNote) × (domain_bounds domain ≡ sizes_of rows 2 (length passes))
+    × EachAt (λ agent p. IsNewQueuePass domain turns agent p) passes
+
+-- the agent's place at a new set over this domain, whose calls have so many turns
+pub record IsNewSetSeat (domain : OrcDomain Chain ChainNote) (turns agent : ℕ) (seat : Seat) : Type 0 where
+  pub place : SetSeat
+  pub is : seat ≡ Set place
+  pub usable : IsSetSeat place
+  pub domain_is : place.set.value.list.links ≡ domain
+  pub turns_are : place.turns ≡ turns
+  pub agent_is : set_agent_at place ≡ agent
+  pub none : set_calls_seen place ≡ []
+
+-- the pass is that
+abbrev pub IsNewSetPass : OrcDomain Chain ChainNote → ℕ → ℕ → Pass → Type 0
+IsNewSetPass domain turns agent pass = (seat : Seat) × (pass.pointer.seat ≡ Some seat) × IsNewSetSeat domain turns agent seat
+
+-- a pass for each agent, in order, to one new set
+abbrev pub AreNewSetPasses : ℕ → ℕ → ℕ → List Pass → Type 0
+AreNewSetPasses rows buckets turns passes = (domain : OrcDomain Chain ChainNote)
+    × (domain_bounds domain ≡ sizes_of rows buckets (length passes)) × EachAt (λ agent p. IsNewSetPass domain turns agent p) passes
+
+-- the agent's place at a new split-ordered set over this domain, whose calls have so many turns
+pub record IsNewSplitSeat (domain : OrcDomain SplitRule SplitNote) (turns agent : ℕ) (seat : Seat) : Type 0 where
+  pub place : SplitSeat
+  pub is : seat ≡ Split place
+  pub usable : IsSplitSeat place
+  pub domain_is : place.set.value.links ≡ domain
+  pub turns_are : place.turns ≡ turns
+  pub agent_is : split_agent_at place ≡ agent
+  pub none : split_calls_seen place ≡ []
+
+-- the pass is that
+abbrev pub IsNewSplitPass : OrcDomain SplitRule SplitNote → ℕ → ℕ → Pass → Type 0
+IsNewSplitPass domain turns agent pass = (seat : Seat) × (pass.pointer.seat ≡ Some seat) × IsNewSplitSeat domain turns agent seat
+
+-- a pass for each agent, in order, to one new split-ordered set
+abbrev pub AreNewSplitPasses : ℕ → ℕ → ℕ → List Pass → Type 0
+AreNewSplitPasses rows buckets turns passes = (domain : OrcDomain SplitRule SplitNote)
+    × (domain_bounds domain ≡ sizes_of rows (buckets + 1) (length passes)) × EachAt (λ agent p. IsNewSplitPass domain turns agent p) passes
+
+-- making a container, whose numbers can be so with so many agents, and whose new passes are these
+abbrev pub Makes : (ℕ → Type 0) → (List Pass → Type 0) → List Pass → Answer → List Pass → Type 0
+Makes CanBe AreNew old Done new = CanBe (length old) × AreFree old × AreNew new
+Makes CanBe AreNew old Shape new = (¬ CanBe (length old)) × (new ≡ old)
+Makes CanBe AreNew old Live new = (¬ AreFree old) × (new ≡ old)
+Makes CanBe AreNew old NoMemory new = CanBe (length old) × AreFree old × (new ≡ old)
+Makes CanBe AreNew old _ new = ⊥

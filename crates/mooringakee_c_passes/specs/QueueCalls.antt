@@ -1,0 +1,52 @@
+-- What a call at a queue answers, by the agent's place before it, `old`, and after it, `new`.
+use Rattle.std.specs.Prelude.{List, [], length, ℕ, ◌<◌, ◌∷◌, ◌≡◌}
+use Rattle.orc_history.specs.Journals.{Adds, Within}
+use Rattle.orc_history.specs.QueueHistory.{IsLegalQueue, agent_of_entry}
+use Rattle.orc_history.specs.declared.queue.QueueEntry.{QueueEntry}
+use Rattle.orc_history.specs.declared.queue.QueueEntry.TheVariants.{Empty as FoundNone, Put, Took}
+use Rattle.orc_history.specs.declared.queue.QueueRefused.{QueueRefused}
+use Rattle.orc_history.specs.declared.queue.QueueRefused.TheVariants.{Again as UsedTurns, NoNode, Positions as UsedPositions}
+use Rattle.orc_projection.specs.Projection.{project}
+use Rattle.orc_queue.specs.Causes.{Cause}
+use Rattle.orc_domain.specs.Causes.{IsLacking}
+use Rattle.orc_domain.specs.Passes.{domain_bounds, journal_of}
+use Rattle.mooringakee_c_passes.specs.declared.answer.Answer.{Answer}
+use Rattle.mooringakee_c_passes.specs.declared.answer.Answer.TheVariants.{Again, Done, Empty, Full, Positions}
+use Rattle.mooringakee_c_passes.specs.declared.queue.QueueSeat.{QueueSeat}
+use Rattle.mooringakee_c_passes.specs.QueueSeats.{agent_at, agents_at, calls_seen}
+
+-- the place is the same, and its pass has seen more calls: its own among them are these, in this order, and all of them are those of
+-- one queue, which is empty at first, whose Puts append and whose Tooks take the front
+pub record GoesOn (old : QueueSeat) (own : List QueueEntry) (new : QueueSeat) : Type 0 where
+  pub queue : new.queue ≡ old.queue
+  pub turns : new.turns ≡ old.turns
+  pub agent : agent_at new ≡ agent_at old
+  pub entered : Adds agent_of_entry (λ by. by < agents_at old) (agent_at old) (calls_seen old) own (calls_seen new)
+  pub legal : IsLegalQueue 0 (calls_seen new)
+
+-- the cause of a refusal between two places of the steps that the pass has seen
+abbrev pub HasCause : QueueSeat → QueueRefused → ℕ → ℕ → Type 0
+HasCause s why from to =
+    let bounds = domain_bounds s.queue.value.links in
+    Cause (λ step. step.agent) (λ journal. project bounds journal) 0 (IsLacking bounds (agent_at s) (journal_of s.pass) from to)
+    (agent_at s) s.turns why (journal_of s.pass) from to
+
+-- the call entered nothing, and was refused for this cause
+pub record Refuses (old : QueueSeat) (why : QueueRefused) (new : QueueSeat) : Type 0 where
+  pub none : GoesOn old [] new
+  pub cause : Within (length (journal_of old.pass)) (length (journal_of new.pass)) (HasCause new why)
+
+-- a put of this value
+abbrev pub Puts : ℕ → QueueSeat → Answer → QueueSeat → Type 0
+Puts value old Done new = (at : ℕ) × GoesOn old (Put (agent_at old) value at ∷ []) new
+Puts value old Again new = Refuses old UsedTurns new
+Puts value old Full new = Refuses old NoNode new
+Puts value old Positions new = Refuses old UsedPositions new
+Puts value old _ new = ⊥
+
+-- a take, where the caller's variable is `after` the call
+abbrev pub Takes : ℕ → QueueSeat → Answer → QueueSeat → Type 0
+Takes after old Done new = (at : ℕ) × GoesOn old (Took (agent_at old) after at ∷ []) new
+Takes after old Empty new = GoesOn old (FoundNone (agent_at old) ∷ []) new
+Takes after old Again new = Refuses old UsedTurns new
+Takes after old _ new = ⊥

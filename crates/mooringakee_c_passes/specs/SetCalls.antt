@@ -1,0 +1,53 @@
+-- What a call at a set answers, by what the agent's place shows before it, `old`, and after it, `new`.
+use Rattle.std.specs.Prelude.{Bool, List, [], ℕ, ◌<◌, ◌∷◌, ◌≡◌}
+use Rattle.orc_fault.specs.declared.Spent.{Spent as SpentRow}
+use Rattle.orc_history.specs.Journals.{Adds, Within}
+use Rattle.orc_history.specs.SetHistory.{IsLegalSet, agent_of_set_entry}
+use Rattle.orc_history.specs.declared.set.SetEntry.{SetEntry}
+use Rattle.orc_history.specs.declared.set.SetEntry.TheVariants.{Added, Asked, Removed}
+use Rattle.orc_history.specs.declared.set.ListRefused.{ListRefused}
+use Rattle.orc_history.specs.declared.set.ListRefused.TheVariants.{Again as UsedTurns, NoNode, Spent as UsedRow}
+use Rattle.mooringakee_c_passes.specs.declared.answer.Answer.{Answer}
+use Rattle.mooringakee_c_passes.specs.declared.answer.Answer.TheVariants.{Again, Done, Full, Spent}
+
+-- what an agent's place at a set of any kind shows: the calls of the set that its pass has seen, in their order; its agent, and how many
+-- agents there are; how many turns a call has; how many steps its pass has seen; and between which two places of these a refusal has its cause
+pub record SetView : Type 1 where
+  pub seen : List SetEntry
+  pub agent : ℕ
+  pub agents : ℕ
+  pub turns : ℕ
+  pub steps : ℕ
+  pub has_cause : ListRefused → ℕ → ℕ → Type 0
+
+-- the pass has seen more calls: its own among them are these, in this order, and all of them are those of one set, which is empty at first
+pub record GoesOn (old : SetView) (own : List SetEntry) (new : SetView) : Type 0 where
+  pub turns : new.turns ≡ old.turns
+  pub agent : new.agent ≡ old.agent
+  pub entered : Adds agent_of_set_entry (λ by. by < old.agents) old.agent old.seen own new.seen
+  pub legal : IsLegalSet new.seen
+
+-- the call entered nothing, and was refused for this cause
+pub record Refuses (old : SetView) (why : ListRefused) (new : SetView) : Type 0 where
+  pub none : GoesOn old [] new
+  pub cause : Within old.steps new.steps (new.has_cause why)
+
+-- an insert of this key, where the caller's variable is `after` the call
+abbrev pub Inserts : ℕ → Bool → SetView → Answer → SetView → Type 0
+Inserts key after old Done new = GoesOn old (Added old.agent key after ∷ []) new
+Inserts key after old Again new = Refuses old UsedTurns new
+Inserts key after old Full new = Refuses old NoNode new
+Inserts key after old Spent new = (row : SpentRow) × Refuses old (UsedRow row) new
+Inserts key after old _ new = ⊥
+
+-- a remove
+abbrev pub Removes : ℕ → Bool → SetView → Answer → SetView → Type 0
+Removes key after old Done new = GoesOn old (Removed old.agent key after ∷ []) new
+Removes key after old Again new = Refuses old UsedTurns new
+Removes key after old _ new = ⊥
+
+-- a question whether the key is present
+abbrev pub Asks : ℕ → Bool → SetView → Answer → SetView → Type 0
+Asks key after old Done new = GoesOn old (Asked old.agent key after ∷ []) new
+Asks key after old Again new = Refuses old UsedTurns new
+Asks key after old _ new = ⊥

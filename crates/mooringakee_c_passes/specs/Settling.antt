@@ -1,0 +1,61 @@
+-- What settling answers, and what a pass has left to work through.
+use Rattle.std.specs.Prelude.{None, Option, Some, [], ℕ, ◌≡◌}
+use Rattle.orc_history.specs.Parts.{IsAlone}
+use Rattle.orc_machine_board.specs.Passes.{backlog_in}
+use Rattle.orc_machine_board.specs.Views.{shows}
+use Rattle.orc_domain.specs.Passes.{journal_of}
+use Rattle.mooringakee_c_passes.specs.declared.answer.Answer.{Answer}
+use Rattle.mooringakee_c_passes.specs.declared.answer.Answer.TheVariants.{Done, Kept, NoPass}
+use Rattle.mooringakee_c_passes.specs.declared.seat.Seat.{Seat}
+use Rattle.mooringakee_c_passes.specs.declared.seat.Seat.TheVariants.{Queue, Set, Split}
+use Rattle.orc_any_domain.specs.declared.domain.RowCounts.{RowCounts}
+use Rattle.mooringakee_c_passes.specs.Ending.{TellsRows}
+use Rattle.mooringakee_c_passes.specs.QueueCalls.{GoesOn}
+use Rattle.mooringakee_c_passes.specs.QueueSeats.{agent_at}
+use Rattle.mooringakee_c_passes.specs.Seats.{IsSeat}
+use Rattle.mooringakee_c_passes.specs.SetCalls.{GoesOn as SetGoesOn}
+use Rattle.mooringakee_c_passes.specs.SetSeats.{agent_at as set_agent_at, set_view}
+use Rattle.mooringakee_c_passes.specs.SplitSeats.{agent_at as split_agent_at, split_view}
+
+-- how many retired rows the pass has to work through: those in its work list, and one that it has in hand or scanned
+abbrev pub backlog_at : Seat → ℕ
+backlog_at (Queue s) = backlog_in (shows s.pass.pass).record_is
+backlog_at (Set s) = backlog_in (shows s.pass.pass).record_is
+backlog_at (Split s) = backlog_in (shows s.pass.pass).record_is
+
+-- no other agent made a step meanwhile
+abbrev pub WasAlone : Seat → Seat → Type 0
+WasAlone (Queue old) (Queue new) = IsAlone (λ step. step.agent) (agent_at old) (journal_of old.pass) (journal_of new.pass)
+WasAlone (Set old) (Set new) = IsAlone (λ step. step.agent) (set_agent_at old) (journal_of old.pass) (journal_of new.pass)
+WasAlone (Split old) (Split new) = IsAlone (λ step. step.agent) (split_agent_at old) (journal_of old.pass) (journal_of new.pass)
+WasAlone _ _ = ⊥
+
+-- the place is the same, and its agent entered nothing
+abbrev pub EntersNone : Seat → Seat → Type 0
+EntersNone (Queue old) (Queue new) = GoesOn old [] new
+EntersNone (Set old) (Set new) = (new.set ≡ old.set) × SetGoesOn (set_view old) [] (set_view new)
+EntersNone (Split old) (Split new) = (new.set ≡ old.set) × SetGoesOn (split_view old) [] (split_view new)
+EntersNone _ _ = ⊥
+
+-- nothing is left, or some rows, which is so only where other agents made steps meanwhile
+abbrev pub Settles : Seat → Answer → Seat → Type 0
+Settles old Done new = EntersNone old new × (backlog_at new ≡ 0)
+Settles old Kept new = EntersNone old new × (¬ WasAlone old new)
+Settles old _ new = ⊥
+
+-- a question how many rows are left
+abbrev pub CountsBacklog : ℕ → Seat → Answer → Seat → Type 0
+CountsBacklog count old Done new = (new ≡ old) × (count ≡ backlog_at old)
+CountsBacklog count old _ new = ⊥
+
+-- the pass is given up once it has settled, from a place that could be used
+abbrev pub GivesUp : Option Seat → Answer → Option Seat → Type 0
+GivesUp (Some old) answer None = (last : Seat) × IsSeat last × Settles old answer last
+GivesUp None NoPass None = Unit {0}
+GivesUp _ _ _ = ⊥
+
+-- the container came to rest, and these are the counts of its rows
+abbrev pub Tells : Seat → RowCounts → Type 0
+Tells (Queue s) counts = TellsRows s.queue.value.links s.places.value counts
+Tells (Set s) counts = TellsRows s.set.value.list.links s.places.value counts
+Tells (Split s) counts = TellsRows s.set.value.links s.places.value counts

@@ -1,0 +1,121 @@
+//! One agent's place at a queue.
+
+ghost use Rattle.std.specs.Prelude.{◌≡◌, ◌↔◌, ◌⊎◌, IfOk, IfSome, IsTrue, []};
+ghost use Rattle.mooringakee_c_passes.specs.QueueCalls.{GoesOn, Puts, Takes};
+ghost use Rattle.mooringakee_c_passes.specs.QueueSeats.{IsQueueSeat};
+ghost use Rattle.mooringakee_c_passes.specs.Settling.{Tells, WasAlone, backlog_at};
+ghost use Rattle.mooringakee_c_passes.specs.declared.seat.Seat.{Seat};
+
+use crate::answer::Answer;
+use crate::ending::{Places, end};
+use given_back::Unfinished;
+use orc_any_domain::RowCounts;
+use orc_domain::{OrcDomain, OrcPass};
+use orc_fifo_rule::Fifo;
+use orc_heap::Links;
+use orc_history::{QueueRefused, SharedQueue};
+use orc_queue::Queue;
+use std::alloc::Global;
+use std::sync::Arc;
+
+/// Michael and Scott's queue over a domain whose rows are reclaimed.
+pub(crate) type ReclaimingQueue = Queue<OrcDomain<Fifo>>;
+
+/// An agent's place at a queue: its share of it and of the places to which passes are given back, its pass, and how many turns a
+/// call has.
+#[derive(Drop)]
+pub struct QueueSeat {
+    pub(crate) queue: Arc<ReclaimingQueue, Global>,
+    pub(crate) places: Arc<Places<Fifo>, Global>,
+    pub(crate) pass: OrcPass<Fifo>,
+    pub(crate) turns: u64,
+}
+
+impl QueueSeat {
+    // Puts a value at the back.
+    pub(crate) fn put(&mut self, value: u64) -> Answer
+        requires { IsQueueSeat self.old }
+        ensures seat { IsQueueSeat self.new }
+        ensures answer { Puts value self.old result self.new }
+    {
+        match self.queue.enqueue(&mut self.pass, value, self.turns) {
+            Ok(_) => Answer::Done,
+            Err(QueueRefused::Again) => Answer::Again,
+            Err(QueueRefused::NoNode) => Answer::Full,
+            Err(QueueRefused::Positions) => Answer::Positions,
+        }
+    }
+
+    // Takes the value at the front.
+    pub(crate) fn take(&mut self, value: &mut u64) -> Answer
+        requires { IsQueueSeat self.old }
+        ensures seat { IsQueueSeat self.new }
+        ensures answer { Takes value.new self.old result self.new }
+        ensures kept { (result ≡ Answer.Done) ⊎ (value.new ≡ value.old) }
+    {
+        match self.queue.dequeue(&mut self.pass, self.turns) {
+            Ok(Some((taken, _))) => {
+                *value = taken;
+                Answer::Done
+            }
+            Ok(None) => Answer::Empty,
+            Err(_) => Answer::Again,
+        }
+    }
+
+    // Takes in what was handed over to the pass, and works through its retired rows. Answers whether none is left.
+    pub(crate) fn settle(&mut self) -> bool
+        requires { IsQueueSeat self.old }
+        ensures seat { IsQueueSeat self.new }
+        ensures none { GoesOn self.old [] self.new }
+        ensures backlog { IsTrue result ↔ (backlog_at (Seat.Queue self.new) ≡ 0) }
+        ensures alone { WasAlone (Seat.Queue self.old) (Seat.Queue self.new) → backlog_at (Seat.Queue self.new) ≡ 0 }
+    {
+        self.queue.links().drain(&mut self.pass);
+        self.backlog() == 0
+    }
+
+    // How many retired rows the pass has to work through.
+    pub(crate) fn backlog(&self) -> u32
+        requires { IsQueueSeat self.now }
+        ensures { result ≡ backlog_at (Seat.Queue self.now) }
+    {
+        self.queue.links().backlog(&self.pass)
+    }
+
+    // Gives the pass back. The last one to do so gets them all.
+    fn give_back(self) -> (Arc<ReclaimingQueue, Global>, Option<Places<Fifo>>)
+        requires { IsQueueSeat self }
+        ensures queue { result.0 ≡ self.queue }
+        ensures places { IfSome result.1 (λ all. all ≡ self.places.value) }
+    {
+        let QueueSeat {
+            queue,
+            places,
+            pass,
+            turns: _,
+        } = self;
+        let agent = queue.links().agent(&pass);
+        places.give(agent as usize, pass);
+        (queue, Arc::into_inner(places))
+    }
+
+    // Gives the pass up.
+    pub(crate) fn leave(self)
+        requires { IsQueueSeat self }
+    {
+        self.give_back();
+    }
+
+    // Gives the pass up. The last one to do so brings the queue to rest, and tells of its rows.
+    pub(crate) fn close(self, alloc: Global) -> Result<Option<RowCounts>, Unfinished>
+        requires { IsQueueSeat self }
+        ensures { IfOk result (λ told. IfSome told (λ counts. Tells (Seat.Queue self) counts)) }
+    {
+        let (queue, all) = self.give_back();
+        let Some(places) = all else {
+            return Ok(None);
+        };
+        Ok(Some(end(alloc, queue.links(), places)?))
+    }
+}

@@ -1,0 +1,159 @@
+//! One agent's place at a container of any kind.
+
+ghost use Rattle.std.specs.Prelude.{◌≡◌, ◌⊎◌, IfOk, IfSome};
+ghost use Rattle.mooringakee_c_passes.specs.QueueCalls.{Puts, Takes};
+ghost use Rattle.mooringakee_c_passes.specs.Seats.{AtQueue, AtSet, AtSplit, IsSeat};
+ghost use Rattle.mooringakee_c_passes.specs.SetCalls.{Asks, Inserts, Removes};
+ghost use Rattle.mooringakee_c_passes.specs.Settling.{Settles, Tells, backlog_at};
+ghost use Rattle.mooringakee_c_passes.specs.SplitCalls.{CountsBuckets};
+
+use crate::answer::Answer;
+use crate::queue::QueueSeat;
+use crate::set::SetSeat;
+use crate::split::SplitSeat;
+use given_back::Unfinished;
+use orc_any_domain::RowCounts;
+use std::alloc::Global;
+
+/// An agent's place at a queue, at a bucketed set or at a split-ordered one.
+#[derive(Drop)]
+pub enum Seat {
+    Queue(QueueSeat),
+    Set(SetSeat),
+    Split(SplitSeat),
+}
+
+impl Seat {
+    /// Puts a value at the back of the queue.
+    pub fn put(&mut self, value: u64) -> Answer
+        requires { IsSeat self.old }
+        ensures seat { IsSeat self.new }
+        ensures answer { AtQueue (Puts value) self.old result self.new }
+    {
+        match self {
+            Seat::Queue(seat) => seat.put(value),
+            Seat::Set(_) | Seat::Split(_) => Answer::Kind,
+        }
+    }
+
+    /// Takes the value at the front of the queue.
+    pub fn take(&mut self, value: &mut u64) -> Answer
+        requires { IsSeat self.old }
+        ensures seat { IsSeat self.new }
+        ensures answer { AtQueue (Takes value.new) self.old result self.new }
+        ensures kept { (result ≡ Answer.Done) ⊎ (value.new ≡ value.old) }
+    {
+        match self {
+            Seat::Queue(seat) => seat.take(value),
+            Seat::Set(_) | Seat::Split(_) => Answer::Kind,
+        }
+    }
+
+    /// Adds a key to the set, and tells whether it was absent.
+    pub fn insert(&mut self, key: u64, absent: &mut bool) -> Answer
+        requires { IsSeat self.old }
+        ensures seat { IsSeat self.new }
+        ensures answer { AtSet (Inserts key absent.new) self.old result self.new }
+        ensures kept { (result ≡ Answer.Done) ⊎ (absent.new ≡ absent.old) }
+    {
+        match self {
+            Seat::Queue(_) => Answer::Kind,
+            Seat::Set(seat) => seat.insert(key, absent),
+            Seat::Split(seat) => seat.insert(key, absent),
+        }
+    }
+
+    /// Takes a key out of the set, and tells whether it was present.
+    pub fn remove(&mut self, key: u64, present: &mut bool) -> Answer
+        requires { IsSeat self.old }
+        ensures seat { IsSeat self.new }
+        ensures answer { AtSet (Removes key present.new) self.old result self.new }
+        ensures kept { (result ≡ Answer.Done) ⊎ (present.new ≡ present.old) }
+    {
+        match self {
+            Seat::Queue(_) => Answer::Kind,
+            Seat::Set(seat) => seat.remove(key, present),
+            Seat::Split(seat) => seat.remove(key, present),
+        }
+    }
+
+    /// Tells whether a key is present in the set.
+    pub fn contains(&mut self, key: u64, present: &mut bool) -> Answer
+        requires { IsSeat self.old }
+        ensures seat { IsSeat self.new }
+        ensures answer { AtSet (Asks key present.new) self.old result self.new }
+        ensures kept { (result ≡ Answer.Done) ⊎ (present.new ≡ present.old) }
+    {
+        match self {
+            Seat::Queue(_) => Answer::Kind,
+            Seat::Set(seat) => seat.contains(key, present),
+            Seat::Split(seat) => seat.contains(key, present),
+        }
+    }
+
+    /// Tells how many buckets the split-ordered set has.
+    pub fn buckets(&mut self, count: &mut u32) -> Answer
+        requires { IsSeat self.old }
+        ensures seat { IsSeat self.new }
+        ensures answer { AtSplit (CountsBuckets count.new) self.old result self.new }
+        ensures kept { (result ≡ Answer.Done) ⊎ (count.new ≡ count.old) }
+    {
+        match self {
+            Seat::Queue(_) | Seat::Set(_) => Answer::Kind,
+            Seat::Split(seat) => seat.buckets(count),
+        }
+    }
+
+    /// Takes in what was handed over to the pass, and works through its retired rows.
+    pub fn settle(&mut self) -> Answer
+        requires { IsSeat self.old }
+        ensures seat { IsSeat self.new }
+        ensures answer { Settles self.old result self.new }
+    {
+        let none_left = match self {
+            Seat::Queue(seat) => seat.settle(),
+            Seat::Set(seat) => seat.settle(),
+            Seat::Split(seat) => seat.settle(),
+        };
+        if none_left {
+            Answer::Done
+        } else {
+            Answer::Kept
+        }
+    }
+
+    /// How many retired rows the pass has to work through.
+    pub fn backlog(&self) -> u32
+        requires { IsSeat self.now }
+        ensures { result ≡ backlog_at self.now }
+    {
+        match self {
+            Seat::Queue(seat) => seat.backlog(),
+            Seat::Set(seat) => seat.backlog(),
+            Seat::Split(seat) => seat.backlog(),
+        }
+    }
+
+    /// Gives the pass up.
+    pub fn leave(self)
+        requires { IsSeat self }
+    {
+        match self {
+            Seat::Queue(seat) => seat.leave(),
+            Seat::Set(seat) => seat.leave(),
+            Seat::Split(seat) => seat.leave(),
+        }
+    }
+
+    /// Gives the pass up. The last one to do so brings the container to rest, and tells of its rows.
+    pub fn close(self, alloc: Global) -> Result<Option<RowCounts>, Unfinished>
+        requires { IsSeat self }
+        ensures { IfOk result (λ told. IfSome told (λ counts. Tells self counts)) }
+    {
+        match self {
+            Seat::Queue(seat) => seat.close(alloc),
+            Seat::Set(seat) => seat.close(alloc),
+            Seat::Split(seat) => seat.close(alloc),
+        }
+    }
+}
