@@ -1,9 +1,5 @@
-ghost use Rattle.std.specs.Prelude.{◌≤◌};
-
+use super::calls::left_by;
 use orc_board::OpenGate;
-use orc_fault::NoMemory;
-use orc_feed::{MemorySink, MemorySource};
-use orc_program::{CommandWords, Ended, orc_main};
 use std::alloc::Global;
 use std::process::Abort;
 use std::sync::Wait;
@@ -53,25 +49,9 @@ fn run<R: Threads + Wait + Sync + Abort>(
     piece: u64,
     status: u8,
     output: &[u8],
-) -> Result<(), Fail>
-    requires { 1 ≤ piece }
-{
-    let words = CommandWords::new(alloc);
-    let mut source = MemorySource::new(alloc, input, piece, &[])?;
-    let mut sink = MemorySink::new(alloc, 1024, piece, &[])?;
-    let mut ended = Ended::new();
-    let got = orc_main(
-        rt,
-        alloc,
-        &words,
-        &mut source,
-        &mut sink,
-        &OpenGate,
-        &mut ended,
-    );
-    assert_eq!(rt; got, status);
-    assert_eq!(rt; sink.bytes(), output);
-    assert_eq!(rt; ended.replies.is_some(), status == 0);
+) -> Result<(), Fail> {
+    let left = left_by(rt, alloc, &[], input, piece, status, output)?;
+    assert_eq!(rt; left.replies, status == 0);
     Ok(())
 }
 
@@ -124,15 +104,6 @@ fn names_the_first_refused_record(rt: HostRuntime) -> Result<(), Fail> {
         run(&rt, rt.alloc(), input, 7, 3, output)?;
     }
     Ok(())
-}
-
-// The words of a command line.
-fn words_of(alloc: Global, words: &[&str]) -> Result<CommandWords, NoMemory> {
-    let mut all = CommandWords::new(alloc);
-    for word in words {
-        all.push(word)?;
-    }
-    Ok(all)
 }
 
 #[test]
@@ -194,11 +165,10 @@ fn reports_as_the_words_ask(rt: HostRuntime) -> Result<(), Fail> {
         ),
     ];
     for (words, input, board, rest) in at_rest {
-        let words = words_of(alloc, words)?;
         let mut report = Vec::new(alloc);
         report.extend_from_slice(board)?;
         report.extend_from_slice(rest)?;
-        let text = report_of(&rt, alloc, &words, input, &OpenGate)?;
+        let text = report_of(&rt, alloc, words, input, &OpenGate)?;
         assert_eq!(&rt; text.as_slice(), report.as_slice());
     }
     Ok(())

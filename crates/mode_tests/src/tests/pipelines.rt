@@ -1,7 +1,6 @@
 //! What is answered in mode stages.
 
-use super::calls::outcome_of;
-use orc_board::OpenGate;
+use super::calls::left_by;
 use std::test::Fail;
 
 #[test]
@@ -20,21 +19,9 @@ fn tells_what_came_of_each_job_at_each_stage(rt: HostRuntime) -> Result<(), Fail
     ];
     for (stages, input, status, text) in cases {
         let words = ["--mode=stages", "--stages", stages];
-        let got = outcome_of(
-            &rt,
-            rt.alloc(),
-            words.as_slice(),
-            input,
-            &[],
-            &[],
-            &OpenGate,
-        )?;
-        assert_eq!(rt; got.status, status);
-        assert_eq!(rt; got.written.as_slice(), text);
-        assert_eq!(rt; got.ended.stages.is_some(), status == 0);
-        assert!(rt;
-            got.ended.queue.is_none() && got.ended.cell.is_none() && got.ended.replies.is_none()
-        );
+        let left = left_by(&rt, rt.alloc(), words.as_slice(), input, 16, status, text)?;
+        assert_eq!(rt; left.stages, status == 0);
+        assert!(rt; !left.is_of_a_run() && !left.cell);
     }
     Ok(())
 }

@@ -1,6 +1,6 @@
 //! Reads and writes of a watch that fail in turn.
 
-use super::calls::{Outcome, outcome_of};
+use super::calls::{Moves, Outcome, outcome_of};
 use orc_board::OpenGate;
 use std::alloc::Global;
 use std::process::Abort;
@@ -21,15 +21,12 @@ fn call<R: Threads + Wait + Sync>(
     write_fails: &[u64],
 ) -> Result<Outcome, Fail> {
     let words = ["--mode", "watch"];
-    Ok(outcome_of(
-        rt,
-        alloc,
-        words.as_slice(),
-        THREE_LINES,
+    let moves = Moves {
+        piece: 16,
         read_fails,
         write_fails,
-        &OpenGate,
-    )?)
+    };
+    Ok(outcome_of(rt, alloc, words.as_slice(), THREE_LINES, moves, &OpenGate)?)
 }
 
 // Lets the read of this number fail, and asks that nothing is left of a watch that didn't begin.
@@ -41,7 +38,7 @@ fn read_fails<R: Threads + Wait + Sync + Abort>(
     let got = call(rt, alloc, &[number], &[])?;
     assert_eq!(rt; got.status, 4);
     assert!(rt; got.written.is_empty());
-    assert!(rt; got.ended.cell.is_none());
+    assert!(rt; !got.left.cell);
     Ok(())
 }
 
@@ -56,7 +53,7 @@ fn write_fails<R: Threads + Wait + Sync + Abort>(
     assert!(rt;
         got.written.len() < THREE_TOLD.len() && THREE_TOLD.starts_with(got.written.as_slice())
     );
-    assert!(rt; got.ended.cell.is_some());
+    assert!(rt; got.left.cell);
     Ok(())
 }
 

@@ -1,7 +1,6 @@
 //! What is answered to watch files.
 
-use super::calls::outcome_of;
-use orc_board::OpenGate;
+use super::calls::left_by;
 use std::alloc::Global;
 use std::process::Abort;
 use std::sync::Wait;
@@ -18,13 +17,9 @@ fn is_answered<R: Threads + Wait + Sync + Abort>(
     text: &[u8],
 ) -> Result<(), Fail> {
     let words = ["--mode=watch", "--rest", rest];
-    let got = outcome_of(rt, alloc, words.as_slice(), input, &[], &[], &OpenGate)?;
-    assert_eq!(rt; got.status, status);
-    assert_eq!(rt; got.written.as_slice(), text);
-    assert_eq!(rt; got.ended.cell.is_some(), status == 0);
-    assert!(rt;
-        got.ended.queue.is_none() && got.ended.set.is_none() && got.ended.replies.is_none()
-    );
+    let left = left_by(rt, alloc, words.as_slice(), input, 16, status, text)?;
+    assert_eq!(rt; left.cell, status == 0);
+    assert!(rt; !left.is_of_a_run() && !left.stages);
     Ok(())
 }
 

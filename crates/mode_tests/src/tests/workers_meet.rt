@@ -1,6 +1,6 @@
 //! That workers of a watch work beside each other, which no contract says: a gate that holds each until the other has come.
 
-use super::calls::outcome_of;
+use super::calls::{Moves, outcome_of};
 use orc_board::Gate;
 use std::sync::atomic::{AtomicU64, Ordering};
 use std::test::Fail;
@@ -54,8 +54,7 @@ fn two_workers_each_see_the_other_come(rt: HostRuntime) -> Result<(), Fail> {
         rt.alloc(),
         words.as_slice(),
         lines.as_slice(),
-        &[],
-        &[],
+        Moves::in_pieces(16),
         &gate,
     )?;
     assert_eq!(rt; got.status, 0);

@@ -1,10 +1,9 @@
 //! Reads and writes that fail in turn, and input that is cut off.
 
-use super::{FIVE_LINES, FIVE_LINES_REPORT, run, words_of};
+use super::super::calls::{Moves, Outcome, outcome_of};
+use super::{FIVE_LINES, FIVE_LINES_REPORT, run};
 use orc_board::OpenGate;
 use orc_fault::NoMemory;
-use orc_feed::{MemorySink, MemorySource};
-use orc_program::{CommandWords, Ended, orc_main};
 use std::alloc::Global;
 use std::process::Abort;
 use std::sync::Wait;
@@ -26,52 +25,21 @@ const HANDED_OVER: [&str; 8] = [
     "1 slot 14\n1 slot 15\n1 end 0\n1 store 0 -\n1 unretire 0\n1 free 0\n",
 ];
 
-// What a call answers, writes and leaves.
-#[derive(Drop)]
-struct Outcome {
-    status: u8,
-    written: Vec<u8>,
-    ended: Ended,
-}
-
-// Calls with pieces of 16 bytes and room for 1,024, where these reads and writes fail.
+// Calls with pieces of 16 bytes, where these reads and writes fail.
 fn call_with<R: Threads + Wait + Sync>(
     rt: &R,
     alloc: Global,
-    words: &CommandWords,
+    words: &[&str],
     input: &[u8],
     read_fails: &[u64],
     write_fails: &[u64],
 ) -> Result<Outcome, NoMemory> {
-    let mut source = MemorySource::new(alloc, input, 16, read_fails)?;
-    let mut sink = MemorySink::new(alloc, 1024, 16, write_fails)?;
-    let mut ended = Ended::new();
-    let status = orc_main(
-        rt,
-        alloc,
-        words,
-        &mut source,
-        &mut sink,
-        &OpenGate,
-        &mut ended,
-    );
-    let mut written = Vec::new(alloc);
-    written.extend_from_slice(sink.bytes())?;
-    Ok(Outcome {
-        status,
-        written,
-        ended,
-    })
-}
-
-// Whether nothing has ended.
-fn is_empty(ended: &Ended) -> bool {
-    ended.queue.is_none() && ended.rush.is_none() && ended.set.is_none() && ended.replies.is_none()
-}
-
-// Whether all domains and the replies have ended.
-fn is_whole(ended: &Ended) -> bool {
-    ended.queue.is_some() && ended.rush.is_some() && ended.set.is_some() && ended.replies.is_some()
+    let moves = Moves {
+        piece: 16,
+        read_fails,
+        write_fails,
+    };
+    outcome_of(rt, alloc, words, input, moves, &OpenGate)
 }
 
 // Whether these bytes are a front of the text, and not all of it.
@@ -81,18 +49,17 @@ fn is_cut(written: &[u8], text: &[u8]) -> bool {
 
 #[test]
 fn each_read_fails_in_turn(rt: HostRuntime) -> Result<(), Fail> {
-    let words = CommandWords::new(rt.alloc());
     for call in 0..6 {
-        let got = call_with(&rt, rt.alloc(), &words, FIVE_LINES, &[call], &[])?;
+        let got = call_with(&rt, rt.alloc(), &[], FIVE_LINES, &[call], &[])?;
         assert_eq!(&rt; got.status, 4);
         assert!(&rt; got.written.is_empty());
-        assert!(&rt; is_empty(&got.ended));
+        assert!(&rt; got.left.is_nothing());
     }
     // the sixth read was the last
-    let got = call_with(&rt, rt.alloc(), &words, FIVE_LINES, &[6], &[])?;
+    let got = call_with(&rt, rt.alloc(), &[], FIVE_LINES, &[6], &[])?;
     assert_eq!(&rt; got.status, 0);
     assert_eq!(&rt; got.written.as_slice(), FIVE_LINES_REPORT);
-    assert!(&rt; is_whole(&got.ended));
+    assert!(&rt; got.left.is_whole());
     Ok(())
 }
 
@@ -101,15 +68,15 @@ fn each_read_fails_in_turn(rt: HostRuntime) -> Result<(), Fail> {
 fn fail_each_write<R: Threads + Wait + Sync + Abort>(
     rt: &R,
     alloc: Global,
-    words: &CommandWords,
+    words: &[&str],
     status: u8,
     text: &[u8],
     ran: bool,
 ) -> Result<u64, Fail> {
     for call in 0..64 {
         let got = call_with(rt, alloc, words, FIVE_LINES, &[], &[call])?;
-        assert_eq!(rt; is_whole(&got.ended), ran);
-        assert_eq!(rt; is_empty(&got.ended), !ran);
+        assert_eq!(rt; got.left.is_whole(), ran);
+        assert_eq!(rt; got.left.is_nothing(), !ran);
         if got.status == status {
             assert_eq!(rt; got.written.as_slice(), text);
             return Ok(call);
@@ -143,8 +110,7 @@ fn each_write_fails_in_turn(rt: HostRuntime) -> Result<(), Fail> {
         (&["report"], 2, b"words refused\n", false, 1),
     ];
     for (words, status, text, ran, writes) in cases {
-        let words = words_of(rt.alloc(), words)?;
-        let met = fail_each_write(&rt, rt.alloc(), &words, status, text, ran)?;
+        let met = fail_each_write(&rt, rt.alloc(), words, status, text, ran)?;
         assert_eq!(&rt; met, writes);
     }
     Ok(())
@@ -153,17 +119,17 @@ fn each_write_fails_in_turn(rt: HostRuntime) -> Result<(), Fail> {
 // With several workers the report differs from run to run, but not its length, which is 542 bytes here.
 #[test]
 fn each_write_of_a_team_fails_in_turn(rt: HostRuntime) -> Result<(), Fail> {
-    let words = words_of(rt.alloc(), &["--posters=4", "--takers=4", "--rows=64"])?;
+    let words = ["--posters=4", "--takers=4", "--rows=64"];
     for call in 0..34 {
-        let got = call_with(&rt, rt.alloc(), &words, EIGHT_POSTS, &[], &[call])?;
+        let got = call_with(&rt, rt.alloc(), words.as_slice(), EIGHT_POSTS, &[], &[call])?;
         assert_eq!(&rt; got.status, 5);
         assert_eq!(&rt; got.written.len() as u64, 16 * call);
-        assert!(&rt; is_whole(&got.ended));
+        assert!(&rt; got.left.is_whole());
     }
-    let got = call_with(&rt, rt.alloc(), &words, EIGHT_POSTS, &[], &[34])?;
+    let got = call_with(&rt, rt.alloc(), words.as_slice(), EIGHT_POSTS, &[], &[34])?;
     assert_eq!(&rt; got.status, 0);
     assert_eq!(&rt; got.written.len(), 542);
-    assert!(&rt; is_whole(&got.ended));
+    assert!(&rt; got.left.is_whole());
     Ok(())
 }
 
@@ -176,15 +142,15 @@ fn lines_in(text: &[u8]) -> usize {
 #[test]
 fn a_trace_is_cut_after_each_byte(rt: HostRuntime) -> Result<(), Fail> {
     let alloc = rt.alloc();
-    let words = words_of(alloc, &["--mode=replay"])?;
+    let words = ["--mode=replay"];
     let mut trace = String::new(alloc);
     for steps in HANDED_OVER {
         trace.push_str(steps)?;
     }
     for end in 0..=trace.len() {
         let (front, _) = trace.as_bytes().split_at(end);
-        let got = call_with(&rt, alloc, &words, front, &[], &[])?;
-        assert!(&rt; is_empty(&got.ended));
+        let got = call_with(&rt, alloc, words.as_slice(), front, &[], &[])?;
+        assert!(&rt; got.left.is_nothing());
         let lines = lines_in(front);
         let (status, begin) = if lines == 0 {
             (8, format!(in alloc; "shape: unreadable\n")?)

@@ -1,6 +1,6 @@
 //! That posters and takers work beside each other, which no contract says: gates that hold one until another has come.
 
-use super::teams::{posts, report_of, team_words};
+use super::teams::{posts, report_of};
 use orc_board::Gate;
 use std::sync::atomic::{AtomicU64, Ordering};
 use std::test::Fail;
@@ -43,14 +43,14 @@ impl Gate for PostersMeet {
 #[test]
 fn two_posters_each_see_the_other_come(rt: HostRuntime) -> Result<(), Fail> {
     let alloc = rt.alloc();
-    let words = team_words(alloc, "2", "0")?;
+    let words = ["--posters", "2", "--takers", "0"];
     let input = posts(alloc, 6)?;
     let gate = PostersMeet {
         first: AtomicU64::new(0),
         second: AtomicU64::new(0),
         met: AtomicU64::new(0),
     };
-    let _report = report_of(&rt, alloc, &words, input.as_bytes(), &gate)?;
+    let _report = report_of(&rt, alloc, words.as_slice(), input.as_bytes(), &gate)?;
     assert_eq!(rt; gate.met.load(Ordering::SeqCst), 2);
     Ok(())
 }
@@ -76,13 +76,13 @@ impl Gate for TakerGoesOn {
 #[test]
 fn a_taker_goes_on_while_a_poster_is_left(rt: HostRuntime) -> Result<(), Fail> {
     let alloc = rt.alloc();
-    let words = team_words(alloc, "1", "1")?;
+    let words = ["--posters", "1", "--takers", "1"];
     let input = posts(alloc, 2)?;
     let gate = TakerGoesOn {
         again: AtomicU64::new(0),
         seen: AtomicU64::new(0),
     };
-    let _report = report_of(&rt, alloc, &words, input.as_bytes(), &gate)?;
+    let _report = report_of(&rt, alloc, words.as_slice(), input.as_bytes(), &gate)?;
     assert_eq!(rt; gate.seen.load(Ordering::SeqCst), 1);
     Ok(())
 }

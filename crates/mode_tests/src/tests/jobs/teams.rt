@@ -1,43 +1,25 @@
 //! Runs by posters and takers, whose reports are read back.
 
-ghost use Rattle.std.specs.Prelude.{◌≤◌};
-
-use super::words_of;
+use super::super::calls::{Moves, outcome_of};
 use orc_board::{Gate, OpenGate};
 use orc_fault::NoMemory;
-use orc_feed::{MemorySink, MemorySource};
-use orc_program::{CommandWords, Ended, orc_main};
 use std::alloc::Global;
 use std::process::Abort;
 use std::sync::Wait;
 use std::test::Fail;
 use std::thread::Threads;
 
-// The words of a team.
-pub(super) fn team_words(
-    alloc: Global,
-    posters: &str,
-    takers: &str,
-) -> Result<CommandWords, NoMemory> {
-    words_of(alloc, &["--posters", posters, "--takers", takers])
-}
-
 // The report of a run of this input.
 pub(super) fn report_of<R: Threads + Wait + Sync + Abort, G: Gate + Sync>(
     rt: &R,
     alloc: Global,
-    words: &CommandWords,
+    words: &[&str],
     input: &[u8],
     gate: &G,
 ) -> Result<Vec<u8>, Fail> {
-    let mut source = MemorySource::new(alloc, input, 4096, &[])?;
-    let mut sink = MemorySink::new(alloc, 1_000_000, 4096, &[])?;
-    let mut ended = Ended::new();
-    let status = orc_main(rt, alloc, words, &mut source, &mut sink, gate, &mut ended);
-    assert_eq!(rt; status, 0);
-    let mut report = Vec::new(alloc);
-    report.extend_from_slice(sink.bytes())?;
-    Ok(report)
+    let got = outcome_of(rt, alloc, words, input, Moves::in_pieces(4096), gate)?;
+    assert_eq!(rt; got.status, 0);
+    Ok(got.written)
 }
 
 // A job file of so many posts with ids from 0 on.
@@ -149,9 +131,9 @@ fn counts_of(alloc: Global, report: &[u8], lines: usize) -> Result<Counts, NoMem
 #[test]
 fn a_thousand_posts_are_done_once_each(rt: HostRuntime) -> Result<(), Fail> {
     let alloc = rt.alloc();
-    let words = team_words(alloc, "2", "3")?;
+    let words = ["--posters", "2", "--takers", "3"];
     let input = posts(alloc, 1000)?;
-    let report = report_of(&rt, alloc, &words, input.as_bytes(), &OpenGate)?;
+    let report = report_of(&rt, alloc, words.as_slice(), input.as_bytes(), &OpenGate)?;
     let counts = counts_of(alloc, report.as_slice(), 1000)?;
     assert!(rt; counts.agree());
     assert_eq!(rt; counts.done, 1000);
