@@ -4,9 +4,10 @@
 //
 //   an enqueue                     10 loads, 13 locked steps
 //   a dequeue                      14 + 8 x agents loads, 14 locked steps: it frees the dummy, and scans all slots for it
-//   a search that visits n nodes   3 + 4 n loads, 2 + 2 n locked steps
+//   a search that visits n nodes   5 + 3 n loads, 4 + n locked steps
 //
-// Without the steps that save others, in which a handover word is exchanged without a look, and a swing counts down behind slot 0:
+// Without the steps that save others, in which a handover word is exchanged without a look, a swing counts down behind slot 0, and a
+// slot is emptied before it names another row:
 //
 //   an enqueue                     8 loads, 18 locked steps
 //   a dequeue                      10 + 8 x agents loads, 20 locked steps
@@ -20,6 +21,7 @@
 #include <cstdio>
 #include <cstdlib>
 #include <cstring>
+#include <utility>
 #include <vector>
 
 using Number = std::uint64_t;
@@ -193,12 +195,19 @@ template <bool SAVES> struct List {
     while (link) {
       Number row = row_of(link);
       Number key = table.first(row).load();
-      Number next = look(table.next(row), behind);
+      // the slot of the left node moves on
+      bool moves = SAVES && has_left && key < wanted;
+      Number next = look(table.next(row), moves ? left : behind);
       if (key >= wanted) {
         found = key == wanted;
         if (next) handed |= table.unlock(behind);
         handed |= table.unlock(at);
         break;
+      }
+      if (moves && next) {
+        std::swap(left, at);
+        link = next;
+        continue;
       }
       if (has_left) handed |= table.unlock(left);
       Number spare = left;

@@ -77,5 +77,5 @@ for agents in (1, 4, 16):
         million(more), '%.2f' % (more / mine))
 [(mine, _)] = speeds('--whole --container list --domain reclaiming --threads 1 --calls 100000 --keys 256')
 bare, more = modelled('list 128 100000'), modelled('list 128 100000 all')
-row('list of 128 keys', 1, '3 + 4 n + 2 + 2 n', million(mine), million(bare), '%.2f' % (bare / mine), million(more), '%.2f' % (more / mine))
+row('list of 128 keys', 1, '5 + 3 n + 4 + n', million(mine), million(bare), '%.2f' % (bare / mine), million(more), '%.2f' % (more / mine))
 PY
