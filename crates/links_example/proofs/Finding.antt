@@ -19,7 +19,7 @@ use Rattle.orc_heap.specs.declared.events.Place.{Place}
 use Rattle.orc_heap.specs.declared.events.Place.TheVariants.{Next, Root, Side}
 use Rattle.orc_heap.specs.declared.holds.Looked.TheVariants.{Moved}
 use Rattle.links_example.specs.OwnRoots.{OwnRootsMay}
-use Rattle.links_example.specs.Stacks.{Finds, LeadsTo, plain_link}
+use Rattle.links_example.specs.Stacks.{FindsNode, LeadsTo, plain_link}
 use Rattle.links_example.proofs.Stays.{is_move, node_later, nodes_stay, top_later, top_stays}
 
 -- a place of the stack leads to the same node after events of which none is a Move of the agent's own
@@ -55,7 +55,7 @@ not_null n s t place mark to all l r =
     cc
 
 pub finds : (n : HeapNumbers) (s t : Seat ℕ) (place : Place) (slot : ℕ) (mark : Bool) (h : Hold) → AllAllowed (OwnRootsMay n) [] t.seen
-    → t.fresh ≡ s.fresh → LookedHeld place slot mark h s t → Finds n place slot s h t
+    → t.fresh ≡ s.fresh → LookedHeld place slot mark h s t → FindsNode n place slot s h t
 finds n s t place slot mark h all fresh r = record {
   id = r.id;
   is = λ to l. let e : Some r.id ≡ Some to =

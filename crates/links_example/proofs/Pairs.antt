@@ -5,7 +5,7 @@ use Rattle.orc_heap.proofs.Slots.{id-there}
 use Rattle.orc_heap.specs.Heap.{HeapNumbers}
 use Rattle.orc_heap.specs.Seats.{IsIdle, Seat}
 use Rattle.orc_heap.specs.Slots.{Hold, id_in}
-use Rattle.links_example.specs.Stacks.{HasNode, HasPair, Pushes}
+use Rattle.links_example.specs.Stacks.{HasNode, HasTwo, Pushes}
 
 module _ {n : HeapNumbers} {lower : ℕ} {s : Seat ℕ} {one : Hold} {t : Seat ℕ} (idle : IsIdle s) (p : Pushes n None 1 lower s one t) where
   pub first_id : id_in t.slots one ≡ p.id
@@ -15,7 +15,7 @@ module _ {n : HeapNumbers} {lower : ℕ} {s : Seat ℕ} {one : Hold} {t : Seat �
   pub first_node : HasNode n t (id_in t.slots one) lower None
   first_node = rw first_id p.node
 
-  pub pair : {upper : ℕ} {two : Hold} {u : Seat ℕ} → Pushes n (Some (id_in t.slots one)) 2 upper t two u → HasPair n u upper lower
+  pub pair : {upper : ℕ} {two : Hold} {u : Seat ℕ} → Pushes n (Some (id_in t.slots one)) 2 upper t two u → HasTwo n u upper lower
   pair {upper} {two} {u} q = record {
     upper_id = q.id;
     lower_id = p.id;

@@ -12,7 +12,7 @@ use Rattle.orc_heap.specs.Slots.{Hold, Holds, IsFree, Slots, id_in}
 use Rattle.orc_heap.specs.declared.events.Place.{Place}
 use Rattle.orc_heap.specs.declared.events.Place.TheVariants.{Next}
 use Rattle.links_example.specs.OwnRoots.{OwnRootsMay}
-use Rattle.links_example.specs.Stacks.{Finds, HasNode, HasPair, LeadsTo, StackStays, stack_node}
+use Rattle.links_example.specs.Stacks.{FindsNode, HasNode, HasTwo, LeadsTo, StackStays, stack_node}
 use Rattle.links_example.proofs.Stays.{nodes_stay, top_stays}
 
 pub StackStays-trans : (n : HeapNumbers) (s t u : Seat ℕ) → StackStays n s t → StackStays n t u → StackStays n s u
@@ -25,7 +25,7 @@ StackStays-trans n s t u p q = record {
 }
 
 -- what was found is held, until it is released
-module _ {n : HeapNumbers} {place : Place} {slot : ℕ} {s : Seat ℕ} {h : Hold} {t : Seat ℕ} (free : IsFree s.slots slot) (f : Finds n place slot s h t) where
+module _ {n : HeapNumbers} {place : Place} {slot : ℕ} {s : Seat ℕ} {h : Hold} {t : Seat ℕ} (free : IsFree s.slots slot) (f : FindsNode n place slot s h t) where
   pub found_holds : Holds t.slots h
   found_holds = holds-there s.slots t.slots slot f.id h free.empty f.slot_is f.slots
 
@@ -72,11 +72,11 @@ value_read n t id value result below node r =
 pub record FindsTwo (n : HeapNumbers) (root : Place) (upper lower : Hold) (s0 s1 s2 : Seat ℕ) : Type 0 where
   pub free : IsFree s0.slots 3
   pub free_lower : IsFree s1.slots 4
-  pub one : Finds n root 3 s0 upper s1
-  pub two : Finds n (Next (id_in s1.slots upper)) 4 s1 lower s2
+  pub one : FindsNode n root 3 s0 upper s1
+  pub two : FindsNode n (Next (id_in s1.slots upper)) 4 s1 lower s2
 
 pub two_found : {n : HeapNumbers} {root : Place} {upper lower : Hold} {s0 s1 s2 : Seat ℕ} → IsFree s0.slots 3 → IsFree s0.slots 4
-    → Finds n root 3 s0 upper s1 → Finds n (Next (id_in s1.slots upper)) 4 s1 lower s2 → FindsTwo n root upper lower s0 s1 s2
+    → FindsNode n root 3 s0 upper s1 → FindsNode n (Next (id_in s1.slots upper)) 4 s1 lower s2 → FindsTwo n root upper lower s0 s1 s2
 two_found free free_other one two =
     record { free = free; free_lower = found_free free one 4 (λ e. omega (arith, e)) free_other; one = one; two = two }
 
@@ -90,7 +90,7 @@ module _ {n : HeapNumbers} {root : Place} {upper lower : Hold} {s0 s1 s2 : Seat 
   lower_released fresh stays all w = found_released f.free_lower f.two all stays (f.one.fresh ∙ fresh) w
 
   -- a value of each
-  pub pair_read : {s3 s4 : Seat ℕ} → StackStays n s2 s3 → StackStays n s2 s4 → (a b first second : ℕ) (pair : HasPair n s0 a b)
+  pub pair_read : {s3 s4 : Seat ℕ} → StackStays n s2 s3 → StackStays n s2 s4 → (a b first second : ℕ) (pair : HasTwo n s0 a b)
       → LeadsTo n s0 root pair.upper_id → ReadsValue (heap_of n s3) (id_in s2.slots upper) 0 first
       → ReadsValue (heap_of n s4) (id_in s3.slots lower) 0 second → first ≡ a × second ≡ b
   pair_read {s3} {s4} v1 v2 a b first second pair leads r1 r2 =

@@ -61,7 +61,7 @@ pub record Clears (n : HeapNumbers) (s t : Seat ℕ) : Type 0 where
   pub nodes : NodesStay n s t
 
 -- the stack has two nodes, with these values, the upper one first
-pub record HasPair (n : HeapNumbers) (s : Seat ℕ) (upper lower : ℕ) : Type 0 where
+pub record HasTwo (n : HeapNumbers) (s : Seat ℕ) (upper lower : ℕ) : Type 0 where
   pub upper_id : ℕ
   pub lower_id : ℕ
   pub top : HasTop n s (Some upper_id)
@@ -75,7 +75,7 @@ LeadsTo n s (Next id) to = (value : ℕ) × HasNode n s id value (Some to)
 LeadsTo n s (Side id) to = ⊥
 
 -- the node to which the place leads was found, and is held in this slot; the stack stays
-pub record Finds (n : HeapNumbers) (place : Place) (slot : ℕ) (s : Seat ℕ) (h : Hold) (t : Seat ℕ) : Type 0 where
+pub record FindsNode (n : HeapNumbers) (place : Place) (slot : ℕ) (s : Seat ℕ) (h : Hold) (t : Seat ℕ) : Type 0 where
   pub id : ℕ
   pub is : (to : ℕ) → LeadsTo n s place to → id ≡ to
   pub slot_is : h.slot ≡ slot

@@ -3,7 +3,7 @@
 ghost use Rattle.std.specs.Prelude.{◌≡◌, ◌≢◌, ℕ, ◌<◌, None, Some, IfOk, IfErr};
 ghost use Rattle.orc_heap.specs.Seats.{HoldsPlace, HoldsTarget, HoldsWant, IsIdle, Seat, link_in, place_in, target_in};
 ghost use Rattle.orc_heap.specs.Slots.{Holds, IsFree, Slots, id_in};
-ghost use Rattle.links_example.specs.Stacks.{Clears, Finds, HasPair, HasTop, HoldsNode, LeadsTo, Pushes, StackStays, plain_link};
+ghost use Rattle.links_example.specs.Stacks.{Clears, FindsNode, HasTwo, HasTop, HoldsNode, LeadsTo, Pushes, StackStays, plain_link};
 
 use crate::own_roots::OwnRoots;
 use orc_fault::Spent;
@@ -104,7 +104,7 @@ fn look_at<L: Links<Rule = OwnRoots>>(links: &L, p: &mut L::Pass, place: &At, sl
     requires place { HoldsPlace (L.numbers links.now) (L.seat links.now p.old).slots place.now }
     requires stack { (to : ℕ) × LeadsTo (L.numbers links.now) (L.seat links.now p.old) (place_in (L.seat links.now p.old).slots place.now) to }
     ensures pass { L.belongs links.now p.new }
-    ensures found { Finds (L.numbers links.now) (place_in (L.seat links.now p.old).slots place.now) slot (L.seat links.now p.old) result
+    ensures found { FindsNode (L.numbers links.now) (place_in (L.seat links.now p.old).slots place.now) slot (L.seat links.now p.old) result
         (L.seat links.now p.new) }
 {
     match links.look(p, place, slot) {
@@ -120,10 +120,10 @@ fn read_two<L: Links<Rule = OwnRoots>>(links: &L, p: &mut L::Pass) -> (u64, u64)
     requires slots { IsFree (L.seat links.now p.old).slots 3 × IsFree (L.seat links.now p.old).slots 4 }
     requires fresh { (L.seat links.now p.old).fresh ≡ None }
     requires root { (L.seat links.now p.old).agent < (L.numbers links.now).roots }
-    requires stack { (a : ℕ) × (b : ℕ) × HasPair (L.numbers links.now) (L.seat links.now p.old) a b }
+    requires stack { (a : ℕ) × (b : ℕ) × HasTwo (L.numbers links.now) (L.seat links.now p.old) a b }
     ensures pass { L.belongs links.now p.new }
     ensures stays { StackStays (L.numbers links.now) (L.seat links.now p.old) (L.seat links.now p.new) }
-    ensures read { (a b : ℕ) → HasPair (L.numbers links.now) (L.seat links.now p.old) a b → result ≡ (a, b) }
+    ensures read { (a b : ℕ) → HasTwo (L.numbers links.now) (L.seat links.now p.old) a b → result ≡ (a, b) }
 {
     let agent = links.agent(p);
     let upper = look_at(links, p, &At::Root(agent), 3);

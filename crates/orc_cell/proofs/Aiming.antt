@@ -21,13 +21,13 @@ use Rattle.orc_heap.specs.declared.events.Place.{Place}
 use Rattle.orc_heap.specs.declared.events.Place.TheVariants.{Root}
 use Rattle.orc_pairs_rule.specs.declared.pairs.PairsNote.{PairsNote}
 use Rattle.orc_pairs_rule.specs.PairsDiscipline.{HasPart, PairsMay}
-use Rattle.orc_cell.specs.Publishes.{Aimed, KeepsStaging, NotAimed, Staged, Stretch, aim_act, link_of, other}
+use Rattle.orc_cell.specs.Publishes.{Aimed, KeepsStaging, NotAimed, Staged, Piece, aim_act, link_of, other}
 use Rattle.orc_cell.specs.Turns.{Finds, HoldsPart, LeadsToPart}
 use Rattle.orc_cell.specs.declared.publish.Half.{Half}
 use Rattle.orc_cell.specs.declared.publish.Half.TheVariants.{Left, Right}
 use Rattle.orc_cell.proofs.Pieces.{Known, finds_none, part_puts}
 use Rattle.orc_cell.proofs.Reading.{value_read}
-use Rattle.orc_cell.proofs.Staging.{Stretch-trans, finds_staging, finds_stretch, found_answered, own_found, own_touched, root_kept, staging-trans}
+use Rattle.orc_cell.proofs.Staging.{Piece-trans, finds_staging, finds_stretch, found_answered, own_found, own_touched, root_kept, staging-trans}
 
 -- the aim of a half at another node
 
@@ -60,7 +60,7 @@ half_moves Right root id to = refl
 
 -- what an aim leaves
 pub record AimLeaves (n : HeapNumbers) (half : Half) (id to : ℕ) (s t : Seat PairsNote) : Type 0 where
-  pub stretch : Stretch 0 s [] t
+  pub stretch : Piece 0 s [] t
   pub staging : KeepsStaging n s t
   pub node : Node
   pub there : slice_get (heap_of n t).nodes id ≡ Some node
@@ -137,8 +137,8 @@ module _ (n : HeapNumbers) (place : Place) (s a b : Seat PairsNote) (h pair : Ho
     pub part_not_fresh : b.fresh ≢ Some (id_in b.slots h)
     part_not_fresh = linked_not_fresh n b (id_in b.slots h) untouched_b linked_b
 
-    first : Stretch 0 s [] b
-    first = Stretch-trans 0 0 s a b [] [] (finds_stretch s a [] held.finds) (finds_stretch a b [] (finds_none a b o).finds)
+    first : Piece 0 s [] b
+    first = Piece-trans 0 0 s a b [] [] (finds_stretch s a [] held.finds) (finds_stretch a b [] (finds_none a b o).finds)
 
     first_staging : KeepsStaging n s b
     first_staging = staging-trans n s a b held.finds.puts.agent (finds_staging n s a [] held.finds known_a.all)
@@ -151,7 +151,7 @@ module _ (n : HeapNumbers) (place : Place) (s a b : Seat PairsNote) (h pair : Ho
         (w : Releases c h t)
       where
         -- what came of the aim, and the release at the end
-        module _ (own : List (Event PairsNote)) (q : Only own b c) (bc : Stretch 0 b [] c) (st : KeepsStaging n b c) where
+        module _ (own : List (Event PairsNote)) (q : Only own b c) (bc : Piece 0 b [] c) (st : KeepsStaging n b c) where
           linked_c : IsLinkedNode (heap_of n c) (id_in c.slots h)
           linked_c =
               let in_c = part_puts n b c own q.puts known_c.all held.id leads.value part_at in
@@ -173,7 +173,7 @@ module _ (n : HeapNumbers) (place : Place) (s a b : Seat PairsNote) (h pair : Ho
           pub kept_back : NotAimed n pair s t
           kept_back = record {
             answered = record {
-              stretch = Stretch-trans 0 0 s c t [] [] (Stretch-trans 0 0 s b c [] [] first bc) (finds_stretch c t [] last);
+              stretch = Piece-trans 0 0 s c t [] [] (Piece-trans 0 0 s b c [] [] first bc) (finds_stretch c t [] last);
               slots = back;
               staging = staging-trans n s c t agent_c (staging-trans n s b c agent_b first_staging st) (finds_staging n c t [] last all_t);
             };

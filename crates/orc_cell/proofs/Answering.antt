@@ -39,7 +39,7 @@ use Rattle.orc_cell.specs.declared.refused.CellRefused.{CellRefused}
 use Rattle.orc_cell.specs.declared.refused.CellRefused.TheVariants.{Again, NoNode, Spent}
 use Rattle.orc_cell.proofs.Others.{others_from_own-append}
 use Rattle.orc_cell.proofs.Pieces.{Known, finds_none, part_puts}
-use Rattle.orc_cell.proofs.Staging.{Answered-trans, Stretch-trans, finds_staging, found_answered, root_kept, staging-trans}
+use Rattle.orc_cell.proofs.Staging.{Answered-trans, Piece-trans, finds_staging, found_answered, root_kept, staging-trans}
 use Rattle.orc_cell.proofs.Swinging.{published_later, published_puts, same_slots, side_kept}
 
 -- a later piece's Moves by others are Moves of the whole
@@ -144,7 +144,7 @@ module _ (n : HeapNumbers) (slot root value : ℕ) (s a b t : Seat PairsNote) (h
         let y = x.answered in
         let agent_a = first.stretch.puts.agent in
         let agent_b = y.stretch.puts.agent ∙ agent_a in
-        let st = Stretch-trans (1 + given) 0 s b t es [] (Stretch-trans 1 given s a b [] es first.stretch y.stretch) last.stretch in
+        let st = Piece-trans (1 + given) 0 s b t es [] (Piece-trans 1 given s a b [] es first.stretch y.stretch) last.stretch in
         record {
           answered = record {
             stretch = record { own = st.own; puts = st.puts; entries_are = st.entries_are ∙ append-nil es; gives = omega (arith, st.gives) };

@@ -24,7 +24,7 @@ use Rattle.orc_pairs_rule.specs.declared.pairs.PairsNote.{PairsNote}
 use Rattle.orc_pairs_rule.specs.CellHistory.{agent_of_entry}
 use Rattle.orc_pairs_rule.specs.PairsDiscipline.{PairsMay, entries_in, entries_of}
 use Rattle.orc_cell.specs.Causes.{UsesTurns}
-use Rattle.orc_cell.specs.Publishes.{Stretch}
+use Rattle.orc_cell.specs.Publishes.{Piece}
 use Rattle.orc_cell.specs.Turns.{others_moves}
 use Rattle.orc_cell.proofs.Others.{others-append, others_from_own}
 
@@ -44,7 +44,7 @@ own_after s t own p =
     ∙ (ap (λ z. events_by s.agent z) p.is ∙ (filter-append (λ e. e.agent == s.agent) s.seen p.part ∙ ap (λ z. events_by s.agent s.seen ++ z) p.own_is))
 
 -- it gave at most so many nodes
-pub gave_at_most : (most : ℕ) (s t : Seat PairsNote) (es : List CellEntry) → Stretch most s es t
+pub gave_at_most : (most : ℕ) (s t : Seat PairsNote) (es : List CellEntry) → Piece most s es t
     → gives_in (events_by t.agent t.seen) ≤ gives_in (events_by s.agent s.seen) + most
 gave_at_most most s t es x =
     rw (own_after s t x.own x.puts) (omega (arith, gives_in-append (events_by s.agent s.seen) x.own, x.gives))

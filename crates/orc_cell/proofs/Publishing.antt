@@ -19,7 +19,7 @@ use Rattle.orc_pairs_rule.specs.declared.entry.CellEntry.{CellEntry}
 use Rattle.orc_pairs_rule.specs.declared.entry.CellEntry.TheVariants.{Published}
 use Rattle.orc_pairs_rule.specs.declared.pairs.PairsNote.{PairsNote}
 use Rattle.orc_pairs_rule.specs.PairsDiscipline.{IsStaging, PairsMay}
-use Rattle.orc_cell.specs.Publishes.{Answered, HasStaged, PublishOver, PublishesFrom, PublishesTurns, SideHeld, Stretch}
+use Rattle.orc_cell.specs.Publishes.{Answered, HasStaged, PublishOver, PublishesFrom, PublishesTurns, SideHeld, Piece}
 use Rattle.orc_cell.specs.Turns.{Finds, FindsOnly, others_moves}
 use Rattle.orc_cell.specs.declared.publish.New.{New}
 use Rattle.orc_cell.specs.declared.publish.New.TheVariants.{Given, Kept, Zero}
@@ -30,7 +30,7 @@ use Rattle.orc_cell.proofs.Others.{found_or_others, looks_differ_by_others, othe
 use Rattle.orc_cell.proofs.Pieces.{Known, pair_puts}
 use Rattle.orc_cell.proofs.Readying.{keeps_found, keeps_trans}
 use Rattle.orc_cell.proofs.Reading.{moved_more, null_seen, pair_seen}
-use Rattle.orc_cell.proofs.Staging.{Answered-trans, Stretch-trans, finds_staging, finds_stretch, found_answered, staging-trans}
+use Rattle.orc_cell.proofs.Staging.{Answered-trans, Piece-trans, finds_staging, finds_stretch, found_answered, staging-trans}
 use Rattle.orc_cell.proofs.Swinging.{published_later, side_kept}
 
 -- where a look found null, both parts are staged
@@ -102,12 +102,12 @@ module _ (n : HeapNumbers) (s a b t : Seat PairsNote) (old pair : Hold) (free : 
     last : (es : List CellEntry) → Answered n 0 a es b → Finds b [] t
     last es x = record { own = []; puts = w.puts; finding = tt; entries_are = refl; fresh = release_fresh n b t old untouched (old_linked es x) w }
 
-    to_b : (es : List CellEntry) → Answered n 0 a es b → Stretch 0 s es b
-    to_b es x = Stretch-trans 0 0 s a b [] es (finds_stretch s a [] looked) x.stretch
+    to_b : (es : List CellEntry) → Answered n 0 a es b → Piece 0 s es b
+    to_b es x = Piece-trans 0 0 s a b [] es (finds_stretch s a [] looked) x.stretch
 
     whole : (es : List CellEntry) → Answered n 0 a es b → Answered n 0 s es t
     whole es x =
-        let st = Stretch-trans 0 0 s b t es [] (to_b es x) (finds_stretch b t [] (last es x)) in
+        let st = Piece-trans 0 0 s b t es [] (to_b es x) (finds_stretch b t [] (last es x)) in
         record {
           stretch = record { own = st.own; puts = st.puts; entries_are = st.entries_are ∙ append-nil es; gives = st.gives };
           slots = back es x;

@@ -23,7 +23,7 @@ use Rattle.orc_pairs_rule.specs.declared.pairs.PairsNote.{PairsNote}
 use Rattle.orc_pairs_rule.specs.declared.pairs.PairsNote.TheVariants.{Entry}
 use Rattle.orc_pairs_rule.specs.CellHistory.{Parts}
 use Rattle.orc_pairs_rule.specs.PairsDiscipline.{HasPair, HasPart, PairsMay}
-use Rattle.orc_cell.specs.Turns.{Confirms, Finds, FindsOnly, HoldsPart, IsPairOf, LeadsToPart, Leaves, MaySee, ReadsOver, ReadsPair, ReadsPart, ReadsTurns, others_moves}
+use Rattle.orc_cell.specs.Turns.{Confirms, Finds, FindsOnly, HoldsPart, IsPairOf, LeadsToPart, IsMovedSince, MaySee, ReadsOver, ReadsPair, ReadsPart, ReadsTurns, others_moves}
 use Rattle.orc_cell.proofs.Looking.{HoldsPair, RootNull, left_shows, right_shows}
 use Rattle.orc_cell.proofs.Others.{found_or_others, missed_by_others, others-append, others_from_own-append, still_or_others, turn_moved}
 use Rattle.orc_cell.proofs.Pieces.{Finds-trans, FindsOnly-trans, Known, finds_none, finds_released, pair_puts, part_puts}
@@ -118,7 +118,7 @@ miss_only b t link m slots fresh = record { finds = record { own = _; puts = m.p
 
 -- root 0 shows another link than the pair's
 pub left_pair : (n : HeapNumbers) (s b t : Seat PairsNote) (link : Link) (left right : ℕ) (done : Bool) → done ≡ false → FindsOnly s [] b
-    → Confirms link left right b done t → AllAllowed (PairsMay n) [] b.seen → AllAllowed (PairsMay n) [] t.seen → Leaves n link s t
+    → Confirms link left right b done t → AllAllowed (PairsMay n) [] b.seen → AllAllowed (PairsMay n) [] t.seen → IsMovedSince n link s t
 left_pair n s b t link left right done is x c all_b all_t =
     let m = missed link left right b t done is c in
     let y = miss_only b t link m c.slots c.fresh in

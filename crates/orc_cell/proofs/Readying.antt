@@ -13,7 +13,7 @@ use Rattle.orc_heap.specs.Slots.{Hold, Holds, id_in}
 use Rattle.orc_heap.specs.declared.events.Event.{Event}
 use Rattle.orc_pairs_rule.specs.declared.pairs.PairsNote.{PairsNote}
 use Rattle.orc_pairs_rule.specs.PairsDiscipline.{PairsMay}
-use Rattle.orc_cell.specs.Publishes.{Aimed, AimsGiven, Answered, IsReady, KeepsHalves, LeadsHalf, MakesReady, SideHeld, Staged, aim_act, given_of, link_of, other}
+use Rattle.orc_cell.specs.Publishes.{Aimed, AimsGiven, Answered, IsHalfReady, KeepsHalves, LeadsHalf, MakesReady, SideHeld, Staged, aim_act, given_of, link_of, other}
 use Rattle.orc_cell.specs.Turns.{IsFinding}
 use Rattle.orc_cell.specs.declared.publish.Half.{Half}
 use Rattle.orc_cell.specs.declared.publish.Half.TheVariants.{Left, Right}
@@ -51,7 +51,7 @@ ready_aimed n half s h pair root value staged fresh l = record {
 
 -- the right half stays ready while the left one is aimed
 pub right_stays_ready : (n : HeapNumbers) (s a : Seat PairsNote) (pair : Hold) (id value : ℕ) (new : New) → Aimed n Left pair id value s a
-    → IsReady n Right pair new s → IsReady n Right pair new a
+    → IsHalfReady n Right pair new s → IsHalfReady n Right pair new a
 right_stays_ready n s a pair id value (Given v h) x l = record {
   node = x.node;
   there = x.there;
@@ -62,7 +62,7 @@ right_stays_ready n s a pair id value Kept x l = tt
 
 -- and the left one while the right one is made ready
 pub left_stays_ready : (n : HeapNumbers) (s a : Seat PairsNote) (pair : Hold) (new side : New) → MakesReady n Right pair side s a
-    → IsReady n Left pair new s → IsReady n Left pair new a
+    → IsHalfReady n Left pair new s → IsHalfReady n Left pair new a
 left_stays_ready n s a pair (Given v h) side x l = record {
   node = x.node;
   there = x.there;
@@ -91,7 +91,7 @@ given_aimed n half s t h pair root value (Err why) staged fresh known all untouc
 
 -- there is nothing to aim at
 pub none_given : (n : HeapNumbers) (half : Half) (s : Seat PairsNote) (pair : Hold) (new : New) → HoldsFresh s pair
-    → IsUntouched s.agent (heap_of n s) (id_in s.slots pair) → IsReady n half pair new s → MakesReady n half pair new s s
+    → IsUntouched s.agent (heap_of n s) (id_in s.slots pair) → IsHalfReady n half pair new s → MakesReady n half pair new s s
 none_given n half s pair new fresh u ready = record {
   answered = answered_none n s;
   fresh = fresh;
@@ -150,7 +150,7 @@ aims_keep n left right pair s a b l r x y one two same_left same_right = record 
 -- so they stay ready
 
 pub left_ready : (n : HeapNumbers) (root : ℕ) (new : New) (right : Option ℕ) (pair : Hold) (s a : Seat PairsNote) → KeepsHalves n (given_of new) right pair s a
-    → ((h : Hold) → Holds s.slots h → id_in a.slots h ≡ id_in s.slots h) → SideHeld n root new s → IsReady n Left pair new s → IsReady n Left pair new a
+    → ((h : Hold) → Holds s.slots h → id_in a.slots h ≡ id_in s.slots h) → SideHeld n root new s → IsHalfReady n Left pair new s → IsHalfReady n Left pair new a
 left_ready n root (Given v h) right pair s a k carries held l = record {
   node = k.node;
   there = k.there;
@@ -160,7 +160,7 @@ left_ready n root (Zero h) right pair s a k carries held l = tt
 left_ready n root Kept right pair s a k carries held l = tt
 
 pub right_ready : (n : HeapNumbers) (root : ℕ) (new : New) (left : Option ℕ) (pair : Hold) (s a : Seat PairsNote) → KeepsHalves n left (given_of new) pair s a
-    → ((h : Hold) → Holds s.slots h → id_in a.slots h ≡ id_in s.slots h) → SideHeld n root new s → IsReady n Right pair new s → IsReady n Right pair new a
+    → ((h : Hold) → Holds s.slots h → id_in a.slots h ≡ id_in s.slots h) → SideHeld n root new s → IsHalfReady n Right pair new s → IsHalfReady n Right pair new a
 right_ready n root (Given v h) left pair s a k carries held l = record {
   node = k.node;
   there = k.there;

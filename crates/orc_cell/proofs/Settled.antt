@@ -18,7 +18,7 @@ use Rattle.orc_pairs_rule.specs.CellHistory.{agent_of_entry}
 use Rattle.orc_pairs_rule.specs.PairsDiscipline.{IsStaging, PairsMay, entries_of}
 use Rattle.orc_cell.specs.Answers.{Answers, PublishAnswers, ReadAnswers}
 use Rattle.orc_cell.specs.Causes.{UsesTurns}
-use Rattle.orc_cell.specs.Publishes.{Stretch}
+use Rattle.orc_cell.specs.Publishes.{Piece}
 use Rattle.orc_cell.specs.Turns.{FindsOnly}
 use Rattle.orc_cell.specs.declared.refused.CellRefused.{CellRefused}
 use Rattle.orc_cell.specs.declared.refused.CellRefused.TheVariants.{Again, NoNode, Spent}
@@ -91,7 +91,7 @@ staging_after n given s t es x empty root own =
 module _ {S : Type 0} {n : HeapNumbers} {agents : ℕ} {agent_of : S → ℕ} {events : List S → List (Event PairsNote)} {s t : Seat PairsNote} {j k : List S}
     (o : CallSeen n agents agent_of events s t j k)
   where
-    entered : (given : ℕ) (es : List CellEntry) → Stretch given s es t
+    entered : (given : ℕ) (es : List CellEntry) → Piece given s es t
         → Adds agent_of_entry (λ (a : ℕ). a < agents) s.agent (entries_of (events j)) es (entries_of (events k))
     entered given es x = call_adds o x.own es x.puts x.entries_are
 

@@ -32,7 +32,7 @@ use Rattle.orc_pairs_rule.specs.declared.entry.CellEntry.{CellEntry}
 use Rattle.orc_pairs_rule.specs.declared.pairs.PairsNote.{PairsNote}
 use Rattle.orc_pairs_rule.specs.PairsDiscipline.{IsStaging, PairsHolds, PairsMay, entries_in, entries_of}
 use Rattle.orc_pairs_rule.specs.Laws.Kept.{pairs_fits, pairs_keeps, pairs_moves_linked}
-use Rattle.orc_cell.specs.Publishes.{Answered, KeepsStaging, Stretch}
+use Rattle.orc_cell.specs.Publishes.{Answered, KeepsStaging, Piece}
 use Rattle.orc_cell.specs.Turns.{Finds, FindsOnly, IsFinding}
 use Rattle.orc_cell.proofs.Pieces.{Known}
 
@@ -44,8 +44,8 @@ err_within agent_of agent j k (Err e) Fact grows c = part_within agent_of agent 
 
 -- pieces
 
-pub Stretch-trans : (g k : ℕ) (s a t : Seat PairsNote) (xs ys : List CellEntry) → Stretch g s xs a → Stretch k a ys t → Stretch (g + k) s (xs ++ ys) t
-Stretch-trans g k s a t xs ys p q = record {
+pub Piece-trans : (g k : ℕ) (s a t : Seat PairsNote) (xs ys : List CellEntry) → Piece g s xs a → Piece k a ys t → Piece (g + k) s (xs ++ ys) t
+Piece-trans g k s a t xs ys p q = record {
   own = p.own ++ q.own;
   puts = Puts-trans s a t p.own q.own p.puts q.puts;
   entries_are = noted-append entries_in p.own q.own ∙ (ap (λ z. z ++ entries_of q.own) p.entries_are ∙ ap (λ z. xs ++ z) q.entries_are);
@@ -58,7 +58,7 @@ staging-trans n s a t agent p q = λ root own. q root (subst (λ (x : ℕ). IsSt
 pub Answered-trans : (n : HeapNumbers) (g k : ℕ) (s a t : Seat PairsNote) (xs ys : List CellEntry) → Answered n g s xs a → Answered n k a ys t
     → Answered n (g + k) s (xs ++ ys) t
 Answered-trans n g k s a t xs ys p q = record {
-  stretch = Stretch-trans g k s a t xs ys p.stretch q.stretch;
+  stretch = Piece-trans g k s a t xs ys p.stretch q.stretch;
   slots = q.slots ∙ p.slots;
   staging = staging-trans n s a t p.stretch.puts.agent p.staging q.staging;
 }
@@ -140,7 +140,7 @@ finding_touches id (e ∷ es) x f = ap (touched_by id es) (cases e.act f.0) ∙ 
     cases (AimSide i to) y = absurd y
     cases (Move place from to) y = absurd y
 
-pub finds_stretch : (s t : Seat PairsNote) (es : List CellEntry) → Finds s es t → Stretch 0 s es t
+pub finds_stretch : (s t : Seat PairsNote) (es : List CellEntry) → Finds s es t → Piece 0 s es t
 finds_stretch s t es f = record { own = f.own; puts = f.puts; entries_are = f.entries_are; gives = omega (arith, finding_gives f.own f.finding) }
 
 pub finds_staging : (n : HeapNumbers) (s t : Seat PairsNote) (es : List CellEntry) → Finds s es t → AllAllowed (PairsMay n) [] t.seen → KeepsStaging n s t

@@ -11,11 +11,11 @@ use Rattle.orc_heap.specs.declared.events.Place.TheVariants.{Root}
 use Rattle.orc_pairs_rule.specs.declared.entry.CellEntry.{CellEntry}
 use Rattle.orc_pairs_rule.specs.declared.pairs.PairsNote.{PairsNote}
 use Rattle.orc_pairs_rule.specs.PairsDiscipline.{IsStaging, PairsMay}
-use Rattle.orc_cell.specs.Publishes.{Stretch, Unstages}
+use Rattle.orc_cell.specs.Publishes.{Piece, Unstages}
 use Rattle.orc_cell.proofs.Staging.{root_kept}
 
 -- a piece of a call, and a settling
-pub stretch_settled : (given : ℕ) (s a t : Seat PairsNote) (es : List CellEntry) → Stretch given s es a → Only [] a t → Stretch given s es t
+pub stretch_settled : (given : ℕ) (s a t : Seat PairsNote) (es : List CellEntry) → Piece given s es a → Only [] a t → Piece given s es t
 stretch_settled given s a t es x o = record {
   own = x.own;
   puts = subst (λ (own : List (Event PairsNote)). Puts s own t) (append-nil x.own) (Puts-trans s a t x.own [] x.puts o.puts);

@@ -59,7 +59,7 @@ abbrev pub NotFresh : Seat PairsNote → Hold → Type 0
 NotFresh s h = s.fresh ≢ Some (id_in s.slots h)
 
 -- a piece of a call: its own events enter these entries, and give at most so many nodes
-pub record Stretch (given : ℕ) (s : Seat PairsNote) (entries : List CellEntry) (t : Seat PairsNote) : Type 0 where
+pub record Piece (given : ℕ) (s : Seat PairsNote) (entries : List CellEntry) (t : Seat PairsNote) : Type 0 where
   pub own : List (Event PairsNote)
   pub puts : Puts s own t
   pub entries_are : entries_of own ≡ entries
@@ -71,7 +71,7 @@ KeepsStaging n s t = (root : ℕ) → IsStaging s.agent root → shown (heap_of 
 
 -- a piece after which the pass holds what it held, and its staging roots show what they showed
 pub record Answered (n : HeapNumbers) (given : ℕ) (s : Seat PairsNote) (entries : List CellEntry) (t : Seat PairsNote) : Type 0 where
-  pub stretch : Stretch given s entries t
+  pub stretch : Piece given s entries t
   pub slots : t.slots ≡ s.slots
   pub staging : KeepsStaging n s t
 
@@ -129,10 +129,10 @@ pub record LeadsHalf (n : HeapNumbers) (half : Half) (pair : Hold) (id : ℕ) (s
   pub leads : link_of half node ≡ link_to id
 
 -- it leads to the part, if that is given
-abbrev pub IsReady : HeapNumbers → Half → Hold → New → Seat PairsNote → Type 0
-IsReady n half pair (Given value h) s = LeadsHalf n half pair (id_in s.slots h) s
-IsReady n half pair (Zero h) s = Unit {0}
-IsReady n half pair Kept s = Unit {0}
+abbrev pub IsHalfReady : HeapNumbers → Half → Hold → New → Seat PairsNote → Type 0
+IsHalfReady n half pair (Given value h) s = LeadsHalf n half pair (id_in s.slots h) s
+IsHalfReady n half pair (Zero h) s = Unit {0}
+IsHalfReady n half pair Kept s = Unit {0}
 
 -- one half was aimed at the part, if that is given, and the other leads where it led
 pub record MakesReady (n : HeapNumbers) (half : Half) (pair : Hold) (new : New) (s t : Seat PairsNote) : Type 0 where
@@ -141,7 +141,7 @@ pub record MakesReady (n : HeapNumbers) (half : Half) (pair : Hold) (new : New) 
   pub node : Node
   pub there : slice_get (heap_of n t).nodes (id_in t.slots pair) ≡ Some node
   pub keeps : (old : Node) → slice_get (heap_of n s).nodes (id_in s.slots pair) ≡ Some old → link_of (other half) node ≡ link_of (other half) old
-  pub ready : IsReady n half pair new t
+  pub ready : IsHalfReady n half pair new t
 
 abbrev pub AimsGiven : HeapNumbers → Half → Hold → New → Seat PairsNote → Result (Unit {0}) Spent → Seat PairsNote → Type 0
 AimsGiven n half pair new s (Ok done) t = MakesReady n half pair new s t
@@ -237,7 +237,7 @@ KeepsOther n root s t = (r : ℕ) → IsStaging s.agent r → r ≢ root → sho
 
 -- a new part was given and staged
 pub record Stages (n : HeapNumbers) (slot root value : ℕ) (s : Seat PairsNote) (h : Hold) (t : Seat PairsNote) : Type 0 where
-  pub stretch : Stretch 1 s [] t
+  pub stretch : Piece 1 s [] t
   pub id : ℕ
   pub in_slot : InSlot s slot id h t
   pub fresh : t.fresh ≡ None
@@ -247,7 +247,7 @@ pub record Stages (n : HeapNumbers) (slot root value : ℕ) (s : Seat PairsNote)
 
 -- a staged part was let go
 pub record Unstages (n : HeapNumbers) (root : ℕ) (h : Hold) (s t : Seat PairsNote) : Type 0 where
-  pub stretch : Stretch 0 s [] t
+  pub stretch : Piece 0 s [] t
   pub slots : t.slots ≡ slice_set s.slots h.slot None
   pub fresh : t.fresh ≡ None
   pub root_is : shown (heap_of n t) (Root root) ≡ Some null

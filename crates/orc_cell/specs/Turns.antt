@@ -90,7 +90,7 @@ pub record Confirms (link : Link) (left right : ℕ) (s : Seat PairsNote) (done 
   pub puts : MatchBool done (Puts s (event_of s (Look (Root 0) link) (Some (Entry (Seen s.agent left right))) ∷ []) t) (Misses (Root 0) link s t)
 
 -- root 0, if it showed this link before, has been moved by others since
-pub record Leaves (n : HeapNumbers) (link : Link) (s t : Seat PairsNote) : Type 0 where
+pub record IsMovedSince (n : HeapNumbers) (link : Link) (s t : Seat PairsNote) : Type 0 where
   pub only : FindsOnly s [] t
   pub moved : shown (heap_of n s) (Root 0) ≡ Some link → 1 ≤ others_moves s.agent only.finds.puts.part
 
@@ -110,5 +110,5 @@ IsPairOf h id = (left : ℕ) × (right : ℕ) × (parts : Parts) × HasPair h id
 
 -- the parts of a pair were read, and confirmed; or root 0, if it named the pair before, has been moved by others since
 abbrev pub ReadsPair : HeapNumbers → ℕ → Seat PairsNote → Option (ℕ × ℕ) → Seat PairsNote → Type 0
-ReadsPair n id s None t = Leaves n (link_to id) s t
+ReadsPair n id s None t = IsMovedSince n (link_to id) s t
 ReadsPair n id s (Some got) t = FindsOnly s (Seen s.agent got.0 got.1 ∷ []) t

@@ -8,7 +8,7 @@ ghost use Rattle.orc_heap.specs.OwnEvents.{Only};
 ghost use Rattle.orc_heap.specs.Seats.{HoldsFresh, HoldsPlace, HoldsWant, heap_of, link_in, place_in};
 ghost use Rattle.orc_heap.specs.Slots.{Hold, Holds, IsFree, id_in};
 ghost use Rattle.orc_history.specs.Journals.{Within};
-ghost use Rattle.orc_cell.specs.Publishes.{Aims, AimsGiven, HasStaged, IsFirst, IsNewPart, IsReady, MayPublish, NotFresh, PublishesFrom, PublishesGiven, PublishesTurns, SideHeld, Staged, SwingsPair, aim_act, given_of, half_at, staging_root};
+ghost use Rattle.orc_cell.specs.Publishes.{Aims, AimsGiven, HasStaged, IsFirst, IsNewPart, IsHalfReady, MayPublish, NotFresh, PublishesFrom, PublishesGiven, PublishesTurns, SideHeld, Staged, SwingsPair, aim_act, given_of, half_at, staging_root};
 ghost use Rattle.orc_fault.specs.declared.Spent.{Spent as SpentRow};
 ghost use Rattle.orc_cell.specs.declared.publish.Half.{Half};
 ghost use Rattle.orc_cell.specs.declared.publish.PublishTurn.{PublishTurn};
@@ -168,7 +168,7 @@ fn aim_next<L: Links<Rule = Pairs>>(
     requires made { IsCellDomain (L.numbers links.now) (L.agents links.now) (L.opening links.now) }
     requires fresh { HoldsFresh (L.seat links.now p.old) pair.now }
     requires new { SideHeld (L.numbers links.now) (staging_root half (L.seat links.now p.old).agent) new.now (L.seat links.now p.old) }
-    requires ready { IsReady (L.numbers links.now) half pair.now new.now (L.seat links.now p.old) }
+    requires ready { IsHalfReady (L.numbers links.now) half pair.now new.now (L.seat links.now p.old) }
     requires place { HoldsPlace (L.numbers links.now) (L.seat links.now p.old).slots place.now }
     requires slot { IsFree (L.seat links.now p.old).slots 5 }
     requires leads { LeadsToPart (heap_of (L.numbers links.now) (L.seat links.now p.old)) (place_in (L.seat links.now p.old).slots place.now) }
@@ -199,7 +199,7 @@ fn aim_first<L: Links<Rule = Pairs>>(
     requires made { IsCellDomain (L.numbers links.now) (L.agents links.now) (L.opening links.now) }
     requires fresh { HoldsFresh (L.seat links.now p.old) pair.now }
     requires new { SideHeld (L.numbers links.now) (staging_root half (L.seat links.now p.old).agent) new.now (L.seat links.now p.old) }
-    requires ready { IsReady (L.numbers links.now) half pair.now new.now (L.seat links.now p.old) }
+    requires ready { IsHalfReady (L.numbers links.now) half pair.now new.now (L.seat links.now p.old) }
     requires staged { HasStaged new.now }
     ensures pass { L.belongs links.now p.new }
     ensures later { IsPrefix (L.journal p.old) (L.journal p.new) }
@@ -279,8 +279,8 @@ fn publish_first<L: Links<Rule = Pairs>>(
     requires fresh { HoldsFresh (L.seat links.now p.old) pair.now }
     requires left { SideHeld (L.numbers links.now) (staging_root Half.Left (L.seat links.now p.old).agent) left.now (L.seat links.now p.old) }
     requires right { SideHeld (L.numbers links.now) (staging_root Half.Right (L.seat links.now p.old).agent) right.now (L.seat links.now p.old) }
-    requires ready { IsReady (L.numbers links.now) Half.Left pair.now left.now (L.seat links.now p.old)
-        × IsReady (L.numbers links.now) Half.Right pair.now right.now (L.seat links.now p.old) }
+    requires ready { IsHalfReady (L.numbers links.now) Half.Left pair.now left.now (L.seat links.now p.old)
+        × IsHalfReady (L.numbers links.now) Half.Right pair.now right.now (L.seat links.now p.old) }
     requires staged { HasStaged left.now × HasStaged right.now }
     ensures pass { L.belongs links.now p.new }
     ensures later { IsPrefix (L.journal p.old) (L.journal p.new) }
@@ -319,8 +319,8 @@ fn publish_next<L: Links<Rule = Pairs>>(
     requires fresh { HoldsFresh (L.seat links.now p.old) pair.now }
     requires left { SideHeld (L.numbers links.now) (staging_root Half.Left (L.seat links.now p.old).agent) left.now (L.seat links.now p.old) }
     requires right { SideHeld (L.numbers links.now) (staging_root Half.Right (L.seat links.now p.old).agent) right.now (L.seat links.now p.old) }
-    requires ready { IsReady (L.numbers links.now) Half.Left pair.now left.now (L.seat links.now p.old)
-        × IsReady (L.numbers links.now) Half.Right pair.now right.now (L.seat links.now p.old) }
+    requires ready { IsHalfReady (L.numbers links.now) Half.Left pair.now left.now (L.seat links.now p.old)
+        × IsHalfReady (L.numbers links.now) Half.Right pair.now right.now (L.seat links.now p.old) }
     requires old { Holds (L.seat links.now p.old).slots old.now }
     requires slot { IsFree (L.seat links.now p.old).slots 5 }
     requires before { IsPairOf (heap_of (L.numbers links.now) (L.seat links.now p.old)) (id_in (L.seat links.now p.old).slots old.now) }
@@ -360,8 +360,8 @@ fn publish_turn<L: Links<Rule = Pairs>>(
     requires fresh { HoldsFresh (L.seat links.now p.old) pair.now }
     requires left { SideHeld (L.numbers links.now) (staging_root Half.Left (L.seat links.now p.old).agent) left.now (L.seat links.now p.old) }
     requires right { SideHeld (L.numbers links.now) (staging_root Half.Right (L.seat links.now p.old).agent) right.now (L.seat links.now p.old) }
-    requires ready { IsReady (L.numbers links.now) Half.Left pair.now left.now (L.seat links.now p.old)
-        × IsReady (L.numbers links.now) Half.Right pair.now right.now (L.seat links.now p.old) }
+    requires ready { IsHalfReady (L.numbers links.now) Half.Left pair.now left.now (L.seat links.now p.old)
+        × IsHalfReady (L.numbers links.now) Half.Right pair.now right.now (L.seat links.now p.old) }
     requires slots { IsFree (L.seat links.now p.old).slots 4 × IsFree (L.seat links.now p.old).slots 5 }
     ensures pass { L.belongs links.now p.new }
     ensures later { IsPrefix (L.journal p.old) (L.journal p.new) }
@@ -428,8 +428,8 @@ fn publish_turns<L: Links<Rule = Pairs>>(
     requires fresh { HoldsFresh (L.seat links.now p.old) pair.now }
     requires left { SideHeld (L.numbers links.now) (staging_root Half.Left (L.seat links.now p.old).agent) left.now (L.seat links.now p.old) }
     requires right { SideHeld (L.numbers links.now) (staging_root Half.Right (L.seat links.now p.old).agent) right.now (L.seat links.now p.old) }
-    requires ready { IsReady (L.numbers links.now) Half.Left pair.now left.now (L.seat links.now p.old)
-        × IsReady (L.numbers links.now) Half.Right pair.now right.now (L.seat links.now p.old) }
+    requires ready { IsHalfReady (L.numbers links.now) Half.Left pair.now left.now (L.seat links.now p.old)
+        × IsHalfReady (L.numbers links.now) Half.Right pair.now right.now (L.seat links.now p.old) }
     requires slots { IsFree (L.seat links.now p.old).slots 4 × IsFree (L.seat links.now p.old).slots 5 }
     ensures pass { L.belongs links.now p.new }
     ensures later { IsPrefix (L.journal p.old) (L.journal p.new) }

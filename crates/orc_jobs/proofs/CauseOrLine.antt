@@ -1,7 +1,7 @@
 -- No record has neither a cause nor a line.
 use Rattle.std.proofs.Common.{◌≡◌, ◌≢◌, ◌<◌, ◌^◌, ◌∙◌, sym, Bool, true, false, ◌⊎◌, All, IsUtf8, List, [], ◌∷◌, ℕ, zero, suc, arith, codes, inl, inr, length, refl}
 use Rattle.std.specs.Fmt.{decimal}
-use Rattle.orc_jobs.specs.JobGrammar.{Applies, HasCause, IsLine, Takes, field, rank_of, record_of, word_of}
+use Rattle.orc_jobs.specs.JobGrammar.{Applies, HasCause, IsLine, TakesText, field, rank_of, record_of, word_of}
 use Rattle.orc_jobs.specs.Line.{job_line}
 use Rattle.orc_jobs.specs.declared.cause.Cause.{Cause}
 use Rattle.orc_jobs.specs.declared.cause.Cause.TheVariants as cause
@@ -48,7 +48,7 @@ no-drop fields none drop = whether (length fields ≡ 2) (λ o. elim o [
 ])
 
 -- the text of a job fits its operation
-takes : (fields : List (List ℕ)) (op : Job) → Neither fields → field fields 0 ≢ codes "drop" → field fields 2 ≡ word_of op → ¬ ¬ Takes op (field fields 3)
+takes : (fields : List (List ℕ)) (op : Job) → Neither fields → field fields 0 ≢ codes "drop" → field fields 2 ≡ word_of op → ¬ ¬ TakesText op (field fields 3)
 takes fields job.Bytes none job word k = k tt
 takes fields job.Words none job word k = k tt
 takes fields job.Sum none job word k = none.causes cause.Sum (job, word, k)
@@ -56,7 +56,7 @@ takes fields job.Sum none job word k = none.causes cause.Sum (job, word, k)
 -- no line that posts a job has this first field
 no-job : (fields : List (List ℕ)) (verb : List ℕ) (rush : Bool) → Neither fields → All IsUtf8 fields → field fields 0 ≢ codes "drop"
     → ((id : ℕ) (op : Job) (text : List ℕ) → record_of (job_line rush id op text) ≡ verb ∷ decimal id ∷ word_of op ∷ text ∷ [])
-    → ((id : ℕ) (op : Job) (text : List ℕ) → (id < 2 ^ 32) × IsUtf8 text × Takes op text → IsLine (job_line rush id op text))
+    → ((id : ℕ) (op : Job) (text : List ℕ) → (id < 2 ^ 32) × IsUtf8 text × TakesText op text → IsLine (job_line rush id op text))
     → field fields 0 ≢ verb
 no-job fields verb rush none text no_drop spelled is_line is = whether (length fields ≡ 4) (λ o. elim o [
   | inl four ↦

@@ -9,7 +9,7 @@ use Rattle.std.proofs.lemmas.List.Sums.{sum_by-cons}
 use Rattle.std.proofs.lemmas.Str.{IsUtf8-append, IsUtf8-from_ascii, IsUtf8-nil}
 use Rattle.orc_jobs.specs.Generated.{behind, behind_line, drawn, draws, generated, line_from, lines_from, op_of, text_of}
 use Rattle.orc_jobs.specs.GoodLines.{AreGood}
-use Rattle.orc_jobs.specs.JobGrammar.{IsLine, Takes}
+use Rattle.orc_jobs.specs.JobGrammar.{IsLine, TakesText}
 use Rattle.orc_jobs.specs.Line.{text_size}
 use Rattle.orc_jobs.specs.declared.line.Job.{Job}
 use Rattle.orc_jobs.specs.declared.line.Job.TheVariants as job
@@ -145,7 +145,7 @@ small-below : (ns : List ℕ) → All IsSmall ns → All IsBelow32 ns
 small-below [] h = All-nil IsBelow32
 small-below (n ∷ ns) h = let one = All-head IsSmall n ns h in All-cons IsBelow32 n ns (omega (arith, one)) (small-below ns (All-tail IsSmall n ns h))
 
-text-taken : (op : Job) (n x : ℕ) → Takes op (text_of op n x)
+text-taken : (op : Job) (n x : ℕ) → TakesText op (text_of op n x)
 text-taken job.Bytes n x = tt
 text-taken job.Words n x = tt
 text-taken job.Sum n x = (map (λ draw. draw % 1000) (draws n x), record { small = small-below _ (small-numbers (draws n x)); spelling = refl })

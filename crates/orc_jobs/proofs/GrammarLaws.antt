@@ -4,7 +4,7 @@ use Rattle.std.proofs.lemmas.List.{length-map}
 use Rattle.std.proofs.lemmas.List.Elements.{All-cons, All-head, All-nil, All-tail}
 use Rattle.std.specs.Fmt.{decimal}
 use Rattle.std.proofs.lemmas.Fmt.{IsAscii-decimal, decimal_injective}
-use Rattle.orc_jobs.specs.JobGrammar.{Applies, HasCause, IsFileOf, IsLine, Refuses, Takes, rank_of, record_of, word_of}
+use Rattle.orc_jobs.specs.JobGrammar.{Applies, HasCause, IsFileOf, IsLine, Refuses, TakesText, rank_of, record_of, word_of}
 use Rattle.std.proofs.lemmas.Str.{IsUtf8-from_ascii}
 use Rattle.orc_jobs.specs.Line.{job_line}
 use Rattle.orc_jobs.specs.Numbers.{IsNumberList}
@@ -51,7 +51,7 @@ job_record verb id op text = verb ∷ decimal id ∷ word_of op ∷ text ∷ []
 
 -- the id, operation and text that a record of a job may have
 abbrev IsJob : ℕ → Job → List ℕ → Type 0
-IsJob id op text = (id < 2 ^ 32) × IsUtf8 text × Takes op text
+IsJob id op text = (id < 2 ^ 32) × IsUtf8 text × TakesText op text
 
 IsUtf8-job : (verb : List ℕ) (id : ℕ) (op : Job) (text : List ℕ) → IsUtf8 verb → IsJob id op text → All IsUtf8 (job_record verb id op text)
 unfolding job_record

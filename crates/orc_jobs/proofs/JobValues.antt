@@ -3,13 +3,13 @@ use Rattle.std.proofs.Common.{◌≡◌, ◌∙◌, ◌+◌, ◌-◌, ◌++◌, 
 use Rattle.std.specs.List.{range_with_len}
 use Rattle.std.proofs.lemmas.List.Sums.{sum_by_push}
 use Rattle.orc_jobs.proofs.NumberLists.{SpellsNumbers-unique}
-use Rattle.orc_jobs.specs.JobValue.{Gives, IsJobValue, starts_word}
+use Rattle.orc_jobs.specs.JobValue.{MakesOf, IsJobValue, starts_word}
 use Rattle.orc_jobs.specs.declared.line.Job.{Job}
 use Rattle.orc_jobs.specs.declared.line.Job.TheVariants as job
 use Rattle.orc_jobs.specs.declared.line.Line.{Line}
 use Rattle.orc_jobs.specs.declared.line.Line.TheVariants as line
 
-Gives-unique : (op : Job) (text : List ℕ) (a b : ℕ) → Gives op text a → Gives op text b → a ≡ b
+Gives-unique : (op : Job) (text : List ℕ) (a b : ℕ) → MakesOf op text a → MakesOf op text b → a ≡ b
 Gives-unique job.Bytes text a b h k = h ∙ sym k
 Gives-unique job.Words text a b h k = h ∙ sym k
 Gives-unique job.Sum text a b h k = h.2 ∙ ap sum (SpellsNumbers-unique h.0 k.0 text h.1 k.1) ∙ sym k.2

@@ -30,15 +30,15 @@ record_of (line.Rush id op text) = codes "rush" ∷ decimal id ∷ word_of op �
 record_of (line.Drop id) = codes "drop" ∷ decimal id ∷ []
 
 -- an operation takes this text: `sum` takes spelled numbers, and the others any text
-abbrev pub Takes : Job → List ℕ → Type 0
-Takes job.Bytes text = ⊤
-Takes job.Words text = ⊤
-Takes job.Sum text = IsNumberList text
+abbrev pub TakesText : Job → List ℕ → Type 0
+TakesText job.Bytes text = ⊤
+TakesText job.Words text = ⊤
+TakesText job.Sum text = IsNumberList text
 
 -- a line that a record with nothing amiss can stand for
 abbrev pub IsLine : Line → Type 0
-IsLine (line.Post id op text) = (id < 2 ^ 32) × IsUtf8 text × Takes op text
-IsLine (line.Rush id op text) = (id < 2 ^ 32) × IsUtf8 text × Takes op text
+IsLine (line.Post id op text) = (id < 2 ^ 32) × IsUtf8 text × TakesText op text
+IsLine (line.Rush id op text) = (id < 2 ^ 32) × IsUtf8 text × TakesText op text
 IsLine (line.Drop id) = id < 2 ^ 32
 
 -- the bytes are the file of these lines

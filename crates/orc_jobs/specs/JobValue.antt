@@ -16,13 +16,13 @@ abbrev pub word_count : List ℕ → ℕ
 word_count text = count_by (starts_word text) (range_with_len 0 (length text))
 
 -- what an operation makes of a text
-abbrev pub Gives : Job → List ℕ → ℕ → Type 0
-Gives job.Bytes text value = value ≡ length text
-Gives job.Words text value = value ≡ word_count text
-Gives job.Sum text value = (numbers : List ℕ) × SpellsNumbers numbers text × (value ≡ sum numbers)
+abbrev pub MakesOf : Job → List ℕ → ℕ → Type 0
+MakesOf job.Bytes text value = value ≡ length text
+MakesOf job.Words text value = value ≡ word_count text
+MakesOf job.Sum text value = (numbers : List ℕ) × SpellsNumbers numbers text × (value ≡ sum numbers)
 
 -- the value of a line: what its operation makes of its text, and nothing for a drop
 abbrev pub IsJobValue : Line → ℕ → Type 0
-IsJobValue (line.Post id op text) value = Gives op text value
-IsJobValue (line.Rush id op text) value = Gives op text value
+IsJobValue (line.Post id op text) value = MakesOf op text value
+IsJobValue (line.Rush id op text) value = MakesOf op text value
 IsJobValue (line.Drop id) value = value ≡ 0

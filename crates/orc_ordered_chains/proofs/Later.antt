@@ -12,7 +12,7 @@ use Rattle.orc_heap.specs.declared.events.Event.{Event}
 use Rattle.orc_heap.specs.declared.events.Link.{Link}
 use Rattle.orc_heap.specs.declared.events.Place.{Place}
 use Rattle.orc_heap.specs.declared.events.Place.TheVariants.{Next, Root, Side}
-use Rattle.orc_ordered_chains.specs.Chains.{AreChains, FollowsOn, HasRank, IsAbove, IsBelow, IsChainPlace, IsOnChain, IsPlaceOnChain, IsRun, LeadsTo, Order}
+use Rattle.orc_ordered_chains.specs.Chains.{AreChains, FollowsOn, HasRank, IsAbove, IsPlaceBelow, IsChainPlace, IsOnChain, IsPlaceOnChain, IsRun, LeadsTo, Order}
 use Rattle.orc_ordered_chains.proofs.Acts.{rank_linked, rank_stays, values_after}
 use Rattle.orc_ordered_chains.proofs.Paths.{run_follows}
 
@@ -46,7 +46,7 @@ module _ (o : Order) where
   -- a place that shows an unmarked link is on its root's chain
   pub follows_on_chain : (h : Heap) → AreChains o h → (place : Place) (from : Link) (rank : ℕ) → FollowsOn o h place rank
       → shown h place ≡ Some from → from.mark ≡ false
-      → IsPlaceOnChain h (o.root rank) place × IsBelow o h place rank
+      → IsPlaceOnChain h (o.root rank) place × IsPlaceBelow o h place rank
   follows_on_chain h c (Root r) from rank f at plain = (sym f, tt)
   follows_on_chain h c (Side id) from rank f at plain = absurd f
   follows_on_chain h c (Next id) from rank (low, own, less, same) at plain =

@@ -6,7 +6,7 @@ use Rattle.orc_heap.specs.declared.events.Link.{Link}
 use Rattle.orc_heap.specs.declared.events.Place.{Place}
 use Rattle.orc_heap.specs.declared.events.Place.TheVariants.{Next, Root, Side}
 use Rattle.orc_heap.proofs.SingleActs.{some_same}
-use Rattle.orc_ordered_chains.specs.Chains.{AreChains, FollowsOn, HasRank, IsAbove, IsBelow, IsChainPlace, IsLive, IsOnChain, IsPath, IsPlaceOnChain, IsRun, LeadsTo, MayLink, Order}
+use Rattle.orc_ordered_chains.specs.Chains.{AreChains, FollowsOn, HasRank, IsAbove, IsPlaceBelow, IsChainPlace, IsLive, IsOnChain, IsPath, IsPlaceOnChain, IsRun, LeadsTo, MayLink, Order}
 use Rattle.orc_ordered_chains.proofs.Acts.{IsLinkedIn, IsMoved, place_either, rank_before, rank_linked, rank_one, rank_stays}
 use Rattle.orc_ordered_chains.proofs.Paths.{absent, chain_root, detour, leads_same, moved_target, path_join, place_on_chain, run_follows}
 use Rattle.orc_ordered_chains.proofs.Still.{follows_stays}
@@ -44,7 +44,7 @@ module _ (o : Order) (h k : Heap) (p : Place) (from to : Link) (rank : ℕ) (c :
     follows : FollowsOn o h p rank
     follows = cases p a.on_chain a.below
       where
-        cases : (q : Place) → IsPlaceOnChain h (o.root rank) q → IsBelow o h q rank → FollowsOn o h q rank
+        cases : (q : Place) → IsPlaceOnChain h (o.root rank) q → IsPlaceBelow o h q rank → FollowsOn o h q rank
         cases (Root r) on under = sym on
         cases (Side d) on under = absurd on
         cases (Next d) on (low, own, less) = (low, own, less, sym (chain_root o h c (o.root rank) d low (o.begun rank) on own))

@@ -4,7 +4,7 @@ use Rattle.orc_heap.specs.Heap.{Heap, link_to, shown}
 use Rattle.orc_heap.specs.declared.events.Link.{Link}
 use Rattle.orc_heap.specs.declared.events.Place.{Place}
 use Rattle.orc_heap.specs.declared.events.Place.TheVariants.{Next, Root, Side}
-use Rattle.orc_ordered_chains.specs.Chains.{AreChains, FollowsOn, HasRank, IsAbove, IsBelow, IsChainPlace, IsLive, IsOnChain, IsPath, IsPlaceOnChain, IsRun, LeadsTo, Order}
+use Rattle.orc_ordered_chains.specs.Chains.{AreChains, FollowsOn, HasRank, IsAbove, IsPlaceBelow, IsChainPlace, IsLive, IsOnChain, IsPath, IsPlaceOnChain, IsRun, LeadsTo, Order}
 use Rattle.orc_heap.proofs.SingleActs.{shown_link, some_same}
 use Rattle.orc_ordered_chains.proofs.Acts.{IsMoved, place_either, rank_one}
 
@@ -213,7 +213,7 @@ module _ (o : Order) where
 
   -- no live node has the rank where a place below it on its chain leads, over a run, to what is above it
   pub absent : (h : Heap) → AreChains o h → (p : Place) (from : Link) (run : List ℕ) (to : Option ℕ) (rank : ℕ)
-      → IsPlaceOnChain h (o.root rank) p → IsBelow o h p rank → shown h p ≡ Some from → IsRun h from run to → IsAbove o h to rank
+      → IsPlaceOnChain h (o.root rank) p → IsPlaceBelow o h p rank → shown h p ≡ Some from → IsRun h from run to → IsAbove o h to rank
       → (id : ℕ) → IsLive o h id rank → ⊥
   absent h c p from run to rank on under at r above id y =
       let (ids, path) = reach p on under in
@@ -229,7 +229,7 @@ module _ (o : Order) where
       on_chain : IsOnChain h (o.root rank) id
       on_chain = live_on h c id rank y
 
-      reach : (p : Place) → IsPlaceOnChain h (o.root rank) p → IsBelow o h p rank → (ids : List ℕ) × IsPath h p ids (Some id)
+      reach : (p : Place) → IsPlaceOnChain h (o.root rank) p → IsPlaceBelow o h p rank → (ids : List ℕ) × IsPath h p ids (Some id)
       reach (Root r) on under = (on_chain.over, subst (λ (z : ℕ). IsPath h (Root z) on_chain.over (Some id)) (sym on) on_chain.path)
       reach (Side d) on under = absurd on
       reach (Next d) on (low, own, less) =

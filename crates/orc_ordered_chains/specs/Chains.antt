@@ -77,10 +77,10 @@ module _ (o : Order) where
   IsChainPlace h (Side id) = ⊥
 
   -- the place is a root, or the link of a node with a lower rank
-  abbrev pub IsBelow : Heap → Place → ℕ → Type 0
-  IsBelow h (Root r) rank = Unit {0}
-  IsBelow h (Next id) rank = (low : ℕ) × HasRank o h id low × (low < rank)
-  IsBelow h (Side id) rank = ⊥
+  abbrev pub IsPlaceBelow : Heap → Place → ℕ → Type 0
+  IsPlaceBelow h (Root r) rank = Unit {0}
+  IsPlaceBelow h (Next id) rank = (low : ℕ) × HasRank o h id low × (low < rank)
+  IsPlaceBelow h (Side id) rank = ⊥
 
   -- this rank may follow the place: it is of that root, or greater than the node's and of the same root
   abbrev pub FollowsOn : Heap → Place → ℕ → Type 0
@@ -100,7 +100,7 @@ module _ (o : Order) where
   -- own link leads above the rank, to what the place showed or what a run of marked nodes from there leads to; its second link is null
   pub record MayLink (h : Heap) (place : Place) (from to : Link) (rank : ℕ) : Type 0 where
     pub on_chain : IsPlaceOnChain h (o.root rank) place
-    pub below : IsBelow h place rank
+    pub below : IsPlaceBelow h place rank
     pub plain : from.mark ≡ false
     pub id : ℕ
     pub to_is : to ≡ link_to id

@@ -19,7 +19,7 @@ use Rattle.orc_heap.specs.declared.events.Link.{Link}
 use Rattle.orc_heap.specs.declared.events.Place.{Place}
 use Rattle.orc_heap.specs.declared.events.Place.TheVariants.{Next, Root, Side}
 use Rattle.orc_ordered_chains.specs.Chains.{FollowsOn, HasRank, IsAbove, IsChainPlace, IsRun}
-use Rattle.orc_ordered_search.specs.Ways.{AllGoOn, AreLoads, GoesOn, RanksFall}
+use Rattle.orc_ordered_search.specs.Ways.{AllGoOn, AreLoads, GoesOnFrom, RanksFall}
 use Rattle.orc_ordered_chains.proofs.Acts.{KeepsValues, rank_linked, values_after}
 use Rattle.orc_ordered_chains.proofs.Later.{above_later, follows_later, linked_later, marked_later, rank_later, run_later}
 use Rattle.orc_ordered_search.specs.Reading.{Ordering}
@@ -114,7 +114,7 @@ module _ {N : Type 0} (x : Ordering N) (t u : Seat N) (ys : List (Event N)) (q :
   goes_puts wanted [] on = tt
   goes_puts wanted (id ∷ ids) (one, rest) = (goes one, goes_puts wanted ids rest)
     where
-      goes : GoesOn x.reading.order (heap_of x.reading.numbers t) wanted id → GoesOn x.reading.order (heap_of x.reading.numbers u) wanted id
+      goes : GoesOnFrom x.reading.order (heap_of x.reading.numbers t) wanted id → GoesOnFrom x.reading.order (heap_of x.reading.numbers u) wanted id
       goes (inl (link, own, mark)) = inl (link, marked_puts id link own mark, mark)
       goes (inr (rank, own, less)) = inr (rank, key_puts id rank own, less)
 

@@ -11,7 +11,7 @@ use Rattle.orc_heap.specs.declared.events.Link.{Link}
 use Rattle.orc_heap.specs.declared.events.Place.{Place}
 use Rattle.orc_heap.specs.declared.events.Place.TheVariants.{Next}
 use Rattle.orc_ordered_chains.specs.Chains.{AreChains, HasRank, IsPath, LeadsTo, Order}
-use Rattle.orc_ordered_search.specs.Ways.{AllGoOn, AreLoads, GoesOn, IsAmong, IsLoad, IsPast, IsWay, Sees, SeesTo, Stops}
+use Rattle.orc_ordered_search.specs.Ways.{AllGoOn, AreLoads, GoesOnFrom, IsAmong, IsLoad, IsPast, IsWay, Sees, SeesTo, Stops}
 use Rattle.orc_ordered_chains.proofs.Acts.{rank_one}
 use Rattle.orc_ordered_chains.proofs.Paths.{below, leads_one, not_marked}
 
@@ -69,7 +69,7 @@ module _ {N : Type 0} (h : Heap) (es : List (Event N)) (shows : (place : Place) 
   way_path start (i ∷ is) to way = way_onto start is i [] to way.1 (leads (Next i) to way.0)
 
 module _ (o : Order) (h : Heap) (wanted : ℕ) where
-  stops_not_on : (id : ℕ) → Stops o h wanted id → GoesOn o h wanted id → ⊥
+  stops_not_on : (id : ℕ) → Stops o h wanted id → GoesOnFrom o h wanted id → ⊥
   stops_not_on id s (inl (link, own, mark)) = not_marked h id s.link link s.at s.unmarked (shown_link h id link own) mark
   stops_not_on id s (inr (rank, own, low)) = omega (arith, s.high, low, rank_one o h id rank s.rank own s.has_rank)
 
@@ -80,7 +80,7 @@ module _ (o : Order) (h : Heap) (wanted : ℕ) where
   few_before p [] zs to y on path to_y stops = omega arith
   few_before p (a ∷ vs) [] to y on path to_y stops =
       let same : a ≡ y = some_same (leads_one h p (Some a) (Some y) path.0 to_y) in
-      absurd (stops_not_on y stops (subst (λ (z : ℕ). GoesOn o h wanted z) same on.0))
+      absurd (stops_not_on y stops (subst (λ (z : ℕ). GoesOnFrom o h wanted z) same on.0))
   few_before p (a ∷ vs) (b ∷ zs) to y on path to_y stops =
       let same : a ≡ b = some_same (leads_one h p (Some a) (Some b) path.0 to_y.0) in
       let k = few_before (Next b) vs zs to y on.1 (subst (λ (z : ℕ). IsPath h (Next z) vs to) same path.1) to_y.1 stops in

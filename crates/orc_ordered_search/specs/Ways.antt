@@ -56,12 +56,12 @@ IsWay es start (id ∷ ids) to = SeesTo es (Next id) to × IsWay es start ids (S
 
 module _ (o : Order) where
   -- a search for a rank goes on from such a node: its link is marked, or it has a lower rank
-  abbrev pub GoesOn : Heap → ℕ → ℕ → Type 0
-  GoesOn h wanted id = ((link : Link) × HasLink h id link × (link.mark ≡ true)) ⊎ ((rank : ℕ) × HasRank o h id rank × (rank < wanted))
+  abbrev pub GoesOnFrom : Heap → ℕ → ℕ → Type 0
+  GoesOnFrom h wanted id = ((link : Link) × HasLink h id link × (link.mark ≡ true)) ⊎ ((rank : ℕ) × HasRank o h id rank × (rank < wanted))
 
   abbrev pub AllGoOn : Heap → ℕ → List ℕ → Type 0
   AllGoOn h wanted [] = Unit {0}
-  AllGoOn h wanted (id ∷ ids) = GoesOn h wanted id × AllGoOn h wanted ids
+  AllGoOn h wanted (id ∷ ids) = GoesOnFrom h wanted id × AllGoOn h wanted ids
 
   -- the ranks of these nodes fall, that of the first from below the target
   abbrev pub RanksFall : Heap → Option ℕ → List ℕ → Type 0

@@ -21,7 +21,7 @@ use Rattle.orc_heap.specs.declared.events.Place.{Place}
 use Rattle.orc_heap.proofs.Untouched.{names_other, target_from, untouched_after}
 use Rattle.orc_shared_words.specs.Steps.{Extends}
 use Rattle.orc_shared_words.specs.declared.journal.View.{View}
-use Rattle.orc_plain_board.specs.Calls.{Adds, Fails, Finds, KnowsPlace, KnowsTarget, Misses, Replaces, look_event, move_event, unless_linked}
+use Rattle.orc_plain_board.specs.Calls.{Adds, MissesWanted, FindsLink, KnowsPlace, KnowsTarget, Misses, Replaces, look_event, move_event, unless_linked}
 use Rattle.orc_plain_board.specs.Machine.{State, finds, id_by, index_of, link_at, link_by, numbers, place_by, project, project_from, run, run_from, taken, tested}
 use Rattle.orc_plain_board.specs.Rules.{plain_rules}
 use Rattle.orc_plain_board.specs.Views.{FreshHeld, Keeps, PlainView, heap_of, view_of}
@@ -109,7 +109,7 @@ module _ {D N : Type 0} (d : discipline.Ghosts D N) (q : PlainShape N) (v w : Vi
       subst (λ z. IsTarget a z l.to) (sym (heap_later k may v w a op said n wk) ∙ sym (heap_then d q v w a c fresh looked fresh2 looked2 h e))
       (target_from a (at wk).heap (own k may v w a op said n wk) l.to (is_named a (at wk).heap l.to (wk.mid.tie.targets place l is)))
 
-  load_finds : (place : Word) (said : Option N) (n : ℕ) → KnowsPlace k s place → Made (LinkLoad place None) said n → Finds may k (place_by g0 place) n s t
+  load_finds : (place : Word) (said : Option N) (n : ℕ) → KnowsPlace k s place → Made (LinkLoad place None) said n → FindsLink may k (place_by g0 place) n s t
   load_finds place said n knows x =
       let wk = walks (LinkLoad place None) said n x in
       let y : State = at wk in
@@ -197,7 +197,7 @@ module _ {D N : Type 0} (d : discipline.Ghosts D N) (q : PlainShape N) (v w : Vi
   any_keeps place (Some l) said n f x = want_keeps place l said n f x
 
   pub any_finds : (place : Word) (want : Option RowLink) (said : Option N) (n : ℕ) → KnowsPlace k s place → want ≡ None
-      → Made (LinkLoad place want) said n → Finds may k (place_by g0 place) n s t
+      → Made (LinkLoad place want) said n → FindsLink may k (place_by g0 place) n s t
   any_finds place None said n knows is x = load_finds place said n knows x
   any_finds place (Some l) said n knows is x = cc
 
@@ -224,7 +224,7 @@ module _ {D N : Type 0} (d : discipline.Ghosts D N) (q : PlainShape N) (v w : Vi
       (sym wk.answers ∙ is)) (added d q v w a c fresh looked fresh2 looked2 h e (LinkCas place from to) said n x)
 
   pub cas_fails : (place : Word) (from to : RowLink) (said : Option N) (n : ℕ) → KnowsPlace k s place → KnowsTarget k s from → n ≢ link_word from
-      → fresh2 ≡ fresh → Made (LinkCas place from to) said n → Fails may (place_by g0 place) (link_by g0 from) s t
+      → fresh2 ≡ fresh → Made (LinkCas place from to) said n → MissesWanted may (place_by g0 place) (link_by g0 from) s t
   cas_fails place from to said n knows known other f x =
       let wk = walks (LinkCas place from to) said n x in
       let y : State = at wk in

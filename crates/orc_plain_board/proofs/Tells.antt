@@ -17,7 +17,7 @@ use Rattle.orc_heap.proofs.Untouched.{untouched_after}
 use Rattle.orc_shared_words.specs.Steps.{Extends, LaterJournal}
 use Rattle.orc_shared_words.specs.declared.journal.View.{View}
 use Rattle.orc_heap.specs.Calls.{ReadsValue, value_of}
-use Rattle.orc_plain_board.specs.Calls.{Adds, Gives, IsGateWord, KnowsRow, Loses}
+use Rattle.orc_plain_board.specs.Calls.{Adds, GivesNewRow, IsGateWord, KnowsRow, Loses}
 use Rattle.orc_plain_board.specs.Machine.{State, events_of, finds, index_of, numbers, run, run_from, start, taken, value_word}
 use Rattle.orc_plain_board.specs.Rules.{plain_rules}
 use Rattle.orc_plain_board.specs.Views.{FreshHeld, Keeps, PlainView, heap_of, view_of}
@@ -146,7 +146,7 @@ module _ {D N : Type 0} (d : discipline.Ghosts D N) (q : PlainShape N) (v w : Vi
       let wk = walked (GateTake row) None n x in
       given_later k may v w a (GateTake row) None n wk ∙ ap (λ (b : Bool). (at_step wk).given ++ (if b then row ∷ [] else [])) (taken_is row n zero_gate x)
 
-  pub take_gives : (row n : ℕ) → n ≡ 0 → row < k.rows → fresh2 ≡ Some row → Made (GateTake row) None n → Gives may row s t
+  pub take_gives : (row n : ℕ) → n ≡ 0 → row < k.rows → fresh2 ≡ Some row → Made (GateTake row) None n → GivesNewRow may row s t
   take_gives row n zero_gate lt f x =
       let wk = walked (GateTake row) None n x in record {
         adds = subst (λ l. Adds may l s t) (ap (λ (b : Bool). if b then event_by {N = N} a act.Give None ∷ [] else []) (taken_is row n zero_gate x))

@@ -5,7 +5,7 @@ use Rattle.orc_heap.specs.Journals.{event_by}
 use Rattle.orc_heap.specs.declared.discipline.Discipline as discipline
 use Rattle.orc_heap.specs.declared.events.Act.TheVariants.{Fill}
 use Rattle.orc_shared_words.specs.declared.machine.Machine as machine
-use Rattle.orc_plain_board.specs.Calls.{Absorbs, Adds, Fails, Finds, Gives, KnowsPlace as ViewKnowsPlace, KnowsRow as ViewKnowsRow, KnowsTarget, LearnsEvents, Loses, MayWhereFits, MayWhereShown, Misses, Replaces, aim_event, look_event, move_event, unless_linked}
+use Rattle.orc_plain_board.specs.Calls.{Absorbs, Adds, MissesWanted, FindsLink, GivesNewRow, KnowsPlace as ViewKnowsPlace, KnowsRow as ViewKnowsRow, KnowsTarget, LearnsEvents, Loses, MayWhereFits, MayWhereShown, Misses, Replaces, aim_event, look_event, move_event, unless_linked}
 use Rattle.orc_plain_board.specs.Machine.{index_of, link_by, place_by}
 use Rattle.orc_plain_board.specs.Views.{board_bounds, board_numbers, heap_of, shows}
 use Rattle.orc_plain_board.specs.declared.machine.Plain.{Plain}
@@ -82,7 +82,7 @@ module _ {D N : Type 0} {d : discipline.Ghosts D N} {m : machine.Ghosts Plain N 
 
   -- the row is given: it was given to nobody before, and is fresh now
   abbrev pub GivesRow : PassOf D N d m → PassOf D N d m → ℕ → Type 0
-  GivesRow old new row = Gives (d.may (board_numbers board)) row (shows board old) (shows board new)
+  GivesRow old new row = GivesNewRow (d.may (board_numbers board)) row (shows board old) (shows board new)
 
   -- the row is out already
   abbrev pub LosesRow : PassOf D N d m → PassOf D N d m → ℕ → Type 0
@@ -91,7 +91,7 @@ module _ {D N : Type 0} {d : discipline.Ghosts D N} {m : machine.Ghosts Plain N 
   -- the place shows a link of this word
   abbrev pub FindsWord : PassOf D N d m → PassOf D N d m → Word → ℕ → Type 0
   FindsWord old new place word =
-      Finds (d.may (board_numbers board)) (board_bounds board) (place_by (shows board old).rows place) word (shows board old) (shows board new)
+      FindsLink (d.may (board_numbers board)) (board_bounds board) (place_by (shows board old).rows place) word (shows board old) (shows board new)
 
   -- the place shows another link than the wanted one, and its word is this
   abbrev pub MissesLink : PassOf D N d m → PassOf D N d m → Word → RowLink → ℕ → Type 0
@@ -102,7 +102,7 @@ module _ {D N : Type 0} {d : discipline.Ghosts D N} {m : machine.Ghosts Plain N 
   -- the place shows another link than the wanted one, and nothing is changed
   abbrev pub FailsToMove : PassOf D N d m → PassOf D N d m → Word → RowLink → Type 0
   FailsToMove old new place wanted =
-      Fails (d.may (board_numbers board)) (place_by (shows board old).rows place) (link_by (shows board old).rows wanted) (shows board old) (shows board new)
+      MissesWanted (d.may (board_numbers board)) (place_by (shows board old).rows place) (link_by (shows board old).rows wanted) (shows board old) (shows board new)
 
   -- the row's first or second link was of this word, and is aimed at the link's target
   abbrev pub ReplacesWord : PassOf D N d m → PassOf D N d m → ℕ → ℕ → ℕ → RowLink → Type 0

@@ -81,7 +81,7 @@ module _ {N : Type 0} where
       pub retired : (b : ℕ) → Among b s.absorbed → events_by b met ≡ []
 
     -- the row, which nobody was given before, is the pass's fresh row, and its node is the newest
-    pub record Gives (row : ℕ) (s t : PlainView N) : Type 0 where
+    pub record GivesNewRow (row : ℕ) (s t : PlainView N) : Type 0 where
       pub adds : Adds (event_by s.agent act.Give None ∷ []) s t
       pub before : List ℕ
       pub rows : t.rows ≡ before ++ row ∷ []
@@ -95,7 +95,7 @@ module _ {N : Type 0} where
       pub fresh : t.fresh ≡ s.fresh
 
     -- the pass finds this link, whose word is the number, and knows its target from then on
-    pub record Finds (b : Bounds) (place : Place) (n : ℕ) (s t : PlainView N) : Type 0 where
+    pub record FindsLink (b : Bounds) (place : Place) (n : ℕ) (s t : PlainView N) : Type 0 where
       pub link : Link
       pub word : IsWord t.rows link.to link.mark n
       pub known : IsTarget s.agent (heap_of b t) link.to
@@ -110,7 +110,7 @@ module _ {N : Type 0} where
       pub adds : Adds (event_by s.agent (act.Miss place wanted link) None ∷ []) s t
 
     -- the exchange finds another link than the wanted one
-    pub record Fails (place : Place) (wanted : Link) (s t : PlainView N) : Type 0 where
+    pub record MissesWanted (place : Place) (wanted : Link) (s t : PlainView N) : Type 0 where
       pub link : Link
       pub other : link ≢ wanted
       pub adds : Adds (event_by s.agent (act.Miss place wanted link) None ∷ []) s t

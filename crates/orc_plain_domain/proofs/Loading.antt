@@ -12,7 +12,7 @@ use Rattle.orc_heap.specs.declared.events.Link.{Link}
 use Rattle.orc_shared_words.specs.declared.machine.Machine as machine
 use Rattle.orc_plain_board.proofs.Known.{ties}
 use Rattle.orc_plain_board.proofs.Lists.{index_at}
-use Rattle.orc_plain_board.specs.Calls.{Adds, Finds}
+use Rattle.orc_plain_board.specs.Calls.{Adds, FindsLink}
 use Rattle.orc_plain_board.specs.Machine.{id_by, link_by, place_by}
 use Rattle.orc_heap.specs.Journals.{event_by}
 use Rattle.orc_plain_board.specs.Views.{Belongs, PlainView, heap_of, shows}
@@ -80,12 +80,12 @@ module _ {D N : Type 0} {d : discipline.Ghosts D N} {m : machine.Ghosts Plain N 
     abbrev t : PlainView N
     t = shows domain.board q
 
-    pub link_low : (place : Word) (word : ℕ) → Finds may b (place_by s.rows place) word s t → word ≤ 131071
+    pub link_low : (place : Word) (word : ℕ) → FindsLink may b (place_by s.rows place) word s t → word ≤ 131071
     link_low place word f =
         let tie = ties d domain.board.words.shape q.pass.seat.me.0 q.pass.agent q.fresh q.looked x.keeps in
         word_low t.rows b.rows tie.inside domain.board.words.shape.shape.few_rows f.link.to f.link.mark word f.word
 
-    pub loads : (place : Word) (word : ℕ) (link : RowLink) → link_word link ≡ word → Finds may b (place_by s.rows place) word s t → t.fresh ≡ s.fresh
+    pub loads : (place : Word) (word : ℕ) (link : RowLink) → link_word link ≡ word → FindsLink may b (place_by s.rows place) word s t → t.fresh ≡ s.fresh
         → Loads may b (place_by s.rows place) link s t
     loads place word link e f fresh =
         let tie = ties d domain.board.words.shape q.pass.seat.me.0 q.pass.agent q.fresh q.looked x.keeps in
@@ -95,6 +95,6 @@ module _ {D N : Type 0} {d : discipline.Ghosts D N} {m : machine.Ghosts Plain N 
           known = subst (λ (l : Link). IsTarget s.agent (heap_of b t) l.to) (sym is) f.known;
         }
 
-    pub still_loaded : (place : Word) (word : ℕ) → Finds may b (place_by s.rows place) word s t
+    pub still_loaded : (place : Word) (word : ℕ) → FindsLink may b (place_by s.rows place) word s t
         → IsPassOf domain (record { pass = q; slots = p.slots; next = p.next; shape = p.shape })
     still_loaded place word f = still_adds domain p h q x (event_by s.agent (Look (place_by s.rows place) f.link) None ∷ []) f.adds

@@ -15,7 +15,7 @@ use Rattle.orc_heap.specs.declared.events.Act.TheVariants.{Give}
 use Rattle.orc_heap.specs.declared.events.Event.{Event}
 use Rattle.orc_shared_words.specs.declared.machine.Machine as machine
 use Rattle.orc_plain_board.proofs.Lists.{get_last, index_at}
-use Rattle.orc_plain_board.specs.Calls.{Adds, Gives as BoardGives, Loses as BoardLoses}
+use Rattle.orc_plain_board.specs.Calls.{Adds, GivesNewRow as BoardGives, Loses as BoardLoses}
 use Rattle.orc_plain_board.specs.Machine.{index_of, numbers}
 use Rattle.orc_plain_board.specs.Views.{Belongs, PlainView, heap_of, shows}
 use Rattle.orc_plain_board.specs.Words.{IsOut}

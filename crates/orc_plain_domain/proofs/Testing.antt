@@ -21,7 +21,7 @@ use Rattle.orc_heap.specs.declared.holds.At.{At}
 use Rattle.orc_heap.specs.declared.holds.Want.{Want}
 use Rattle.orc_shared_words.specs.declared.machine.Machine as machine
 use Rattle.orc_plain_board.proofs.Ties.{Given}
-use Rattle.orc_plain_board.specs.Calls.{Adds, Fails, KnowsPlace, KnowsTarget, MayWhereShown, Misses, look_event, move_event, unless_linked}
+use Rattle.orc_plain_board.specs.Calls.{Adds, MissesWanted, KnowsPlace, KnowsTarget, MayWhereShown, Misses, look_event, move_event, unless_linked}
 use Rattle.orc_plain_board.specs.Machine.{id_by, index_of, link_by, place_by}
 use Rattle.orc_heap.specs.Journals.{event_by}
 use Rattle.orc_plain_board.specs.Views.{Belongs, PlainView, shows}
@@ -159,7 +159,7 @@ module _ {D N : Type 0} {d : discipline.Ghosts D N} {m : machine.Ghosts Plain N 
           (event_by s.agent (Move z.0 z.1 z.2) said)) (λ i. (sym place_met i, sym link_met i, sym target_met i)) a
 
       module _ (said : Option N) (moved : ℕ) (answer : moved ≤ 1) (hit : moved ≡ 1 → Adds may (move_event s place link target said ∷ []) s t)
-          (linked : moved ≡ 1 → t.fresh ≡ unless_linked s.fresh target.to) (miss : moved ≡ 0 → Fails may (place_by s.rows place) (link_by s.rows link) s t)
+          (linked : moved ≡ 1 → t.fresh ≡ unless_linked s.fresh target.to) (miss : moved ≡ 0 → MissesWanted may (place_by s.rows place) (link_by s.rows link) s t)
         where
           not_moved : (moved == 1) ≡ false → moved ≡ 0
           not_moved e = let ne = eqb-false moved 1 e in omega (arith, answer, ne)

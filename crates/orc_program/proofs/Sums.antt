@@ -9,7 +9,7 @@ use Rattle.orc_jobs.specs.declared.line.Line.{Line}
 use Rattle.orc_options.specs.declared.settings.Settings.{Settings}
 use Rattle.orc_report.proofs.AllDone.{all_done, none_void}
 use Rattle.orc_report.proofs.NumberedLines.{generated-numbered, one-list}
-use Rattle.orc_report.specs.AllDone.{AreJobsOf, AreNumbered, NoneRefused, NoneVoid}
+use Rattle.orc_report.specs.AllDone.{AreJobsOf, PostTheirNumbers, NoneRefused, NoneVoid}
 use Rattle.orc_report.specs.Summary.{done_jobs, summary_of}
 use Rattle.orc_run.specs.Containers.{queue_over, set_over, split_over}
 use Rattle.orc_run.specs.Runs.{Follow, FollowWith, queue_bounds, set_bounds}
@@ -32,7 +32,7 @@ over_set : {B : Type 0} (settings : Settings) (f : Finished) (set : View B SetEn
     → 1 ≤ settings.posters → Follow (generated_lines settings) settings.posters settings.takers settings.rows f.replies f.queue f.rush set journal → HaveEnded settings f
 over_set settings f set journal empty some ran =
     let lines = generated_lines settings in
-    let num : AreNumbered lines = generated-numbered settings.seed settings.lines in
+    let num : PostTheirNumbers lines = generated-numbered settings.seed settings.lines in
     let queues = λ (rush : Bool). queue_over 0 (queue_bounds settings.posters settings.takers settings.rows) in
     record {
       done = all_done queues set lines settings.posters settings.takers

@@ -25,7 +25,7 @@ use Rattle.orc_fifo_rule.specs.QueueDiscipline.{FifoHolds, FifoMay, has_begun}
 use Rattle.orc_fifo_rule.specs.Laws.Events.{begun_more}
 use Rattle.orc_fifo_rule.specs.Laws.Nodes.{link_next, node_next}
 use Rattle.orc_fifo_rule.specs.Laws.Paths.{back_one, tail_steps}
-use Rattle.orc_queue.specs.Turns.{EndsHelping, IsOver, KeepsTail, Piece, TailIsLast, TailIsPast}
+use Rattle.orc_queue.specs.Turns.{EndsHelping, IsTurnOver, KeepsTail, Piece, TailIsLast, TailIsPast}
 use Rattle.orc_queue.proofs.Filled.{Known}
 use Rattle.orc_queue.proofs.Joins.{Join}
 use Rattle.orc_heap.proofs.SingleActs.{link_same, null_to, root_moved, root_other, shown_link, some_same}
@@ -44,7 +44,7 @@ alone_runs n P s t own p k all told alone =
 
 -- a turn without a Move of the pass's own
 pub over_quiet : (n : HeapNumbers) (IsSettled : Heap → Type 0) (s t : Seat FifoNote) (p : Piece 6 s [] t) → t.fresh ≡ s.fresh → moves_in p.own ≡ 0
-    → 1 ≤ moves_in (from_own s.agent p.puts.part) → IsOver n IsSettled s t
+    → 1 ≤ moves_in (from_own s.agent p.puts.part) → IsTurnOver n IsSettled s t
 over_quiet n IsSettled s t p fresh none some = record {
   piece = p;
   fresh = fresh;
@@ -73,7 +73,7 @@ module _ (n : HeapNumbers) (IsSettled : Heap → Type 0) (root id : ℕ) (one : 
     all_own : events_by s.agent j.piece.puts.part ≡ event_of s (Look (Root root) one) None ∷ event_of s (Look (Root root) (link_to id)) None ∷ own
     all_own = j.piece.puts.own_is ∙ j.own_is
 
-    pub over_missed : moves_in own ≡ 0 → IsOver n IsSettled s t
+    pub over_missed : moves_in own ≡ 0 → IsTurnOver n IsSettled s t
     over_missed none = over_quiet n IsSettled s t j.piece fresh (ap (λ (z : List (Event FifoNote)). moves_in z) j.own_is ∙ omega (arith, none)) moved_since
 
     pub over_helped : ((es : List (Event FifoNote)) → FifoHolds n es → has_begun es ≡ true
@@ -82,7 +82,7 @@ module _ (n : HeapNumbers) (IsSettled : Heap → Type 0) (root id : ℕ) (one : 
         → ((es : List (Event FifoNote))
         → AllAllowed (FifoMay n) es (event_of s (Look (Root root) one) None ∷ event_of s (Look (Root root) (link_to id)) None ∷ own)
         → IsSettled (run_heap n es) → ⊥)
-        → IsOver n IsSettled s t
+        → IsTurnOver n IsSettled s t
     over_helped settles unsettled =
         let part = j.piece.puts.part in
         let new = part_allowed (FifoMay n) s t _ j.piece.puts all_t in

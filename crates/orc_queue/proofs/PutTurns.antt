@@ -24,7 +24,7 @@ use Rattle.orc_fifo_rule.specs.QueueDiscipline.{FifoHolds, FifoMay, entries_of, 
 use Rattle.orc_fifo_rule.specs.Laws.Events.{begun_more}
 use Rattle.orc_queue.specs.declared.put.PutTurn.{PutTurn}
 use Rattle.orc_queue.specs.declared.put.PutTurn.TheVariants.{Full, Over as PutOver, Put as PutDone}
-use Rattle.orc_queue.specs.Turns.{AreOver, EndsHelping, FindsFull, HoldsNode, IsOver, Piece, PutMissed, PutTires, PutsBehind, PutsTurn, PutsTurns, TailIsLast, back_moves_in}
+use Rattle.orc_queue.specs.Turns.{AreOver, EndsHelping, FindsFull, HoldsNode, IsTurnOver, Piece, PutMissed, PutTires, PutsBehind, PutsTurn, PutsTurns, TailIsLast, back_moves_in}
 use Rattle.orc_queue.proofs.Alone.{over_helped, over_missed, over_quiet, swing_settles}
 use Rattle.orc_queue.proofs.Backs.{backs_left, backs_since_both, backs_then, look_or_back, looks_back}
 use Rattle.orc_queue.proofs.Behind.{behind_piece}
@@ -101,7 +101,7 @@ module _ (n : HeapNumbers) (one : Link) (job tail : ℕ) (h : Hold) (s a b t : S
         let fresh = fresh_t ∙ (l.stops.fresh ∙ fresh_a) in
         let moved = λ (at : shown (heap_of n a) (Root 1) ≡ Some (link_to tail)). enough (l.stops.moved at)
         (moves_left a b t q0.own [] q0.own q0.puts freed q) in
-        let over : IsOver n TailIsLast s t = elim l.stops.own_moves [
+        let over : IsTurnOver n TailIsLast s t = elim l.stops.own_moves [
           | inl none ↦ over_missed n TailIsLast 1 tail one s a t k all_a all_t p q0.own q j fresh moved none
           | inr helping ↦
               let next : ℕ = helping.0 in
@@ -202,7 +202,7 @@ turn_moved n job h s t one two k all node other slots fresh p =
 
 -- one turn more
 pub over_next : (n : HeapNumbers) (IsSettled : Heap → Type 0) (turns : ℕ) (s t u : Seat FifoNote) → AreOver n IsSettled turns s t
-    → IsOver n IsSettled t u → AreOver n IsSettled (turns + 1) s u
+    → IsTurnOver n IsSettled t u → AreOver n IsSettled (turns + 1) s u
 over_next n IsSettled turns s t u all one =
     let p = all.piece.puts in
     let q = one.piece.puts in

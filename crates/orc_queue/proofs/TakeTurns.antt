@@ -24,7 +24,7 @@ use Rattle.orc_fifo_rule.specs.QueueDiscipline.{FifoHolds, FifoMay, entries_of, 
 use Rattle.orc_fifo_rule.specs.Laws.Events.{begun_more}
 use Rattle.orc_queue.specs.declared.take.TakeTurn.{TakeTurn}
 use Rattle.orc_queue.specs.declared.take.TakeTurn.TheVariants.{Empty as TakeEmpty, Over as TakeOver, Took as TakeDone}
-use Rattle.orc_queue.specs.Turns.{AreOver, HelpsHead, IsOver, Stops, TailIsPast, TakesBehind, TakesJob, TakesNext, TakesNone, TakesTurn, TakesTurns}
+use Rattle.orc_queue.specs.Turns.{AreOver, HelpsHead, IsTurnOver, HasStopped, TailIsPast, TakesBehind, TakesJob, TakesFromHead, TakesNone, TakesTurn, TakesTurns}
 use Rattle.orc_queue.proofs.Alone.{over_helped, over_missed, over_quiet, swing_past}
 use Rattle.orc_queue.proofs.Filled.{Known}
 use Rattle.orc_queue.proofs.Holding.{found_fresh, found_id, found_other_id, found_released}
@@ -53,7 +53,7 @@ module _ (n : HeapNumbers) (head : ℕ) (s a t : Seat FifoNote) (linked : IsLink
         (q.entries_are ∙ ap (λ (x : ℕ). Empty x ∷ []) p.agent) (omega (arith, q.no_give)) (omega (arith, q.few)) in
         record { piece = j.piece; fresh = l.fresh ∙ fresh }
 
-    pub behind_lost : Stops n 1 (Next head) null (λ own. ⊥) a t → Stops n 4 (Root 0) (link_to head) (HelpsHead s head) s t
+    pub behind_lost : HasStopped n 1 (Next head) null (λ own. ⊥) a t → HasStopped n 4 (Root 0) (link_to head) (HelpsHead s head) s t
     behind_lost l =
         let q = l.piece in
         let j = join 4 s a t (event_of s (Look (Next head) null) None ∷ []) q.own [] p q.puts (q.slots ∙ slots) q.entries_are
@@ -75,7 +75,7 @@ module _ (n : HeapNumbers) (head next : ℕ) (s a b t : Seat FifoNote)
     (p : Puts s (event_of s (Look (Next head) (link_to next)) None ∷ event_of s (Look (Next head) (link_to next)) None ∷ []) a)
     (all_a : AllAllowed (FifoMay n) [] a.seen) (freed : Puts b [] t) (slots : t.slots ≡ s.slots) (fresh_a : a.fresh ≡ s.fresh) (fresh_t : t.fresh ≡ b.fresh)
   where
-    pub behind_over : TakesNext n head next a None b → Stops n 4 (Root 0) (link_to head) (HelpsHead s head) s t
+    pub behind_over : TakesFromHead n head next a None b → HasStopped n 4 (Root 0) (link_to head) (HelpsHead s head) s t
     behind_over l =
         let first : Event FifoNote = event_of s (Look (Next head) (link_to next)) None in
         let q0 = l.piece in
@@ -109,7 +109,7 @@ module _ (n : HeapNumbers) (head next : ℕ) (s a b t : Seat FifoNote)
 -- the head's link moved between two looks
 pub behind_differs : (n : HeapNumbers) (head : ℕ) (s t : Seat FifoNote) (one two : Link) → AllAllowed (FifoMay n) [] t.seen
     → IsLinkedNode (heap_of n s) head → one ≢ two → t.slots ≡ s.slots → t.fresh ≡ s.fresh
-    → Puts s (event_of s (Look (Next head) one) None ∷ event_of s (Look (Next head) two) None ∷ []) t → Stops n 4 (Root 0) (link_to head) (HelpsHead s head) s t
+    → Puts s (event_of s (Look (Next head) one) None ∷ event_of s (Look (Next head) two) None ∷ []) t → HasStopped n 4 (Root 0) (link_to head) (HelpsHead s head) s t
 behind_differs n head s t one two all linked other slots fresh p = record {
   piece = record { own = _; slots = slots; puts = p; entries_are = refl; no_give = refl; few = omega arith };
   fresh = fresh;
@@ -124,7 +124,7 @@ pub record TakenPiece (s t : Seat FifoNote) : Type 0 where
   pub fresh : t.fresh ≡ s.fresh
   pub puts : Puts s own t
 
-pub next_piece : (n : HeapNumbers) (head next : ℕ) (s t : Seat FifoNote) (got : Option (ℕ × ℕ)) → TakesNext n head next s got t → TakenPiece s t
+pub next_piece : (n : HeapNumbers) (head next : ℕ) (s t : Seat FifoNote) (got : Option (ℕ × ℕ)) → TakesFromHead n head next s got t → TakenPiece s t
 next_piece n head next s t None l = record { own = l.piece.own; slots = l.piece.slots; fresh = l.fresh; puts = l.piece.puts }
 next_piece n head next s t (Some got) l = record { own = l.piece.own; slots = l.piece.slots; fresh = l.fresh; puts = l.piece.puts }
 
@@ -133,24 +133,24 @@ module _ (n : HeapNumbers) (s a b t : Seat FifoNote) (slot : ℕ) (head next : H
     (f : HoldsNext n (id_in s.slots head) slot s next a) (fresh : a.fresh ≡ s.fresh) (all : AllAllowed (FifoMay n) [] b.seen)
     (untouched : (i : ℕ) → b.fresh ≡ Some i → IsUntouched b.agent (heap_of n b) i) (released : Releases b next t)
   where
-    told : (got : Option (ℕ × ℕ)) → TakesNext n (id_in a.slots head) (id_in a.slots next) a got b → TakesNext n (id_in s.slots head) f.node.id a got b
-    told got l = subst (λ (i : ℕ). TakesNext n i f.node.id a got b) (found_other_id f.node head held)
-        (subst (λ (i : ℕ). TakesNext n (id_in a.slots head) i a got b) (found_id f.node) l)
+    told : (got : Option (ℕ × ℕ)) → TakesFromHead n (id_in a.slots head) (id_in a.slots next) a got b → TakesFromHead n (id_in s.slots head) f.node.id a got b
+    told got l = subst (λ (i : ℕ). TakesFromHead n i f.node.id a got b) (found_other_id f.node head held)
+        (subst (λ (i : ℕ). TakesFromHead n (id_in a.slots head) i a got b) (found_id f.node) l)
 
-    piece : (got : Option (ℕ × ℕ)) → TakesNext n (id_in a.slots head) (id_in a.slots next) a got b → TakenPiece a b
+    piece : (got : Option (ℕ × ℕ)) → TakesFromHead n (id_in a.slots head) (id_in a.slots next) a got b → TakenPiece a b
     piece got l = next_piece n (id_in a.slots head) (id_in a.slots next) a b got l
 
-    still_fresh : (got : Option (ℕ × ℕ)) → TakesNext n (id_in a.slots head) (id_in a.slots next) a got b → t.fresh ≡ b.fresh
+    still_fresh : (got : Option (ℕ × ℕ)) → TakesFromHead n (id_in a.slots head) (id_in a.slots next) a got b → t.fresh ≡ b.fresh
     still_fresh got l =
         let p = piece got l in
         found_fresh f.node p.slots untouched (linked_puts n a b p.own p.puts all f.node.id f.node.linked) released
 
-    pub next_over : TakesNext n (id_in a.slots head) (id_in a.slots next) a None b → TakesBehind n (id_in s.slots head) s TakeOver t
+    pub next_over : TakesFromHead n (id_in a.slots head) (id_in a.slots next) a None b → TakesBehind n (id_in s.slots head) s TakeOver t
     next_over l =
         let slots = found_released f.node (piece None l).slots released in
         behind_over n (id_in s.slots head) f.node.id s a b t f.puts f.after.all released.puts slots fresh (still_fresh None l) (told None l)
 
-    pub next_taken : (job at : ℕ) → TakesNext n (id_in a.slots head) (id_in a.slots next) a (Some (job, at)) b
+    pub next_taken : (job at : ℕ) → TakesFromHead n (id_in a.slots head) (id_in a.slots next) a (Some (job, at)) b
         → TakesBehind n (id_in s.slots head) s (TakeDone job at) t
     next_taken job at l =
         let got = Some (job, at) in
@@ -262,7 +262,7 @@ turn_found {n} {head} {s} {a} {b} {t} f all_b all_t fresh_a untouched released t
 -- the head moved between two looks
 pub turn_differs : (n : HeapNumbers) (s t : Seat FifoNote) (one two : Link) → AllAllowed (FifoMay n) [] t.seen → one ≢ two → t.slots ≡ s.slots
     → t.fresh ≡ s.fresh
-    → Puts s (event_of s (Look (Root 0) one) None ∷ event_of s (Look (Root 0) two) None ∷ []) t → IsOver n TailIsPast s t
+    → Puts s (event_of s (Look (Root 0) one) None ∷ event_of s (Look (Root 0) two) None ∷ []) t → IsTurnOver n TailIsPast s t
 turn_differs n s t one two all other slots fresh p =
     over_quiet n TailIsPast s t (record { own = _; slots = slots; puts = p; entries_are = refl; no_give = refl; few = omega arith }) fresh refl
     (looks_differ n (FifoMay n) (λ es x k. k.fits) s t (Root 0) one two p all tt other)

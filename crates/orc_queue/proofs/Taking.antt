@@ -31,7 +31,7 @@ use Rattle.orc_fifo_rule.specs.declared.fifo.FifoNote.TheVariants.{Entry, Swing}
 use Rattle.orc_fifo_rule.specs.QueueDiscipline.{FifoMay, HasJob, entries_of, entries_in, position_of}
 use Rattle.orc_fifo_rule.specs.Watches.{IsLeft, WasNamed}
 use Rattle.orc_fifo_rule.specs.Laws.Events.{begun_more}
-use Rattle.orc_queue.specs.Turns.{FindsEnd, Helps, HelpsPast, Stops, TakesFrom, TakesJob, TakesNext}
+use Rattle.orc_queue.specs.Turns.{FindsEnd, Helps, HelpsPast, HasStopped, TakesFrom, TakesJob, TakesFromHead}
 use Rattle.orc_queue.proofs.Filled.{Known}
 use Rattle.orc_queue.proofs.Joins.{join}
 use Rattle.orc_queue.proofs.Looking.{job_read}
@@ -124,7 +124,7 @@ head_swung n s b t head next agent job at false agent_is o all w is other = cc
 pub head_missed : (n : HeapNumbers) (s b t : Seat FifoNote) (head next : Bor Hold) (noted : Option FifoNote) (done : Bool) → Only [] s b
     → AllAllowed (FifoMay n) [] t.seen
     → Swings (AtRoot 0) (WantNode head false) (WantNode next false) noted b done t → done ≡ false
-    → Stops n 1 (Root 0) (link_to (id_in s.slots head.now)) (λ own. ⊥) s t
+    → HasStopped n 1 (Root 0) (link_to (id_in s.slots head.now)) (λ own. ⊥) s t
 head_missed n s b t head next noted true o all w is = cc
 head_missed n s b t head next noted false o all w is =
     let p = Puts-trans s b t [] _ o.puts w.puts.puts in
@@ -150,7 +150,7 @@ still_puts n s t own p all root link at =
 -- the tail named the head: it was helped on
 pub past_helped : (n : HeapNumbers) (head next : ℕ) (place : Place) (link : Link) (s a b : Seat FifoNote)
     (p : Puts s (event_of s (Look (Root 1) (link_to head)) None ∷ []) a) → AllAllowed (FifoMay n) [] a.seen → AllAllowed (FifoMay n) [] b.seen
-    → a.slots ≡ s.slots → a.fresh ≡ s.fresh → Helps head next a b → Stops n 2 place link (HelpsPast s head next) s b
+    → a.slots ≡ s.slots → a.fresh ≡ s.fresh → Helps head next a b → HasStopped n 2 place link (HelpsPast s head next) s b
 past_helped n head next place link s a b p all_a all_b slots fresh helped = elim helped.either [
   | inl moved ↦
       let act = Move (Root 1) (link_to head) (link_to next) in
@@ -202,7 +202,7 @@ past_left n h s a k all slots named miss =
 pub past_taken : (n : HeapNumbers) (head next : ℕ) (s a t : Seat FifoNote) (own : List (Event FifoNote)) (p : Puts s own a)
     → AllAllowed (FifoMay n) [] a.seen → a.slots ≡ s.slots → a.fresh ≡ s.fresh
     → entries_of own ≡ [] → gives_in own ≡ 0 → moves_in own ≡ 0 → length own ≤ 1 → (got : Option (ℕ × ℕ)) → TakesFrom n head a got t
-    → TakesNext n head next s got t
+    → TakesFromHead n head next s got t
 past_taken n head next s a t own p all slots fresh no_entry no_give no_move one None l =
     let q = l.piece in
     let j = join 2 s a t own q.own [] p q.puts (q.slots ∙ slots)

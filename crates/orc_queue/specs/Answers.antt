@@ -38,9 +38,9 @@ abbrev pub CallFindsFull : HeapNumbers → Seat FifoNote → Seat FifoNote → T
 CallFindsFull n s t = FindsFull n s.agent s.seen (drop (length s.seen) t.seen)
 
 -- the call found no Look at the end without a position
-abbrev pub HasRoom : HeapNumbers → {given turns : ℕ} {s : Seat FifoNote} {entries : List QueueEntry} {t : Seat FifoNote}
+abbrev pub HasPositions : HeapNumbers → {given turns : ℕ} {s : Seat FifoNote} {entries : List QueueEntry} {t : Seat FifoNote}
     → IsCall given turns s entries t → Type 0
-HasRoom n {s = s} call = FindsFull n s.agent s.seen call.puts.part → ⊥
+HasPositions n {s = s} call = FindsFull n s.agent s.seen call.puts.part → ⊥
 
 -- how many nodes a put gives: none without a turn, or where none could be had; else one
 abbrev pub gives_of : ℕ → Result ℕ QueueRefused → ℕ
@@ -51,14 +51,14 @@ gives_of (suc turns) result = 1
 -- a put that used all its turns, each by a Move that isn't one of root 0, and found room
 pub record PutTired (n : HeapNumbers) (turns : ℕ) (s t : Seat FifoNote) : Type 0 where
   pub tires : Tires (gives_of turns (Err Again)) turns s t
-  pub room : HasRoom n tires.call
+  pub room : HasPositions n tires.call
   pub back : turns ≤ back_moves_in s.agent tires.call.puts.part
 
 -- a put for which no node could be had
 pub record PutLacking (n : HeapNumbers) (turns : ℕ) (s t : Seat FifoNote) : Type 0 where
   pub call : IsCall (gives_of turns (Err NoNode)) turns s [] t
   pub some_turn : turns ≢ 0
-  pub room : HasRoom n call
+  pub room : HasPositions n call
 
 -- a put that found no position left
 pub record PutFull (n : HeapNumbers) (turns : ℕ) (s t : Seat FifoNote) : Type 0 where
@@ -71,7 +71,7 @@ pub record PutMade (n : HeapNumbers) (job at turns : ℕ) (s t : Seat FifoNote) 
   pub call : IsCall (gives_of turns (Ok at)) turns s (Put s.agent job at ∷ []) t
   pub some_turn : turns ≢ 0
   pub low : at < 2 ^ 62
-  pub room : HasRoom n call
+  pub room : HasPositions n call
   pub helps : EndsHelping call.own
 
 -- a put, by its answer

@@ -78,14 +78,14 @@ pub record Piece (most : ℕ) (s : Seat FifoNote) (entries : List QueueEntry) (t
 
 -- the rest of a turn that is over: if the place showed the link before, then a Move stands in what is new; the pass made
 -- no Move of its own, or it helped
-pub record Stops (n : HeapNumbers) (most : ℕ) (place : Place) (link : Link) (IsHelping : List (Event FifoNote) → Type 0) (s t : Seat FifoNote) : Type 0 where
+pub record HasStopped (n : HeapNumbers) (most : ℕ) (place : Place) (link : Link) (IsHelping : List (Event FifoNote) → Type 0) (s t : Seat FifoNote) : Type 0 where
   pub piece : Piece most s [] t
   pub fresh : t.fresh ≡ s.fresh
   pub moved : shown (heap_of n s) place ≡ Some link → 1 ≤ moves_in piece.puts.part
   pub own_moves : (moves_in piece.own ≡ 0) ⊎ IsHelping piece.own
 
 -- a turn that is over: a Move stands in it. If no other agent steps in it, then it leaves the tail settled, and it found it unsettled
-pub record IsOver (n : HeapNumbers) (IsSettled : Heap → Type 0) (s t : Seat FifoNote) : Type 0 where
+pub record IsTurnOver (n : HeapNumbers) (IsSettled : Heap → Type 0) (s t : Seat FifoNote) : Type 0 where
   pub piece : Piece 6 s [] t
   pub fresh : t.fresh ≡ s.fresh
   pub moved : 1 ≤ moves_in (from_own s.agent piece.puts.part)
@@ -157,7 +157,7 @@ back_moves_in agent es = moves_in (from_own agent (off_the_head es))
 -- behind a node with a null link, the new node was not linked: if the link was null before, then a Move stands in what is new,
 -- and not of root 0
 pub record LinkMissed (n : HeapNumbers) (job tail : ℕ) (h : Hold) (s t : Seat FifoNote) : Type 0 where
-  pub stops : Stops n 2 (Next tail) null (λ own. ⊥) s t
+  pub stops : HasStopped n 2 (Next tail) null (λ own. ⊥) s t
   pub room : FindsFull n s.agent s.seen stops.piece.puts.part → ⊥
   pub low : position_of (heap_of n s) tail < 2 ^ 62
   pub node : HoldsNode n job h t
@@ -189,7 +189,7 @@ HelpsBehind s tail own = (next : ℕ) × (own ≡ event_of s (Look (Next tail) (
 -- behind the node that root 1 named, the new node was not linked: if root 1 named the node before, then a Move stands in what is new,
 -- and not of root 0
 pub record TurnMissed (n : HeapNumbers) (job tail : ℕ) (h : Hold) (s t : Seat FifoNote) : Type 0 where
-  pub stops : Stops n 4 (Root 1) (link_to tail) (HelpsBehind s tail) s t
+  pub stops : HasStopped n 4 (Root 1) (link_to tail) (HelpsBehind s tail) s t
   pub room : FindsFull n s.agent s.seen stops.piece.puts.part → ⊥
   pub node : HoldsNode n job h t
   pub back : shown (heap_of n s) (Root 1) ≡ Some (link_to tail) → 1 ≤ moves_in (off_the_head stops.piece.puts.part)
@@ -202,7 +202,7 @@ PutsBehind n job tail h s Full t = IsFull n 4 s t
 
 -- a turn of a put that is over: a Move stands in it that isn't one of root 0
 pub record PutMissed (n : HeapNumbers) (job : ℕ) (h : Hold) (s t : Seat FifoNote) : Type 0 where
-  pub over : IsOver n TailIsLast s t
+  pub over : IsTurnOver n TailIsLast s t
   pub room : FindsFull n s.agent s.seen over.piece.puts.part → ⊥
   pub node : HoldsNode n job h t
   pub back : 1 ≤ back_moves_in s.agent over.piece.puts.part
@@ -242,18 +242,18 @@ HelpsPast s head next own = own ≡ event_of s (Look (Root 1) (link_to head)) No
 
 -- the swing of the head on to the successor
 abbrev pub TakesFrom : HeapNumbers → ℕ → Seat FifoNote → Option (ℕ × ℕ) → Seat FifoNote → Type 0
-TakesFrom n head s None t = Stops n 1 (Root 0) (link_to head) (λ own. ⊥) s t
+TakesFrom n head s None t = HasStopped n 1 (Root 0) (link_to head) (λ own. ⊥) s t
 TakesFrom n head s (Some got) t = TakesJob 1 got.0 got.1 s t
 
 -- from the head and its successor on
-abbrev pub TakesNext : HeapNumbers → ℕ → ℕ → Seat FifoNote → Option (ℕ × ℕ) → Seat FifoNote → Type 0
-TakesNext n head next s None t = Stops n 2 (Root 0) (link_to head) (HelpsPast s head next) s t
-TakesNext n head next s (Some got) t = TakesJob 2 got.0 got.1 s t
+abbrev pub TakesFromHead : HeapNumbers → ℕ → ℕ → Seat FifoNote → Option (ℕ × ℕ) → Seat FifoNote → Type 0
+TakesFromHead n head next s None t = HasStopped n 2 (Root 0) (link_to head) (HelpsPast s head next) s t
+TakesFromHead n head next s (Some got) t = TakesJob 2 got.0 got.1 s t
 
 -- the test whether the head's link is null
 abbrev pub FindsEnd : HeapNumbers → ℕ → Seat FifoNote → Bool → Seat FifoNote → Type 0
 FindsEnd n head s true t = TakesNone 1 s t
-FindsEnd n head s false t = Stops n 1 (Next head) null (λ own. ⊥) s t
+FindsEnd n head s false t = HasStopped n 1 (Next head) null (λ own. ⊥) s t
 
 -- the own events of a pass that helps, from its looks at the successor on
 abbrev pub HelpsHead : Seat FifoNote → ℕ → List (Event FifoNote) → Type 0
@@ -262,13 +262,13 @@ HelpsHead s head own = (next : ℕ) × (own ≡ event_of s (Look (Next head) (li
 
 -- behind the node that root 0 named
 abbrev pub TakesBehind : HeapNumbers → ℕ → Seat FifoNote → TakeTurn → Seat FifoNote → Type 0
-TakesBehind n head s TakeOver t = Stops n 4 (Root 0) (link_to head) (HelpsHead s head) s t
+TakesBehind n head s TakeOver t = HasStopped n 4 (Root 0) (link_to head) (HelpsHead s head) s t
 TakesBehind n head s (TakeDone job at) t = TakesJob 4 job at s t
 TakesBehind n head s TakeEmpty t = TakesNone 4 s t
 
 -- a turn of a take
 abbrev pub TakesTurn : HeapNumbers → Seat FifoNote → TakeTurn → Seat FifoNote → Type 0
-TakesTurn n s TakeOver t = IsOver n TailIsPast s t
+TakesTurn n s TakeOver t = IsTurnOver n TailIsPast s t
 TakesTurn n s (TakeDone job at) t = TakesJob 6 job at s t
 TakesTurn n s TakeEmpty t = TakesNone 6 s t
 

@@ -7,7 +7,7 @@ ghost use Rattle.orc_heap.specs.Seats.{IsIdle};
 ghost use Rattle.orc_heap.specs.Slots.{Holds, IsFree, id_in};
 ghost use Rattle.orc_fifo_rule.specs.Watches.{IsLeft, WasNamed};
 ghost use Rattle.orc_queue.specs.Answers.{TakeAnswers};
-ghost use Rattle.orc_queue.specs.Turns.{HasDummy, FindsEnd, TakesBehind, TakesFrom, TakesNext, TakesTurn, TakesTurns};
+ghost use Rattle.orc_queue.specs.Turns.{HasDummy, FindsEnd, TakesBehind, TakesFrom, TakesFromHead, TakesTurn, TakesTurns};
 ghost use Rattle.orc_heap.specs.Allowed.{HasLink};
 ghost use Rattle.orc_heap.specs.Heap.{link_to};
 
@@ -79,7 +79,7 @@ fn take_next<L: Links<Rule = Fifo>>(
         (id_in (L.seat links.now p.old).slots head.now) (link_to (id_in (L.seat links.now p.old).slots next.now)) }
     ensures pass { L.belongs links.now p.new }
     ensures later { IsPrefix (L.journal p.old) (L.journal p.new) }
-    ensures took { TakesNext (L.numbers links.now) (id_in (L.seat links.now p.old).slots head.now) (id_in (L.seat links.now p.old).slots next.now)
+    ensures took { TakesFromHead (L.numbers links.now) (id_in (L.seat links.now p.old).slots head.now) (id_in (L.seat links.now p.old).slots next.now)
         (L.seat links.now p.old) result (L.seat links.now p.new) }
 {
     if links.same(p, &At::Root(TAIL), &Want::Node(head, false), None) {

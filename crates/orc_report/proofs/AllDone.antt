@@ -36,11 +36,11 @@ use Rattle.orc_board.specs.Runs.{Ran}
 use Rattle.orc_board.proofs.ListFacts.{AllByRecursion-append, AllByRecursion-filter, AllByRecursion-left, AllByRecursion-map, AllByRecursion-right, eq-false}
 use Rattle.orc_board.proofs.ListFacts.{eq-no, eq-true, filter-none}
 use Rattle.orc_board.proofs.Orders.{each_line, same}
-use Rattle.orc_report.specs.AllDone.{AreJobsOf, AreNumbered, IsJobOf, NoneRefused, NoneVoid}
+use Rattle.orc_report.specs.AllDone.{AreJobsOf, PostTheirNumbers, IsJobOf, NoneRefused, NoneVoid}
 use Rattle.orc_report.specs.Summary.{done_as, done_in, done_jobs}
 use Rattle.orc_report.proofs.KeptKeys.{NotAdded, NotBusy, NotMissed, NotRemoved, legal-behind, never-added, never-busy, never-missed}
 use Rattle.orc_report.proofs.PositionOrder.{all_of, every_at}
-use Rattle.orc_report.proofs.RunEntries.{PostSays, TakeSays, entries_of, numbered_job, numbered_row, post_says, posts_back, take_says, takes_back}
+use Rattle.orc_report.proofs.RunEntries.{PostSays, TakeSays, operation_totals, numbered_job, numbered_row, post_says, posts_back, take_says, takes_back}
 
 abbrev In : {X : Type 0} → X → List X → Type 0
 In x [] = ⊥
@@ -156,7 +156,7 @@ posted_row i p line id w row low e h a at is same_line =
     let c = subst (λ (x : Share SetEntry ListRefused). AllByRecursion (λ e. agent_of_set_entry e ≢ 0 → NotAdded i e) x.own) b.1 a in
     c.0 (λ z. omega (arith, low, z)) (e ∙ same_line)
 
-void_row : (lines : List Line) → AreNumbered lines → (i t : ℕ) (r : TakeReply) (row : Row) → TookRow lines t 0 r row
+void_row : (lines : List Line) → PostTheirNumbers lines → (i t : ℕ) (r : TakeReply) (row : Row) → TookRow lines t 0 r row
     → AllByRecursion (λ e. agent_of_set_entry e ≡ 0 → NotMissed i e) row.set.own → r.what ≡ took.Void → r.line ≢ i
 void_row lines num i t r row z a void same_line =
     let id_is : z.table.id ≡ r.line = (numbered_job lines num r.rush r.line z.table.id z.table.job).1 in
@@ -238,7 +238,7 @@ done_word lines i l (took.Done value) id op text post is not_void h =
     let same_line : h.0 ≡ line.Post id op text = cc (there, post) in
     rw (is, post) ((refl, subst (λ (x : Line). IsJobValue x value) same_line h.2), tt)
 
-done_one : (lines : List Line) → AreNumbered lines → (r : TakeReply) → IsClaim lines r → r.what ≢ took.Void
+done_one : (lines : List Line) → PostTheirNumbers lines → (r : TakeReply) → IsClaim lines r → r.what ≢ took.Void
     → (l : Line) × (slice_get lines r.line ≡ Some l) × Pointwise IsJobOf (l ∷ []) (done_in lines r)
 done_one lines num r claim not_void =
     let l : Line = line.Post claim.id claim.job.op claim.job.text in
@@ -255,7 +255,7 @@ all_without (r ∷ rs) h =
 
 module _ {A B : Type 0} (qs : Bool → View A QueueEntry QueueRefused) (s : View B SetEntry ListRefused) (lines : List Line) (posters takers : ℕ)
     (posts : List PostReply) (takes : List TakeReply) (k : Bool → List A) (n : List B)
-    (none : s.history [] ≡ []) (some : 1 ≤ posters) (num : AreNumbered lines) (ran : Ran qs s lines posters takers posts takes k n) where
+    (none : s.history [] ≡ []) (some : 1 ≤ posters) (num : PostTheirNumbers lines) (ran : Ran qs s lines posters takers posts takes k n) where
   abbrev post_line : PostReply → ℕ
   post_line r = r.line
 
@@ -299,7 +299,7 @@ module _ {A B : Type 0} (qs : Bool → View A QueueEntry QueueRefused) (s : View
       let P : PostReply → Type 0 = λ r. r.line ≡ x.line → r.what ≡ word.Busy in
       let Back : PostReply → Type 0 = λ r. r.what ≡ word.Busy → r.line ≢ x.line in
       let not_added : AllByRecursion (NotAdded x.line) (s.history n) =
-      entries_of qs s lines posters takers posts takes k n none ran.follows.workers P (λ r. Unit {0}) (NotAdded x.line)
+      operation_totals qs s lines posters takers posts takes k n none ran.follows.workers P (λ r. Unit {0}) (NotAdded x.line)
       (λ p r row z h. AllByRecursion-map (PostSays r.line r.what) (NotAdded x.line) (λ e says. post_not_added x.line r.line r.what e h says) row.set.own
       (post_says lines num p r row z))
       (λ t a r row z h. AllByRecursion-map (TakeSays r.line r.what) (NotAdded x.line) (λ e says. take_not_added x.line r.line r.what e says) row.set.own
@@ -321,7 +321,7 @@ module _ {A B : Type 0} (qs : Bool → View A QueueEntry QueueRefused) (s : View
       let P : PostReply → Type 0 = λ r. r.line ≡ x.line → (at : ℕ) × (r.what ≡ word.Posted at) in
       let T : TakeReply → Type 0 = λ r. r.line ≡ x.line → r.what ≡ took.Void in
       let not_removed : AllByRecursion (NotRemoved x.line) (s.history n) =
-      entries_of qs s lines posters takers posts takes k n none ran.follows.workers P T (NotRemoved x.line)
+      operation_totals qs s lines posters takers posts takes k n none ran.follows.workers P T (NotRemoved x.line)
       (λ p r row z h. AllByRecursion-map (PostSays r.line r.what) (NotRemoved x.line) (λ e says. post_not_removed x.line r.line r.what e h says) row.set.own
       (post_says lines num p r row z))
       (λ t a r row z h. AllByRecursion-map (TakeSays r.line r.what) (NotRemoved x.line) (λ e says. take_not_removed x.line r.line r.what e h says) row.set.own

@@ -5,7 +5,7 @@ use Rattle.orc_jobs.specs.declared.line.Job.{Job}
 use Rattle.orc_jobs.specs.declared.line.Line.{Line}
 use Rattle.orc_jobs.specs.declared.line.Line.TheVariants as line
 use Rattle.orc_jobs.proofs.JobValues.{IsJobValue-unique}
-use Rattle.orc_report.specs.AllDone.{AreJobsOf, AreNumbered, IsJobOf, PostsId}
+use Rattle.orc_report.specs.AllDone.{AreJobsOf, PostTheirNumbers, IsJobOf, PostsId}
 
 numbered : (n a x i : ℕ) (l : Line) → slice_get (lines_from n a x) i ≡ Some l → PostsId (a + i) l
 numbered zero a x i l e = cc e
@@ -14,7 +14,7 @@ numbered (suc n) a x (suc i) l e =
     let next : a + 1 + i ≡ a + suc i = omega arith in
     subst (λ (k : ℕ). PostsId k l) next (numbered n (a + 1) (behind_line x) i l e)
 
-pub generated-numbered : (seed lines : ℕ) → AreNumbered (generated seed lines)
+pub generated-numbered : (seed lines : ℕ) → PostTheirNumbers (generated seed lines)
 generated-numbered seed lines i l e = let is : 0 + i ≡ i = omega arith in subst (λ (k : ℕ). PostsId k l) is (numbered lines 0 seed i l e)
 
 one_job : (l : Line) (x y : Job × ℕ) → IsJobOf l x → IsJobOf l y → x ≡ y

@@ -24,7 +24,7 @@ use Rattle.orc_board.proofs.ListFacts.{zero_or}
 use Rattle.orc_board.proofs.Orders.{above_zero, no_posts, posters_in_range}
 use Rattle.orc_board.proofs.Wholes.{Works-set, set_of_rows}
 use Rattle.orc_board.proofs.WorkerCases.{worker_cases}
-use Rattle.orc_report.specs.AllDone.{AreNumbered, PostsId}
+use Rattle.orc_report.specs.AllDone.{PostTheirNumbers, PostsId}
 
 -- what holds of the items with each key holds of all
 pub by_keys : {X : Type 0} (key : X → ℕ) (P : X → Type 0) (n : ℕ) (xs : List X) → AllByRecursion (λ x. key x < n) xs
@@ -101,11 +101,11 @@ module _ {A B : Type 0} (qs : Bool → View A QueueEntry QueueRefused) (s : View
       (Works-set (all_beside qs crowd) (beside s crowd) (taker_agent posters t) w.works)
 
   -- what follows for the rows of all replies holds of all entries
-  pub entries_of : (P : PostReply → Type 0) (T : TakeReply → Type 0) (G : SetEntry → Type 0)
+  pub operation_totals : (P : PostReply → Type 0) (T : TakeReply → Type 0) (G : SetEntry → Type 0)
       → ((p : ℕ) (r : PostReply) (row : Row) → PosterRow lines p r row → P r → AllByRecursion G row.set.own)
       → ((t a : ℕ) (r : TakeReply) (row : Row) → TookRow lines t a r row → T r → AllByRecursion G row.set.own)
       → AllByRecursion P posts → AllByRecursion T takes → AllByRecursion G (s.history n)
-  entries_of P T G post take all_posts all_takes =
+  operation_totals P T G post take all_posts all_takes =
       let by_taker : (t : ℕ) → t ≤ takers → AllByRecursion G (filter (is_own_answer (taker_agent posters t)) (s.history n)) = λ t high.
       let w = f.claiming t high in
       subst (AllByRecursion G) (sym (own_takes t high))
@@ -190,7 +190,7 @@ job_says agent i id word.Unknown queue set e of h = absurd h
 job_says agent i id word.Skipped queue set e of h = absurd h
 
 -- a numbered line's row is that of a job of the queue whose id is the line's number
-pub numbered_row : (lines : List Line) → AreNumbered lines → (p : ℕ) (r : PostReply) (row : Row) → PosterRow lines p r row
+pub numbered_row : (lines : List Line) → PostTheirNumbers lines → (p : ℕ) (r : PostReply) (row : Row) → PosterRow lines p r row
     → (id : ℕ) × (id ≡ r.line) × JobRow false p r.line id r.what row
 numbered_row lines num p r row z = went z.line (num r.line z.line z.is) z.table
   where
@@ -199,16 +199,16 @@ numbered_row lines num p r row z = went z.line (num r.line z.line z.is) z.table
     went (line.Rush id op text) e h = absurd e
     went (line.Drop id) e h = absurd e
 
-pub post_says : (lines : List Line) → AreNumbered lines → (p : ℕ) (r : PostReply) (row : Row) → PosterRow lines p r row
+pub post_says : (lines : List Line) → PostTheirNumbers lines → (p : ℕ) (r : PostReply) (row : Row) → PosterRow lines p r row
     → AllByRecursion (PostSays r.line r.what) row.set.own
 post_says lines num p r row z = let (id, e, h) = numbered_row lines num p r row z in job_says p r.line id r.what (row.queues false) row.set e h.word h.part
 
 -- the job of a claim is one of the queue, and has its number for id
-pub numbered_job : (lines : List Line) → AreNumbered lines → (rush : Bool) (i id : ℕ) → IsJob lines rush i id → (rush ≡ false) × (id ≡ i)
+pub numbered_job : (lines : List Line) → PostTheirNumbers lines → (rush : Bool) (i id : ℕ) → IsJob lines rush i id → (rush ≡ false) × (id ≡ i)
 numbered_job lines num false i id job = (refl, num i (line.Post id job.op job.text) job.is)
 numbered_job lines num true i id job = absurd (num i (line.Rush id job.op job.text) job.is)
 
-pub take_says : (lines : List Line) → AreNumbered lines → (t a : ℕ) (r : TakeReply) (row : Row) → TookRow lines t a r row
+pub take_says : (lines : List Line) → PostTheirNumbers lines → (t a : ℕ) (r : TakeReply) (row : Row) → TookRow lines t a r row
     → AllByRecursion (TakeSays r.line r.what) row.set.own
 take_says lines num t a r row z =
     subst (λ (x : Share SetEntry ListRefused). AllByRecursion (TakeSays r.line r.what) x.own) (sym z.table.set)

@@ -18,8 +18,8 @@ PostsId i (line.Rush id op text) = ⊥
 PostsId i (line.Drop id) = ⊥
 
 -- each line posts a job on the queue, whose id is the line's number
-abbrev pub AreNumbered : List Line → Type 0
-AreNumbered lines = (i : ℕ) (l : Line) → slice_get lines i ≡ Some l → PostsId i l
+abbrev pub PostTheirNumbers : List Line → Type 0
+PostTheirNumbers lines = (i : ℕ) (l : Line) → slice_get lines i ≡ Some l → PostsId i l
 
 -- the operation of the line's job, and its value
 abbrev pub IsJobOf : Line → Job × ℕ → Type 0

@@ -40,8 +40,8 @@ firsts [] = []
 firsts (op ∷ ops) = op ∷ filter (λ other. not (same_op op other)) (firsts ops)
 
 -- the operations of jobs
-abbrev pub ops_of : List (Job × ℕ) → List Job
-ops_of jobs = map (λ (j : Job × ℕ). j.0) jobs
+abbrev pub operations_of : List (Job × ℕ) → List Job
+operations_of jobs = map (λ (j : Job × ℕ). j.0) jobs
 
 -- the values of the jobs with this operation
 abbrev pub values_of : Job → List (Job × ℕ) → List ℕ
@@ -54,4 +54,4 @@ total_line jobs op =
 
 -- the summary of these jobs, operation by operation in order of the first job of each
 abbrev pub summary_of : List (Job × ℕ) → List ℕ
-summary_of jobs = codes "done " ++ decimal (length jobs) ++ codes "\n" ++ flat_map (total_line jobs) (firsts (ops_of jobs))
+summary_of jobs = codes "done " ++ decimal (length jobs) ++ codes "\n" ++ flat_map (total_line jobs) (firsts (operations_of jobs))

@@ -6,8 +6,8 @@ ghost use Rattle.std.specs.String.{string_bytes};
 ghost use Rattle.orc_jobs.specs.GoodLines.{AreGood};
 ghost use Rattle.orc_board.specs.Follows.{by_key};
 ghost use Rattle.orc_board.specs.Reportable.{AreReportable};
-ghost use Rattle.orc_report.specs.Summary.{done_as, done_in, done_jobs as jobs_done, firsts, ops_of, summary_of};
-ghost use Rattle.orc_report.specs.Totals.{entries_of, key_of as key, line_of, total_of as total};
+ghost use Rattle.orc_report.specs.Summary.{done_as, done_in, done_jobs as jobs_done, firsts, operations_of, summary_of};
+ghost use Rattle.orc_report.specs.Totals.{operation_totals, operation_key as key, line_of, total_of as total};
 ghost use Rattle.orc_jobs.specs.declared.line.Job.{Job};
 
 use indexmap::IndexMap;
@@ -119,7 +119,7 @@ fn total_at(totals: &IndexMap<u8, Total>, place: usize) -> Total
 
 // The totals of all operations, in the order in which these are first seen.
 fn totals_of(alloc: Global, jobs: &[(Job, u64)]) -> Result<IndexMap<u8, Total>, AllocError>
-    ensures { IfOk result (λ m. m.entries ≡ entries_of jobs.now (firsts (ops_of jobs.now))) }
+    ensures { IfOk result (λ m. m.entries ≡ operation_totals jobs.now (firsts (operations_of jobs.now))) }
 {
     let mut totals = IndexMap::new(alloc);
     for (op, _) in jobs {
@@ -134,10 +134,10 @@ fn note_total(
     jobs: &[(Job, u64)],
     op: Job,
 ) -> Result<(), AllocError>
-    ensures { (ops : List Job) → totals.old.entries ≡ entries_of jobs.now (firsts ops)
-        → OnOk result (totals.new.entries ≡ entries_of jobs.now (firsts (ops ++ op ∷ []))) }
+    ensures { (ops : List Job) → totals.old.entries ≡ operation_totals jobs.now (firsts ops)
+        → OnOk result (totals.new.entries ≡ operation_totals jobs.now (firsts (ops ++ op ∷ []))) }
 {
-    let key = key_of(op);
+    let key = operation_key(op);
     if totals.get(&key).is_some() {
         return Ok(());
     }
@@ -164,7 +164,7 @@ fn total_of(jobs: &[(Job, u64)], op: Job) -> Total
 }
 
 // The key of an operation.
-fn key_of(op: Job) -> u8
+fn operation_key(op: Job) -> u8
     ensures { result ≡ key op }
 {
     match op {

@@ -42,7 +42,7 @@ use Rattle.orc_split_rule.specs.SplitOrder.{dummy_place, key_place, split_order}
 use Rattle.orc_split_rule.specs.declared.split.SplitNote.{SplitNote}
 use Rattle.orc_split_rule.specs.declared.split.SplitNote.TheVariants.{Anchor}
 use Rattle.orc_split_set.specs.NewNodes.{kind_of, note_for, value_of}
-use Rattle.orc_split_set.specs.Rootings.{Anchors, IsSet}
+use Rattle.orc_split_set.specs.Rootings.{Anchors, IsRootSet}
 use Rattle.orc_split_set.specs.SplitSearches.{split_reading}
 use Rattle.orc_split_set.specs.declared.node.NewNode.{NewNode}
 use Rattle.orc_split_set.specs.declared.node.NewNode.TheVariants.{Dummy, Key}
@@ -89,20 +89,20 @@ root_later n seen more bucket id low high holds all leads =
     seen more (holds, leads) all).1
 
 pub set_later : (n : HeapNumbers) (seen more : List (Event SplitNote)) (bucket : ℕ) → 1 ≤ bucket → bucket < greatest n → SplitHolds n seen
-    → AllAllowed (SplitMay n) seen more → IsSet (run_heap n seen) bucket → IsSet (run_heap n (seen ++ more)) bucket
+    → AllAllowed (SplitMay n) seen more → IsRootSet (run_heap n seen) bucket → IsRootSet (run_heap n (seen ++ more)) bucket
 set_later n seen more bucket low high holds all (id, leads) = (id, root_later n seen more bucket id low high holds all leads)
 
 -- over what a pass has newly seen
 pub set_puts : (n : HeapNumbers) (s t : Seat SplitNote) (own : List (Event SplitNote)) (bucket : ℕ) → 1 ≤ bucket → bucket < greatest n → SplitHolds n s.seen
-    → Puts s own t → AllAllowed (SplitMay n) [] t.seen → IsSet (heap_of n s) bucket → IsSet (heap_of n t) bucket
+    → Puts s own t → AllAllowed (SplitMay n) [] t.seen → IsRootSet (heap_of n s) bucket → IsRootSet (heap_of n t) bucket
 set_puts n s t own bucket low high holds p all set =
-    subst (λ es. IsSet (run_heap n es) bucket) (sym p.is) (set_later n s.seen p.part bucket low high holds (part_allowed (SplitMay n) s t own p all) set)
+    subst (λ es. IsRootSet (run_heap n es) bucket) (sym p.is) (set_later n s.seen p.part bucket low high holds (part_allowed (SplitMay n) s t own p all) set)
 
 -- a swing of a bucket's root from null to its dummy
 
 module _ (n : HeapNumbers) (bucket : ℕ) (s t : Seat SplitNote) (id : ℕ) (low : 1 ≤ bucket) (high : bucket < greatest n) (holds : SplitHolds n s.seen)
     (all : AllAllowed (SplitMay n) [] t.seen) (dummy : IsDummy (heap_of n s) id bucket) (fresh : FreshIs (split_ordering n) s) where
-  set_by_move : Puts s (event_of s (Move (Root bucket) null (link_to id)) (Some Anchor) ∷ []) t → IsSet (heap_of n t) bucket
+  set_by_move : Puts s (event_of s (Move (Root bucket) null (link_to id)) (Some Anchor) ∷ []) t → IsRootSet (heap_of n t) bucket
   set_by_move p =
       let e : Event SplitNote = event_of s (Move (Root bucket) null (link_to id)) (Some Anchor) in
       let m = Puts-stood (SplitMay n) s t [] e [] p all in
@@ -111,10 +111,10 @@ module _ (n : HeapNumbers) (bucket : ℕ) (s t : Seat SplitNote) (id : ℕ) (low
       let moved = move_moves s.agent (Root bucket) null (link_to id) (run_heap n es) m.here.fits in
       let leads : LeadsTo (heap_after s.agent e.act (run_heap n es)) (Root bucket) (Some id) = record { link = link_to id; at = moved.moved; to_is = refl } in
       let next : LeadsTo (run_heap n (es ++ e ∷ [])) (Root bucket) (Some id) = subst (λ (h : Heap). LeadsTo h (Root bucket) (Some id)) (sym (run_heap-snoc n es e)) leads in
-      subst (λ z. IsSet (run_heap n z) bucket) (sym m.is)
+      subst (λ z. IsRootSet (run_heap n z) bucket) (sym m.is)
       (set_later n (es ++ e ∷ []) m.later bucket low high (split_keeps n es e now m.here) m.last (id, next))
 
-  set_by_miss : (found : Link) → found ≢ null → Puts s (event_of s (Miss (Root bucket) null found) None ∷ []) t → IsSet (heap_of n t) bucket
+  set_by_miss : (found : Link) → found ≢ null → Puts s (event_of s (Miss (Root bucket) null found) None ∷ []) t → IsRootSet (heap_of n t) bucket
   set_by_miss found other p =
       let e : Event SplitNote = event_of s (Miss (Root bucket) null found) None in
       let m = Puts-stood (SplitMay n) s t [] e [] p all in
@@ -122,12 +122,12 @@ module _ (n : HeapNumbers) (bucket : ℕ) (s t : Seat SplitNote) (id : ℕ) (low
       let now = holds_later n s.seen m.before holds m.first in
       let at : shown (run_heap n es) (Root bucket) ≡ Some found = m.here.fits.0 in
       let plain = now.buckets.plain_roots bucket found at in
-      let set : IsSet (run_heap n es) bucket = by_target es found.to refl at plain in
-      subst (λ z. IsSet (run_heap n z) bucket) (sym m.is)
-      (subst (λ z. IsSet (run_heap n z) bucket) (sym (append_assoc es (e ∷ []) m.later)) (set_later n es (e ∷ m.later) bucket low high now (m.here, m.last) set))
+      let set : IsRootSet (run_heap n es) bucket = by_target es found.to refl at plain in
+      subst (λ z. IsRootSet (run_heap n z) bucket) (sym m.is)
+      (subst (λ z. IsRootSet (run_heap n z) bucket) (sym (append_assoc es (e ∷ []) m.later)) (set_later n es (e ∷ m.later) bucket low high now (m.here, m.last) set))
     where
       by_target : (es : List (Event SplitNote)) (to : Option ℕ) → found.to ≡ to → shown (run_heap n es) (Root bucket) ≡ Some found → found.mark ≡ false
-          → IsSet (run_heap n es) bucket
+          → IsRootSet (run_heap n es) bucket
       by_target es None is at plain = absurd (other (rw (is, plain) refl))
       by_target es (Some x) is at plain = (x, record { link = found; at = at; to_is = is })
 

@@ -34,7 +34,7 @@ use Rattle.orc_split_rule.specs.Laws.Values.{dummy_rank}
 use Rattle.orc_split_rule.specs.SplitDiscipline.{HasValues, IsDummy, IsSize, SplitHolds, SplitMay, greatest, size_of}
 use Rattle.orc_split_rule.specs.SplitOrder.{bucket_of, dummy_place, reversed, split_order}
 use Rattle.orc_split_rule.specs.declared.split.SplitNote.{SplitNote}
-use Rattle.orc_split_set.specs.Beginnings.{BeginsKey, BeginsNear, BeginsWith, Held, MayBegin, StartsIf, seat_before}
+use Rattle.orc_split_set.specs.Beginnings.{BeginsKey, BeginsNear, BeginsByBucket, Held, MayBeginAt, StartsIf, seat_before}
 use Rattle.orc_split_set.specs.Crowds.{BeginsBy, SeesOwn}
 use Rattle.orc_split_set.specs.Looks.{HasStart, StartsAt}
 use Rattle.orc_split_set.specs.NewNodes.{place_for, value_of}
@@ -79,7 +79,7 @@ size_was n s t link before rest size some holds p all stands =
     (omega (arith, low, here), omega (arith, high, here, after))
 
 -- the dummy of the bucket of a number, where there are so many buckets, lies below the node
-below_new : (h : Heap) (id i : ℕ) (new : NewNode) → 0 < 2 ^ i → MayBegin new (2 ^ i) → IsDummy h id (value_of new % 2 ^ i)
+below_new : (h : Heap) (id i : ℕ) (new : NewNode) → 0 < 2 ^ i → MayBeginAt new (2 ^ i) → IsDummy h id (value_of new % 2 ^ i)
     → FollowsOn split_order h (Next id) (place_for new)
 below_new h id i (Key key) some may d = (dummy_place (key % 2 ^ i), dummy_rank h id (key % 2 ^ i) d, omega (arith, low_first key i), refl)
 below_new h id i (Dummy bucket) some may d =
@@ -113,7 +113,7 @@ module _ (n : HeapNumbers) (new : NewNode) (s t : Seat SplitNote) (own : List (E
     (same : t.slots ≡ s.slots) where
   -- a search from root 0
   pub from_root : (size : ℕ) → (SeesOwn s t → HasStart (heap_of n t) (bucket_of (value_of new) size) → bucket_of (value_of new) size ≡ 0)
-      → BeginsWith n new size s (From None) t
+      → BeginsByBucket n new size s (From None) t
   from_root size first = record {
     own = own;
     quiet = quiet_before n s t own q.puts q;
@@ -175,11 +175,11 @@ module _ (n : HeapNumbers) (new : NewNode) (s t : Seat SplitNote) (own : List (E
 
   -- a root that names a dummy, at whose link the search begins
   pub root_dummy : (u : Seat SplitNote) (bucket i : ℕ) (seen : Seen) (h : Hold) → SplitHolds n t.seen → AllAllowed (SplitMay n) [] u.seen
-      → HasRoom t.slots → 1 ≤ bucket → bucket < greatest n → 0 < 2 ^ i → MayBegin new (2 ^ i) → bucket ≡ value_of new % 2 ^ i
-      → Looks (Root bucket) 2 t (Stable seen (Some h)) u → BeginsWith n new (2 ^ i) s (From (Some h)) u
+      → HasRoom t.slots → 1 ≤ bucket → bucket < greatest n → 0 < 2 ^ i → MayBeginAt new (2 ^ i) → bucket ≡ value_of new % 2 ^ i
+      → Looks (Root bucket) 2 t (Stable seen (Some h)) u → BeginsByBucket n new (2 ^ i) s (From (Some h)) u
   root_dummy u bucket i seen h holds all room some less many may is looks = by_next looks.tells
     where
-      by_next : Tells (Root bucket) 2 t (Stable seen (Some h)) u → BeginsWith n new (2 ^ i) s (From (Some h)) u
+      by_next : Tells (Root bucket) 2 t (Stable seen (Some h)) u → BeginsByBucket n new (2 ^ i) s (From (Some h)) u
       by_next (id, one, more, marked, null, at_slot, slots, puts) =
           let link : Link = record { to = Some id; mark = seen.mark } in
           let ys : List (Event SplitNote) = event_of t (Look (Root bucket) one) None ∷ event_of t (Look (Root bucket) link) None ∷ [] in
@@ -244,21 +244,21 @@ half_size most size (suc i) two is low = (omega (arith, low), i, halved)
     halved : size / 2 ≡ 2 ^ i
     halved = omega (arith, is, double)
 
-pub half_begins : (new : NewNode) (size : ℕ) → MayBegin new size → MayBegin new (size / 2)
+pub half_begins : (new : NewNode) (size : ℕ) → MayBeginAt new size → MayBeginAt new (size / 2)
 half_begins (Key key) size may = tt
 half_begins (Dummy bucket) size may = omega (arith, may)
 
 -- by the size that was computed
 pub root_at : (n : HeapNumbers) (new : NewNode) (s t : Seat SplitNote) (own : List (Event SplitNote)) (q : Quiet (split_reading n) s own t)
     (same : t.slots ≡ s.slots) (u : Seat SplitNote) (value size most : ℕ) (seen : Seen) (h : Hold) → SplitHolds n t.seen → AllAllowed (SplitMay n) [] u.seen
-    → HasRoom t.slots → IsSize (greatest n) size → 2 ≤ size → MayBegin new size → value ≡ value_of new → most ≡ size → size / 2 ≤ value % most
-    → Looks (Root (value % most)) 2 t (Stable seen (Some h)) u → BeginsWith n new size s (From (Some h)) u
+    → HasRoom t.slots → IsSize (greatest n) size → 2 ≤ size → MayBeginAt new size → value ≡ value_of new → most ≡ size → size / 2 ≤ value % most
+    → Looks (Root (value % most)) 2 t (Stable seen (Some h)) u → BeginsByBucket n new size s (From (Some h)) u
 root_at n new s t own q same u value size most seen h holds all room (low, i, is) two may value_is most_is high looks =
     let many : 0 < 2 ^ i = omega (arith, two, is) in
     let less : value % most < most = mod-lt value (omega (arith, two, most_is)) in
-    subst (λ (x : ℕ). BeginsWith n new x s (From (Some h)) u) (sym is)
+    subst (λ (x : ℕ). BeginsByBucket n new x s (From (Some h)) u) (sym is)
     (root_dummy n new s t own q same u (value % most) i seen h holds all room (omega (arith, two, high)) (omega (arith, less, low, most_is)) many
-    (subst (λ (x : ℕ). MayBegin new x) is may) (ap (λ (x : ℕ). x % most) value_is ∙ ap (λ (x : ℕ). value_of new % x) (most_is ∙ is)) looks)
+    (subst (λ (x : ℕ). MayBeginAt new x) is may) (ap (λ (x : ℕ). x % most) value_is ∙ ap (λ (x : ℕ). value_of new % x) (most_is ∙ is)) looks)
 
 -- half as many buckets begin no later
 pub half_by : (value size i : ℕ) → 2 ≤ size → size ≡ 2 ^ i → dummy_place (bucket_of value (size / 2)) ≤ dummy_place (bucket_of value size)
@@ -291,7 +291,7 @@ near_on n new Near Far go s t (From left) b =
 pub begins_later : (n : HeapNumbers) (new : NewNode) (fewer size : ℕ)
     → dummy_place (bucket_of (value_of new) fewer) ≤ dummy_place (bucket_of (value_of new) size) → (s t : Seat SplitNote)
     → (SeesOwn s t → HasStart (heap_of n t) (bucket_of (value_of new) size) → bucket_of (value_of new) size ≡ bucket_of (value_of new) fewer)
-    → (begun : Begun) → BeginsWith n new fewer s begun t → BeginsWith n new size s begun t
+    → (begun : Begun) → BeginsByBucket n new fewer s begun t → BeginsByBucket n new size s begun t
 begins_later n new fewer size low s t same begun b =
     let h = heap_of n t in
     let one = bucket_of (value_of new) fewer in
@@ -304,7 +304,7 @@ begins_later n new fewer size low s t same begun b =
 
 -- a key's search, where the size that was read is the one before the call, if the pass saw only own events
 pub begins_key : (n : HeapNumbers) (key size : ℕ) (s t : Seat SplitNote) (begun : Begun) → (SeesOwn s t → size ≡ size_of n s.seen)
-    → BeginsWith n (Key key) size s begun t → BeginsKey n key s begun t
+    → BeginsByBucket n (Key key) size s begun t → BeginsKey n key s begun t
 begins_key n key size s t begun same b =
     let h = heap_of n t in
     near_on n (Key key) (λ start. BeginsBy h start (bucket_of key size) × StartsIf n s t (bucket_of key size) start)

@@ -28,7 +28,7 @@ use Rattle.orc_split_rule.specs.SplitDiscipline.{SplitHolds, SplitMay, size_of}
 use Rattle.orc_split_rule.specs.SplitOrder.{bucket_of}
 use Rattle.orc_split_rule.specs.declared.split.SplitNote.{SplitNote}
 use Rattle.orc_split_set.specs.Growths.{GrowsAfter, answer_by}
-use Rattle.orc_split_set.specs.Rootings.{IsSet, Prepares}
+use Rattle.orc_split_set.specs.Rootings.{IsRootSet, Prepares}
 use Rattle.orc_split_set.specs.SplitSearches.{split_reading}
 use Rattle.orc_split_set.specs.declared.bucket.Rooted.{Rooted}
 use Rattle.orc_split_set.specs.declared.bucket.Rooted.TheVariants.{NoNode, Spent}
@@ -121,7 +121,7 @@ pub roots_call : {S : Type 0} (n : HeapNumbers) (agent_of : S → ℕ) (events :
     → turns ≢ 0 → Puts t ys u → Puts s zs u → IsPrefix j m → s.seen ≡ events j → u.seen ≡ events m → SplitHolds n t.seen → AllAllowed (SplitMay n) [] u.seen
     → (Lacks : Type 0) (Worn : SpentRow → Type 0) → (rooted ≡ NoNode → Lacks) → ((why : SpentRow) → rooted ≡ Spent why → Worn why)
     → IsAlone agent_of s.agent j m → 1 ≤ bucket_of key (size_of n (events (take (part_begin agent_of s.agent j m) m)))
-    → IsSet (heap_of n u) (bucket_of key (size_of n (events (take (part_begin agent_of s.agent j m) m)))) ⊎ (Lacks ⊎ ((why : SpentRow) × Worn why))
+    → IsRootSet (heap_of n u) (bucket_of key (size_of n (events (take (part_begin agent_of s.agent j m) m)))) ⊎ (Lacks ⊎ ((why : SpentRow) × Worn why))
 roots_call {S} n agent_of events adds key turns s t u ys zs j m rooted prepared some q w grows is_s is_u holds all Lacks Worn lacks worn alone low =
     let new : events m ≡ events j ++ w.part = sym is_u ∙ (w.is ∙ ap (λ z. z ++ w.part) is_s) in
     let e = part_events agent_of events adds s.agent j m w.part grows new in
@@ -130,6 +130,6 @@ roots_call {S} n agent_of events adds key turns s t u ys zs j m rooted prepared 
     (record { rest = e.part; is = e.is; others = e.others; own = e.alone alone }) holds all (prepared.tells some)
     (subst (λ z. 1 ≤ bucket_of key (size_of n z)) begin low) in
     elim told [
-      | inl set ↦ inl (subst (λ z. IsSet (heap_of n u) (bucket_of key (size_of n z))) (sym begin) set)
+      | inl set ↦ inl (subst (λ z. IsRootSet (heap_of n u) (bucket_of key (size_of n z))) (sym begin) set)
       | inr none ↦ elim none [ inl missing ↦ inr (inl (lacks missing)) | inr spent ↦ inr (inr (spent.0, worn spent.0 spent.1)) ]
     ]

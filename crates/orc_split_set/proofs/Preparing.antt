@@ -40,7 +40,7 @@ use Rattle.orc_split_rule.specs.SplitDiscipline.{IsSize, SplitHolds, SplitMay, g
 use Rattle.orc_split_rule.specs.SplitOrder.{bucket_of}
 use Rattle.orc_split_rule.specs.declared.split.SplitNote.{SplitNote}
 use Rattle.orc_split_set.specs.Beginnings.{Held}
-use Rattle.orc_split_set.specs.Rootings.{HadBuckets, IsSet, IsUndisturbed, KeyTells, Prepares, RootTells, Roots}
+use Rattle.orc_split_set.specs.Rootings.{HadBuckets, IsRootSet, IsUndisturbed, KeyTells, Prepares, RootTells, Roots}
 use Rattle.orc_split_set.specs.SplitSearches.{SizeRead, split_reading}
 use Rattle.orc_split_set.specs.declared.bucket.Rooted.{Rooted}
 use Rattle.orc_split_set.specs.declared.bucket.Rooted.TheVariants.{Done, Moved, NoNode, Spent}
@@ -123,8 +123,8 @@ module _ (n : HeapNumbers) (bucket : ℕ) (s t : Seat SplitNote) (seen : Seen) (
           let m = Puts-stood (SplitMay n) s t (first ∷ []) e [] puts all_t in
           let es : List (Event SplitNote) = s.seen ++ m.before in
           let now = holds_later n s.seen m.before holds m.first in
-          let there : IsSet (run_heap n es) bucket = (id, record { link = link; at = may_fits n es e m.here; to_is = refl }) in
-          let set : IsSet (heap_of n t) bucket = subst (λ z. IsSet (run_heap n z) bucket) (sym (puts.is ∙ seen_is m))
+          let there : IsRootSet (run_heap n es) bucket = (id, record { link = link; at = may_fits n es e m.here; to_is = refl }) in
+          let set : IsRootSet (heap_of n t) bucket = subst (λ z. IsRootSet (run_heap n z) bucket) (sym (puts.is ∙ seen_is m))
           (set_later n es (e ∷ m.later) bucket low high now (since m) there) in
           let back : slice_set (slice_set s.slots 2 x) h.slot None ≡ s.slots = ap (λ (i : ℕ). slice_set (slice_set s.slots 2 x) i None) at_slot
           ∙ set-back s.slots 2 None x (idle_room s idle).room.two.empty in
@@ -240,7 +240,7 @@ prepares_idle n key turns s t result k idle = record { slots = k.call.slots ∙ 
 pub key_told : (n : HeapNumbers) (key : ℕ) (s t u : Seat SplitNote) (own ys zs : List (Event SplitNote)) (rooted : Rooted) (p : Puts s own t) (q : Puts t ys u)
     (w : Puts s zs u) (gap : List (Event SplitNote)) → IsUndisturbed s.agent w.part gap → SplitHolds n t.seen → AllAllowed (SplitMay n) [] u.seen
     → KeyTells n key s own p.part rooted t → 1 ≤ bucket_of key (size_of n (s.seen ++ gap))
-    → IsSet (heap_of n u) (bucket_of key (size_of n (s.seen ++ gap))) ⊎ ((rooted ≡ NoNode) ⊎ ((why : SpentRow) × (rooted ≡ Spent why)))
+    → IsRootSet (heap_of n u) (bucket_of key (size_of n (s.seen ++ gap))) ⊎ ((rooted ≡ NoNode) ⊎ ((why : SpentRow) × (rooted ≡ Spent why)))
 key_told n key s t u own ys zs NoNode p q w gap x holds all told low = inr (inl refl)
 key_told n key s t u own ys zs (Spent why) p q w gap x holds all told low = inr (inr (why, refl))
 key_told n key s t u own ys zs Moved p q w gap x holds all told low =
@@ -255,6 +255,6 @@ key_told n key s t u own ys zs Done p q w gap x holds all (begun, size, fits, ha
     let whole : w.part ≡ p.part ++ q.part = new_is s t u own ys zs p q w in
     let y = undisturbed_left a p.part q.part gap (rw p.own_is begun) (subst (λ z. IsUndisturbed a z gap) whole x) in
     let is : bucket_of key (size_of n (s.seen ++ gap)) ≡ bucket_of key size = ap (λ z. bucket_of key z) (had gap y) in
-    let here : IsSet (heap_of n t) (bucket_of key size) = set (subst (λ (b : ℕ). 1 ≤ b) is low) in
-    inl (subst (λ (b : ℕ). IsSet (heap_of n u) b) (sym is)
+    let here : IsRootSet (heap_of n t) (bucket_of key size) = set (subst (λ (b : ℕ). 1 ≤ b) is low) in
+    inl (subst (λ (b : ℕ). IsRootSet (heap_of n u) b) (sym is)
     (set_puts n t u ys (bucket_of key size) (subst (λ (b : ℕ). 1 ≤ b) is low) (bucket_low (greatest n) size key fits) holds q all here))

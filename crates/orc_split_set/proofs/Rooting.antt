@@ -32,7 +32,7 @@ use Rattle.orc_ordered_search.proofs.Settling.{over_others}
 use Rattle.orc_split_rule.specs.SplitDiscipline.{IsDummy, SplitHolds, SplitMay, greatest}
 use Rattle.orc_split_rule.specs.SplitOrder.{dummy_place}
 use Rattle.orc_split_rule.specs.declared.split.SplitNote.{SplitNote}
-use Rattle.orc_split_set.specs.Rootings.{Anchors, AnchorsAndGoes, HasDummy, IsSet, RootTells, Roots, rooted_by}
+use Rattle.orc_split_set.specs.Rootings.{Anchors, AnchorsAndGoes, HasNewDummy, IsRootSet, RootTells, Roots, rooted_by}
 use Rattle.orc_split_set.specs.SplitSearches.{split_reading}
 use Rattle.orc_split_set.specs.declared.bucket.Rooted.{Rooted}
 use Rattle.orc_split_set.specs.declared.bucket.Rooted.TheVariants.{Done, Moved, NoNode, Spent}
@@ -81,7 +81,7 @@ module _ (s t u : Seat SplitNote) (own ys zs : List (Event SplitNote)) (p : Puts
 
 -- by what came of the swing
 pub rooted_tells : (n : HeapNumbers) (bucket agent : ℕ) (part : List (Event SplitNote)) (t : Seat SplitNote) (result : Result Bool SpentRow)
-    → IfOk result (λ done. IsSet (heap_of n t) bucket) → RootTells n bucket agent part (rooted_by result) t
+    → IfOk result (λ done. IsRootSet (heap_of n t) bucket) → RootTells n bucket agent part (rooted_by result) t
 rooted_tells n bucket agent part t (Ok done) set = λ low. set
 rooted_tells n bucket agent part t (Err why) set = tt
 
@@ -97,8 +97,8 @@ rooted_node (Ok done) e = cc
 rooted_node (Err why) e = cc
 
 set_if : (n : HeapNumbers) (s t : Seat SplitNote) (own : List (Event SplitNote)) (bucket : ℕ) → 1 ≤ bucket → bucket < greatest n → SplitHolds n s.seen
-    → Puts s own t → AllAllowed (SplitMay n) [] t.seen → (result : Result Bool SpentRow) → IfOk result (λ done. IsSet (heap_of n s) bucket)
-    → IfOk result (λ done. IsSet (heap_of n t) bucket)
+    → Puts s own t → AllAllowed (SplitMay n) [] t.seen → (result : Result Bool SpentRow) → IfOk result (λ done. IsRootSet (heap_of n s) bucket)
+    → IfOk result (λ done. IsRootSet (heap_of n t) bucket)
 set_if n s t own bucket low high holds p all (Ok done) set = set_puts n s t own bucket low high holds p all set
 set_if n s t own bucket low high holds p all (Err why) set = tt
 
@@ -132,7 +132,7 @@ module _ (n : HeapNumbers) (bucket : ℕ) (start : Place) (passed : ℕ) (left f
 
 -- a new dummy is held on
 pub dummy_held : (n : HeapNumbers) (bucket : ℕ) (left first right : Option Hold) (dummy : Hold) (s t u : Seat SplitNote)
-    (w : HasDummy n bucket left first right dummy s t) → u.slots ≡ slots_with s.slots (Some dummy) w.id
+    (w : HasNewDummy n bucket left first right dummy s t) → u.slots ≡ slots_with s.slots (Some dummy) w.id
     → Holds u.slots dummy × (id_in u.slots dummy ≡ w.id)
 dummy_held n bucket left first right dummy s t u w is =
     let x : Option SlotNode = Some (record { row = dummy.row; id = w.id }) in
@@ -185,7 +185,7 @@ module _ (n : HeapNumbers) (bucket : ℕ) (dummy : Hold) (id : ℕ) (s u w : Sea
 -- a new node has room where a search ended
 pub has_dummy : (n : HeapNumbers) (bucket : ℕ) (start : Place) (passed : ℕ) (left first right : Option Hold) (s t u : Seat SplitNote)
     → FindsAbsent (split_reading n) start (dummy_place bucket) passed left first right s t → HasRoomFor s.slots → (dummy : Hold)
-    → Gives n 1 bucket 0 t dummy u → AllAllowed (SplitMay n) [] u.seen → HasDummy n bucket left first right dummy s u
+    → Gives n 1 bucket 0 t dummy u → AllAllowed (SplitMay n) [] u.seen → HasNewDummy n bucket left first right dummy s u
 has_dummy n bucket start passed left first right s t u f room dummy g all =
     let x : Option SlotNode = Some (record { row = dummy.row; id = g.id }) in
     let base : slice_set s.slots 1 x ≡ slots_with s.slots (Some dummy) g.id = ap (λ (i : ℕ). slice_set s.slots i x) (sym g.slot_is) in

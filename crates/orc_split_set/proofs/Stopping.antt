@@ -50,7 +50,7 @@ use Rattle.orc_split_rule.specs.declared.split.SplitNote.{SplitNote}
 use Rattle.orc_split_rule.specs.declared.split.SplitNote.TheVariants.{Bucket}
 use Rattle.orc_split_set.specs.Crowds.{SeesOwn}
 use Rattle.orc_split_set.specs.NewNodes.{IsPossible, kind_of, note_for, value_of}
-use Rattle.orc_split_set.specs.Rootings.{HasDummy, IsSet, Roots}
+use Rattle.orc_split_set.specs.Rootings.{HasNewDummy, IsRootSet, Roots}
 use Rattle.orc_split_set.specs.SplitSearches.{BeginsAt, split_reading}
 use Rattle.orc_split_set.specs.Stops.{HasDummyOnChain, IsUnnamed, StopTells, StopsUnnamed, linked_by}
 use Rattle.orc_split_set.specs.declared.bucket.Rooted.TheVariants.{Moved, NoNode as RootedNoNode}
@@ -64,7 +64,7 @@ use Rattle.orc_split_set.proofs.Sizes.{values_puts}
 -- where a bucket's dummy may be linked, there is none yet, and the bucket's root is null
 unset_before : (n : HeapNumbers) (es : List (Event SplitNote)) (bucket : ℕ) (place : Place) (from to : Link) → 1 ≤ bucket → bucket < greatest n
     → SplitHolds n es → MayLink split_order (run_heap n es) place from to (dummy_place bucket) → shown (run_heap n es) place ≡ Some from
-    → IsSet (run_heap n es) bucket → ⊥
+    → IsRootSet (run_heap n es) bucket → ⊥
 unset_before n es bucket place from to low high holds a at (id, leads) =
     let h : Heap = run_heap n es in
     let dummy = holds.buckets.anchors bucket id low high leads in
@@ -80,7 +80,7 @@ unset_before n es bucket place from to low high holds a at (id, leads) =
 unset_after : (n : HeapNumbers) (es : List (Event SplitNote)) (agent bucket id : ℕ) (to : Option ℕ) (place : Place) (from : Link) → 1 ≤ bucket
     → bucket < greatest n → SplitHolds n es → slice_get (run_heap n es).nodes id ≡ Some (node_to_link agent bucket 0 to)
     → SplitMay n es (record { agent = agent; act = Move place from (link_to id); note = Some Bucket })
-    → IsSet (heap_after agent (Move place from (link_to id)) (run_heap n es)) bucket → ⊥
+    → IsRootSet (heap_after agent (Move place from (link_to id)) (run_heap n es)) bucket → ⊥
 unset_after n es agent bucket id to place from low high holds there may (x, leads) =
     let h : Heap = run_heap n es in
     let k : Heap = heap_after agent (Move place from (link_to id)) h in
@@ -91,7 +91,7 @@ unset_after n es agent bucket id to place from low high holds there may (x, lead
     let bucket_is : b.bucket ≡ bucket = some_same (sym b.first_is ∙ sym (ap (λ (m : Node). m.first) node_is)) in
     let moved = move_moves agent place from (link_to id) h may.fits in
     let apart = root_apart h bucket place low (place_on_chain split_order h holds.chains (dummy_place b.bucket) place a.on_chain) in
-    let before : IsSet h bucket = (x, leads_same k h (Root bucket) (Some x) (sym (moved.others (Root bucket) apart)) leads) in
+    let before : IsRootSet h bucket = (x, leads_same k h (Root bucket) (Some x) (sym (moved.others (Root bucket) apart)) leads) in
     unset_before n es bucket place from (link_to id) low high holds
     (subst (λ (z : ℕ). MayLink split_order h place from (link_to id) (dummy_place z)) bucket_is a) moved.at before
 
@@ -105,8 +105,8 @@ node_unnamed n (Dummy bucket) id to place from t u (low, high) node holds p all 
     let e : Event SplitNote = event_of t (Move place from (link_to id)) (Some Bucket) in
     let seen = own_seen t u (e ∷ []) p sees in
     let may = (allowed-right (SplitMay n) [] t.seen (e ∷ []) (subst (λ z. AllAllowed (SplitMay n) [] z) seen all)).0 in
-    let here = subst (λ z. IsSet (run_heap n z) bucket) seen set in
-    unset_after n t.seen t.agent bucket id to place from low high holds node may (subst (λ (h : Heap). IsSet h bucket) (run_heap-snoc n t.seen e) here)
+    let here = subst (λ z. IsRootSet (run_heap n z) bucket) seen set in
+    unset_after n t.seen t.agent bucket id to place from low high holds node may (subst (λ (h : Heap). IsRootSet h bucket) (run_heap-snoc n t.seen e) here)
 
 -- so is one that was aimed, and then linked
 pub links_unnamed : (n : HeapNumbers) (new : NewNode) (noted : SplitNote) (h : Hold) (id : ℕ) (to : Option ℕ) (s t u : Seat SplitNote) (at : At)
@@ -166,7 +166,7 @@ begun_on s t u own zs p some w (rest, is) =
 
 -- the new dummy is let go, by what came of it
 pub turn_stops : (n : HeapNumbers) (bucket passed : ℕ) (left first right : Option Hold) (dummy : Hold) (s t u w : Seat SplitNote)
-    (h : HasDummy n bucket left first right dummy s t) (result : Result Bool SpentRow)
+    (h : HasNewDummy n bucket left first right dummy s t) (result : Result Bool SpentRow)
     → AddsNode (split_reading n) bucket 0 [] dummy h.id 1 (slots_with s.slots (Some dummy) h.id) s result u → LetsGo (Some dummy) u w
     → IsPrefix t.seen u.seen → AllAllowed (SplitMay n) [] w.seen → (result ≡ Ok true → IsDummy (heap_of n u) h.id bucket)
     → (result ≡ Ok true → SeesOwn t u → IsUnnamed (heap_of n u) (Dummy bucket)) → StopsUnnamed n bucket s (turn_by passed result) w
@@ -193,7 +193,7 @@ turn_stops n bucket passed left first right dummy s t u w h (Err why) a g grows 
 
 -- whatever came of it, the pass still held it
 pub turn_held : (n : HeapNumbers) (bucket : ℕ) (left first right : Option Hold) (dummy : Hold) (s t u : Seat SplitNote)
-    (h : HasDummy n bucket left first right dummy s t) (result : Result Bool SpentRow)
+    (h : HasNewDummy n bucket left first right dummy s t) (result : Result Bool SpentRow)
     → AddsNode (split_reading n) bucket 0 [] dummy h.id 1 (slots_with s.slots (Some dummy) h.id) s result u → Holds u.slots dummy
 turn_held n bucket left first right dummy s t u h (Ok true) a = (dummy_held n bucket left first right dummy s t u h a.slots_are).0
 turn_held n bucket left first right dummy s t u h (Ok false) a = (dummy_held n bucket left first right dummy s t u h a.slots_are).0
@@ -271,7 +271,7 @@ module _ (n : HeapNumbers) (bucket : ℕ) (s t u : Seat SplitNote) (turn : Inser
       by NoNode is told = cc
       by (Spent why) is told = cc
 
-  pub linked_unset : linked_by turn ≡ true → AllOwn s.agent (from_own s.agent w.part) → IsSet (heap_of n u) bucket → ⊥
+  pub linked_unset : linked_by turn ≡ true → AllOwn s.agent (from_own s.agent w.part) → IsRootSet (heap_of n u) bucket → ⊥
   linked_unset is alone set = by turn is k.tells
     where
       by : (turn : InsertTurn) → linked_by turn ≡ true → StopTells n bucket s.agent k.call.made.puts.part turn t → ⊥
@@ -279,7 +279,7 @@ module _ (n : HeapNumbers) (bucket : ℕ) (s t u : Seat SplitNote) (turn : Inser
       by (Answered true passed) is (begun, there, unset) =
           let p = k.call.made.puts in
           let sees = sees_since s t u k.own zs p (subst (λ z. 1 ≤ length z) p.own_is begun) w (puts_grow t u [] o.puts) alone in
-          unset (own_part_left s t u k.own [] zs p o.puts w alone) (subst (λ z. IsSet (run_heap n z) bucket) (nothing_seen t u o.puts sees) set)
+          unset (own_part_left s t u k.own [] zs p o.puts w alone) (subst (λ z. IsRootSet (run_heap n z) bucket) (nothing_seen t u o.puts sees) set)
       by (Answered false passed) is told = cc
       by NoNode is told = cc
       by (Spent why) is told = cc

@@ -22,9 +22,9 @@ abbrev pub seat_before : Seat SplitNote → Seat SplitNote → Seat SplitNote
 seat_before s t = record { agent = s.agent; seen = t.seen; slots = s.slots; fresh = s.fresh }
 
 -- so many buckets tell where a search for this node may begin: at a key's bucket, or before a dummy
-abbrev pub MayBegin : NewNode → ℕ → Type 0
-MayBegin (Key key) size = Unit {0}
-MayBegin (Dummy bucket) size = size ≤ bucket
+abbrev pub MayBeginAt : NewNode → ℕ → Type 0
+MayBeginAt (Key key) size = Unit {0}
+MayBeginAt (Dummy bucket) size = size ≤ bucket
 
 -- the pass made only loads, and holds what it held
 pub record Held (n : HeapNumbers) (s t : Seat SplitNote) : Type 0 where
@@ -50,14 +50,14 @@ abbrev pub StartsIf : HeapNumbers → Seat SplitNote → Seat SplitNote → ℕ 
 StartsIf n s t bucket start = SeesOwn s t → HasStart (heap_of n t) bucket → StartsAt (heap_of n t) bucket start
 
 -- it begins by the bucket of the node, where there are so many buckets
-abbrev pub BeginsWith : HeapNumbers → NewNode → ℕ → Seat SplitNote → Begun → Seat SplitNote → Type 0
-BeginsWith n new size s begun t =
+abbrev pub BeginsByBucket : HeapNumbers → NewNode → ℕ → Seat SplitNote → Begun → Seat SplitNote → Type 0
+BeginsByBucket n new size s begun t =
     BeginsNear n new (λ start. BeginsBy (heap_of n t) start (bucket_of (value_of new) size) × StartsIf n s t (bucket_of (value_of new) size) start) s begun t
 
 -- it begins, or is looked for at fewer buckets
 abbrev pub GoesNear : HeapNumbers → NewNode → ℕ → Seat SplitNote → Option Begun → Seat SplitNote → Type 0
 GoesNear n new size s None t = Held n s t
-GoesNear n new size s (Some begun) t = BeginsWith n new size s begun t
+GoesNear n new size s (Some begun) t = BeginsByBucket n new size s begun t
 
 -- a search for a key begins by the key's bucket, if the pass saw only own events
 abbrev pub BeginsKey : HeapNumbers → ℕ → Seat SplitNote → Begun → Seat SplitNote → Type 0

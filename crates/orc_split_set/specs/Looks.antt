@@ -13,7 +13,7 @@ use Rattle.orc_split_rule.specs.SplitDiscipline.{size_of}
 use Rattle.orc_split_rule.specs.SplitOrder.{bucket_of, split_order}
 use Rattle.orc_split_rule.specs.declared.split.SplitNote.{SplitNote}
 use Rattle.orc_split_set.specs.Crowds.{SeesOwn}
-use Rattle.orc_split_set.specs.Rootings.{IsSet}
+use Rattle.orc_split_set.specs.Rootings.{IsRootSet}
 
 -- 1 for a Look, and 0 for any other act
 abbrev pub look_with : Act → ℕ
@@ -27,7 +27,7 @@ looks_in (e ∷ es) = look_with e.act + looks_in es
 
 -- the bucket is the first one, which has no dummy, or its root isn't null
 abbrev pub HasStart : Heap → ℕ → Type 0
-HasStart h bucket = (bucket ≡ 0) ⊎ IsSet h bucket
+HasStart h bucket = (bucket ≡ 0) ⊎ IsRootSet h bucket
 
 -- a search begins where the bucket does: at root 0, or at the node that the bucket's root names
 abbrev pub StartsAt : Heap → ℕ → Place → Type 0

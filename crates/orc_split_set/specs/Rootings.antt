@@ -22,8 +22,8 @@ use Rattle.orc_split_set.specs.declared.bucket.Rooted.{Rooted}
 use Rattle.orc_split_set.specs.declared.bucket.Rooted.TheVariants.{Done, Moved, NoNode, Spent}
 
 -- the root isn't null
-abbrev pub IsSet : Heap → ℕ → Type 0
-IsSet h root = (id : ℕ) × LeadsTo h (Root root) (Some id)
+abbrev pub IsRootSet : Heap → ℕ → Type 0
+IsRootSet h root = (id : ℕ) × LeadsTo h (Root root) (Some id)
 
 -- what comes of a bucket's root, by what came of its swing from null
 abbrev pub rooted_by : Result Bool SpentRow → Rooted
@@ -33,7 +33,7 @@ rooted_by (Err why) = Spent why
 -- the root of a bucket was swung from null to its dummy: unless that was refused, it isn't null
 pub record Anchors (n : HeapNumbers) (bucket : ℕ) (s : Seat SplitNote) (result : Result Bool SpentRow) (t : Seat SplitNote) : Type 0 where
   pub tried : Tries (split_reading n) s t
-  pub set : IfOk result (λ done. IsSet (heap_of n t) bucket)
+  pub set : IfOk result (λ done. IsRootSet (heap_of n t) bucket)
 
 -- the same, and then the dummy was let go
 pub record AnchorsAndGoes (n : HeapNumbers) (bucket : ℕ) (dummy : Hold) (s : Seat SplitNote) (result : Rooted) (t : Seat SplitNote) : Type 0 where
@@ -44,7 +44,7 @@ pub record AnchorsAndGoes (n : HeapNumbers) (bucket : ℕ) (dummy : Hold) (s : S
   pub gone : LetsGo (Some dummy) mid t
 
 -- the pass has a new dummy in slot 1, and a search found its place
-pub record HasDummy (n : HeapNumbers) (bucket : ℕ) (left first right : Option Hold) (dummy : Hold) (s t : Seat SplitNote) : Type 0 where
+pub record HasNewDummy (n : HeapNumbers) (bucket : ℕ) (left first right : Option Hold) (dummy : Hold) (s t : Seat SplitNote) : Type 0 where
   pub start : Place
   pub id : ℕ
   pub room : HasRoomFor s.slots
@@ -54,7 +54,7 @@ pub record HasDummy (n : HeapNumbers) (bucket : ℕ) (left first right : Option 
 
 -- what came of a bucket's root: it isn't null, unless the bucket is the first one; or another agent moved a link meanwhile
 abbrev pub RootTells : HeapNumbers → ℕ → ℕ → List (Event SplitNote) → Rooted → Seat SplitNote → Type 0
-RootTells n bucket agent part Done t = 1 ≤ bucket → IsSet (heap_of n t) bucket
+RootTells n bucket agent part Done t = 1 ≤ bucket → IsRootSet (heap_of n t) bucket
 RootTells n bucket agent part Moved t = 1 ≤ others_moves agent (from_own agent part)
 RootTells n bucket agent part NoNode t = Unit {0}
 RootTells n bucket agent part (Spent why) t = Unit {0}

@@ -19,7 +19,7 @@ use Rattle.orc_split_rule.specs.declared.split.SplitNote.{SplitNote}
 use Rattle.orc_split_set.specs.Crowds.{keys_before}
 use Rattle.orc_split_set.specs.Growths.{HasGrow}
 use Rattle.orc_split_set.specs.Looks.{HasStart, ReachesIn, looks_in}
-use Rattle.orc_split_set.specs.Rootings.{IsSet}
+use Rattle.orc_split_set.specs.Rootings.{IsRootSet}
 
 module _ {L D P S : Type 0} (members : LinksOf L D P S SplitNote) (links : L) where
   -- the pass is one of the domain, and idle
@@ -81,7 +81,7 @@ module _ {L D P S : Type 0} (members : LinksOf L D P S SplitNote) (links : L) wh
   -- call's agent, or a row was worn
   abbrev pub RootsBucket : ℕ → P → P → Type 0
   RootsBucket key old new = IsCallAlone members links old new → 1 ≤ bucket_before key old new
-      → IsSet (heap members links new) (bucket_before key old new) ⊎ (LacksRow old new ⊎ ((why : Spent) × FindsWorn why old new))
+      → IsRootSet (heap members links new) (bucket_before key old new) ⊎ (LacksRow old new ⊎ ((why : Spent) × FindsWorn why old new))
 
   -- the events of the call's part
   abbrev pub events_within : P → P → List (Event SplitNote)

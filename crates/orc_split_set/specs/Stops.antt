@@ -12,7 +12,7 @@ use Rattle.orc_ordered_search.specs.declared.turn.InsertTurn.{InsertTurn}
 use Rattle.orc_ordered_search.specs.declared.turn.InsertTurn.TheVariants.{Answered, NoNode, Over, Spent}
 use Rattle.orc_split_rule.specs.SplitDiscipline.{IsDummy}
 use Rattle.orc_split_rule.specs.declared.split.SplitNote.{SplitNote}
-use Rattle.orc_split_set.specs.Rootings.{IsSet}
+use Rattle.orc_split_set.specs.Rootings.{IsRootSet}
 use Rattle.orc_split_set.specs.SplitSearches.{split_reading}
 use Rattle.orc_split_set.specs.declared.node.NewNode.{NewNode}
 use Rattle.orc_split_set.specs.declared.node.NewNode.TheVariants.{Dummy, Key}
@@ -26,14 +26,14 @@ pub record HasDummyOnChain (h : Heap) (bucket : ℕ) : Type 0 where
 -- no root names the node, if it is a dummy
 abbrev pub IsUnnamed : Heap → NewNode → Type 0
 IsUnnamed h (Key key) = Unit {0}
-IsUnnamed h (Dummy bucket) = IsSet h bucket → ⊥
+IsUnnamed h (Dummy bucket) = IsRootSet h bucket → ⊥
 
 -- what a try to link a bucket's dummy tells, by what is new. Where the dummy was linked, and no other agent's event stands from the call's
 -- first one on, the bucket's root is null
 abbrev pub StopTells : HeapNumbers → ℕ → ℕ → List (Event SplitNote) → InsertTurn → Seat SplitNote → Type 0
 StopTells n bucket agent part (Answered true passed) t =
     (1 ≤ length (events_by agent part)) × ((id : ℕ) × IsDummy (heap_of n t) id bucket)
-    × (AllOwn agent (from_own agent part) → IsSet (heap_of n t) bucket → ⊥)
+    × (AllOwn agent (from_own agent part) → IsRootSet (heap_of n t) bucket → ⊥)
 StopTells n bucket agent part (Answered false passed) t = (id : ℕ) × IsDummy (heap_of n t) id bucket
 StopTells n bucket agent part Over t = 1 ≤ others_moves agent (from_own agent part)
 StopTells n bucket agent part NoNode t = Unit {0}

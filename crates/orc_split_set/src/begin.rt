@@ -8,7 +8,7 @@ ghost use Rattle.orc_ordered_search.specs.Searches.{HasRoom, Quiet};
 ghost use Rattle.orc_split_rule.specs.SplitDiscipline.{IsSize, greatest, size_of};
 ghost use Rattle.orc_split_rule.specs.SplitOrder.{bucket_of};
 ghost use Rattle.orc_split_rule.specs.declared.split.SplitNote.{SplitNote};
-ghost use Rattle.orc_split_set.specs.Beginnings.{BeginsKey, BeginsWith, GoesNear, MayBegin};
+ghost use Rattle.orc_split_set.specs.Beginnings.{BeginsKey, BeginsByBucket, GoesNear, MayBeginAt};
 ghost use Rattle.orc_split_set.specs.Crowds.{SeesOwn};
 ghost use Rattle.orc_split_set.specs.Looks.{HasStart, LoadsFew, root_loads};
 ghost use Rattle.orc_split_set.specs.NewNodes.{value_of};
@@ -37,7 +37,7 @@ fn begin_at<L: Links<Rule = Split>>(
 ) -> Option<Begun>
     requires pass { L.belongs links.now p.old }
     requires size { IsSize (greatest (L.numbers links.now)) size × (2 ≤ size) }
-    requires begins { MayBegin new size }
+    requires begins { MayBeginAt new size }
     requires room { HasRoom (L.seat links.now p.old).slots }
     ensures pass { L.belongs links.now p.new }
     ensures later { IsPrefix (L.journal p.old) (L.journal p.new) }
@@ -72,12 +72,12 @@ pub(crate) fn begin_near<L: Links<Rule = Split>>(
 ) -> Begun
     requires pass { L.belongs links.now p.old }
     requires size { IsSize (greatest (L.numbers links.now)) size }
-    requires begins { MayBegin new size }
+    requires begins { MayBeginAt new size }
     requires room { HasRoom (L.seat links.now p.old).slots }
     ensures pass { L.belongs links.now p.new }
     ensures later { IsPrefix (L.journal p.old) (L.journal p.new) }
     ensures begun { (s : Seat SplitNote) (own : List (Event SplitNote)) → Quiet (split_reading (L.numbers links.now)) s own (L.seat links.now p.old)
-        → (L.seat links.now p.old).slots ≡ s.slots → BeginsWith (L.numbers links.now) new size s result (L.seat links.now p.new) }
+        → (L.seat links.now p.old).slots ≡ s.slots → BeginsByBucket (L.numbers links.now) new size s result (L.seat links.now p.new) }
     ensures few { HasStart (heap_of (L.numbers links.now) (L.seat links.now p.old)) (bucket_of (value_of new) size)
         → LoadsFew (root_loads (bucket_of (value_of new) size)) (L.seat links.now p.old) (L.seat links.now p.new) }
 {

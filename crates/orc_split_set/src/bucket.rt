@@ -18,7 +18,7 @@ ghost use Rattle.orc_heap.specs.Allowed.{events_by};
 ghost use Rattle.orc_heap.specs.Journals.{run_heap};
 ghost use Rattle.orc_split_set.specs.Crowds.{seat_after};
 ghost use Rattle.orc_split_set.specs.Looks.{HasStart, LoadsFew, bucket_now, root_loads};
-ghost use Rattle.orc_split_set.specs.Rootings.{Anchors, AnchorsAndGoes, HasDummy, Prepares, Roots, rooted_by};
+ghost use Rattle.orc_split_set.specs.Rootings.{Anchors, AnchorsAndGoes, HasNewDummy, Prepares, Roots, rooted_by};
 ghost use Rattle.orc_split_set.specs.SplitSearches.{BeginsAt, split_reading};
 
 use crate::begin::{Begun, begin_near};
@@ -142,10 +142,10 @@ fn link_dummy<L: Links<Rule = Split>>(
 ) -> Rooted
     requires pass { L.belongs links.now p.old }
     requires bucket { (1 ≤ bucket) × (bucket < greatest (L.numbers links.now)) }
-    requires to_link { (s : Seat SplitNote) × HasDummy (L.numbers links.now) bucket left first right dummy s (L.seat links.now p.old) }
+    requires to_link { (s : Seat SplitNote) × HasNewDummy (L.numbers links.now) bucket left first right dummy s (L.seat links.now p.old) }
     ensures pass { L.belongs links.now p.new }
     ensures later { IsPrefix (L.journal p.old) (L.journal p.new) }
-    ensures rooted { (s : Seat SplitNote) → HasDummy (L.numbers links.now) bucket left first right dummy s (L.seat links.now p.old)
+    ensures rooted { (s : Seat SplitNote) → HasNewDummy (L.numbers links.now) bucket left first right dummy s (L.seat links.now p.old)
         → Roots (L.numbers links.now) bucket s result (L.seat links.now p.new) }
     ensures some { result ≢ Rooted.NoNode }
     ensures worn { (why : Spent) → result ≡ Rooted.Spent why → Within (length (L.journal p.old)) (length (L.journal p.new))

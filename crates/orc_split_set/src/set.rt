@@ -8,7 +8,7 @@ ghost use Rattle.orc_history.specs.declared.set.ListRefused.{ListRefused};
 ghost use Rattle.orc_history.specs.declared.set.SetEntry.{SetEntry};
 ghost use Rattle.orc_split_rule.specs.SplitDiscipline.{IsSize};
 ghost use Rattle.orc_split_set.specs.SetCalls.{Enters, EntersNone, FindsWorn, GivesAtMost, GrowsCrowded, HadSize, HasCause, IsUsable, LacksRow, LooksFew, RootsBucket, UsesAllTurns, set_history};
-ghost use Rattle.orc_split_set.specs.Rootings.{IsSet};
+ghost use Rattle.orc_split_set.specs.Rootings.{IsRootSet};
 ghost use Rattle.orc_split_set.specs.Stops.{HasDummyOnChain};
 ghost use Rattle.orc_split_set.specs.Laws.SetLaws.{cause_stays, entries_below, history_grows, seen_legal};
 
@@ -121,7 +121,7 @@ impl<L: Links<Rule = Split>> SplitSet<L> {
         ensures agent { agent L.Links self.now.links p.new ≡ agent L.Links self.now.links p.old }
         ensures later { IsPrefix (L.journal p.old) (L.journal p.new) }
         ensures linked { result ≡ true → HasDummyOnChain (heap L.Links self.now.links p.new) bucket }
-        ensures unnamed { result ≡ true → IsCallAlone L.Links self.now.links p.old p.new → IsSet (heap L.Links self.now.links p.new) bucket → ⊥ }
+        ensures unnamed { result ≡ true → IsCallAlone L.Links self.now.links p.old p.new → IsRootSet (heap L.Links self.now.links p.new) bucket → ⊥ }
         ensures missed { result ≡ false → IsCallAlone L.Links self.now.links p.old p.new
             → HasDummyOnChain (heap L.Links self.now.links p.new) bucket
             ⊎ (LacksRow L.Links self.now.links p.old p.new ⊎ ((why : Spent) × FindsWorn L.Links self.now.links why p.old p.new)) }

@@ -3,7 +3,7 @@ use Rattle.std.proofs.Common.{◌≡◌, ℕ, zero, suc, ◌+◌, ◌<◌, List,
 use Rattle.orc_history.specs.declared.queue.SharedQueue.{Ghosts as QueueOf}
 use Rattle.orc_stages.specs.declared.replies.StageDesk.{StageDesk}
 use Rattle.orc_stages.specs.Desks.{ArePasses}
-use Rattle.orc_stages.specs.Run.{AreFresh, IsFresh, IsNew, StandAhead}
+use Rattle.orc_stages.specs.Run.{AreFresh, IsNewDesk, IsNew, StandAhead}
 
 new_ahead : {Q P A : Type 0} (q : QueueOf Q P A) (queue : Q) (queues : List Q) (p : P) (ps : List P) → q.history queue (q.journal p) ≡ [] → IsNew q queues ps
     → IsNew q (queue ∷ queues) (p ∷ ps)
@@ -11,8 +11,8 @@ new_ahead q queue queues p ps new news zero = new
 new_ahead q queue queues p ps new news (suc i) = news i
 
 fresh_desk : {Q P A : Type 0} (q : QueueOf Q P A) (queue : Q) (queues : List Q) (agent : ℕ) (p : P) (d e : StageDesk P) → q.usable queue p
-    → q.agent_of queue p ≡ agent → q.history queue (q.journal p) ≡ [] → e.passes.items ≡ p ∷ d.passes.items → IsFresh q queues agent d
-    → IsFresh q (queue ∷ queues) agent e
+    → q.agent_of queue p ≡ agent → q.history queue (q.journal p) ≡ [] → e.passes.items ≡ p ∷ d.passes.items → IsNewDesk q queues agent d
+    → IsNewDesk q (queue ∷ queues) agent e
 fresh_desk {P = P} q queue queues agent p d e usable at new is f = record {
   passes = subst (λ (ps : List P). ArePasses q agent (queue ∷ queues) ps) (sym is) (usable, at, f.passes);
   new = subst (λ (ps : List P). IsNew q (queue ∷ queues) ps) (sym is) (new_ahead q queue queues p d.passes.items new f.new);

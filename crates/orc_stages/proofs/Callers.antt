@@ -8,7 +8,7 @@ use Rattle.orc_board.specs.Stretches.{queue_view}
 use Rattle.orc_board.specs.Table.{EndsWith}
 use Rattle.orc_stages.specs.declared.replies.StageReply.{StageReply}
 use Rattle.orc_stages.specs.declared.team.Worker.{Worker}
-use Rattle.orc_stages.specs.Stage.{QueueShare, DidShares, StageRow, froms, tos, MoveTable, Moving, Taking}
+use Rattle.orc_stages.specs.Stage.{QueueShare, DidShares, StageRow, froms, tos, MoveTable, Moving, TookAlone}
 use Rattle.orc_stages.specs.Calls.{MovesMore}
 use Rattle.orc_stages.specs.Desks.{ArePasses, view_at, seen_at}
 use Rattle.orc_stages.specs.Caller.{spare_at, CallerMoved, MovedBetween}
@@ -50,12 +50,12 @@ out_acted q queue queues agent p p2 ps shares c (suc i) = shares_none (view_at q
 pub caller_last : {Q P A : Type 0} (q : QueueOf Q P A) (queue : Q) (queues all : List Q) (lines : List Line) (stage agent now : ℕ) (p p2 : P) (ps old : List P)
     (ws vs : List (Worker P)) (outs : ListWithRoom ℕ)
     → all ≡ queue ∷ queues → old ≡ p ∷ ps → length ws ≡ 0 → vs ≡ ws → now ≡ agent
-    → Taking (queue_view q queue) now outs.items (q.journal p) (q.journal p2)
+    → TookAlone (queue_view q queue) now outs.items (q.journal p) (q.journal p2)
     → (outs.spare ≢ 0 → EndsWith (queue_view q queue) now (Empty now) (q.journal p) (q.journal p2))
     → CallerMoved q all lines stage agent old (p2 ∷ ps) ws vs outs
 caller_last q queue queues all lines stage agent now p p2 ps old ws vs outs a b none d e t0 last0 =
-    let t : Taking (queue_view q queue) agent outs.items (q.journal p) (q.journal p2) =
-    subst (λ (x : ℕ). Taking (queue_view q queue) x outs.items (q.journal p) (q.journal p2)) e t0 in
+    let t : TookAlone (queue_view q queue) agent outs.items (q.journal p) (q.journal p2) =
+    subst (λ (x : ℕ). TookAlone (queue_view q queue) x outs.items (q.journal p) (q.journal p2)) e t0 in
     let last : outs.spare ≢ 0 → EndsWith (queue_view q queue) agent (Empty agent) (q.journal p) (q.journal p2) = λ room.
     subst (λ (x : ℕ). EndsWith (queue_view q queue) x (Empty x) (q.journal p) (q.journal p2)) e (last0 room) in
     let c : ws ≡ [] = no_items ws (omega (arith, none)) in

@@ -26,10 +26,10 @@ use Rattle.orc_stages.specs.declared.replies.StageReply.{StageReply}
 use Rattle.orc_stages.specs.declared.team.Worker.{Worker}
 use Rattle.orc_stages.specs.Desks.{ArePasses, view_at, seen_at}
 use Rattle.orc_stages.specs.Learning.{AreKnown, IsOther, SameWorker, LearnsAll}
-use Rattle.orc_stages.specs.Team.{DidWork, IsReady, Told}
+use Rattle.orc_stages.specs.Team.{DidWork, IsReady, ToldByReplies}
 use Rattle.orc_stages.specs.Caller.{CallerActs, CallerMoved, spare_at}
 use Rattle.orc_stages.specs.Ran.{CallerRan, in_run, unseen}
-use Rattle.orc_stages.specs.Run.{AllCameBack, AreNumbered, CallerMovedFor, HasRoom, IsBack, IsNew}
+use Rattle.orc_stages.specs.Run.{AllCameBack, AreNumbered, CallerMovedFor, HasRoomForMoves, IsBack, IsNew}
 use Rattle.orc_stages.proofs.Shares.{shares_stretch}
 use Rattle.orc_stages.proofs.Told.{Laws, OthersDid, others_first, shares_among, shares_after, shares_until, told_first, told_until}
 use Rattle.orc_stages.proofs.Crew.{Moved, SameDesk, find, spare_behind, moved_for, moves_at, nth_next, numbered_next, posts_at, same_length}
@@ -56,18 +56,18 @@ AllBelow q queues posters stages k = (i : ℕ) → AllByRecursion (λ e. IsWorke
 
 -- a worker as its own passes tell of it, and with the room that it has
 record Tells {Q P A : Type 0} (q : QueueOf Q P A) (queues : List Q) (lines : List Line) (posters stages : ℕ) (w : Worker P) : Type 0 where
-  told : Told (in_run (view_at q queues) posters stages) lines posters w.agent w.posts.items w.moves.items unseen (seen_at q w.desk.passes.items)
-  room : HasRoom posters lines w
+  told : ToldByReplies (in_run (view_at q queues) posters stages) lines posters w.agent w.posts.items w.moves.items unseen (seen_at q w.desk.passes.items)
+  room : HasRoomForMoves posters lines w
 
 -- a worker as journals tell of it that all have seen
 record IsTold {Q P A : Type 0} (q : QueueOf Q P A) (queues : List Q) (lines : List Line) (posters stages : ℕ) (k : ℕ → List A) (w : Worker P) : Type 0 where
-  told : Told (in_run (view_at q queues) posters stages) lines posters w.agent w.posts.items w.moves.items unseen k
-  room : HasRoom posters lines w
+  told : ToldByReplies (in_run (view_at q queues) posters stages) lines posters w.agent w.posts.items w.moves.items unseen k
+  room : HasRoomForMoves posters lines w
   seen : (i : ℕ) → seen_at q w.desk.passes.items i ≡ k i
 
 record Begins {Q P A : Type 0} (q : QueueOf Q P A) (queues : List Q) (lines : List Line) (posters : ℕ) (w : Worker P) : Type 0 where
   new : IsNew q queues w.desk.passes.items
-  room : HasRoom posters lines w
+  room : HasRoomForMoves posters lines w
   none : w.moves.items ≡ []
 
 both : {X : Type 0} (F G H : X → Type 0) (xs : List X) → ((x : X) → F x → G x → H x) → AllByRecursion F xs → AllByRecursion G xs → AllByRecursion H xs
@@ -88,7 +88,7 @@ module _ {Q P A : Type 0} (q : QueueOf Q P A) (queues : List Q) (lines : List Li
     }
 
     -- what learning leaves
-    has_room : (w v : Worker P) → SameWorker w v → HasRoom posters lines w → HasRoom posters lines v
+    has_room : (w v : Worker P) → SameWorker w v → HasRoomForMoves posters lines w → HasRoomForMoves posters lines v
     has_room w v s room = λ high.
         let before : length lines ≤ length w.moves.items + w.moves.spare = room (omega (arith, high, s.agent_is)) in
         omega (arith, before, ap (λ (r : ListWithRoom StageReply). length r.items + r.spare) s.moves_are)
@@ -101,14 +101,14 @@ module _ {Q P A : Type 0} (q : QueueOf Q P A) (queues : List Q) (lines : List Li
         → IsTold q queues lines posters stages k v
     learned k below w v t l =
         let X : ℕ → View A QueueEntry QueueRefused = in_run V posters stages in
-        let now : Told X lines posters w.agent w.posts.items w.moves.items unseen k =
+        let now : ToldByReplies X lines posters w.agent w.posts.items w.moves.items unseen k =
         told_until V lines posters stages w.agent w.posts.items w.moves.items (seen_at q w.desk.passes.items) k laws (others_then k below w v l) t.told in
-        let a : Told X lines posters v.agent w.posts.items w.moves.items unseen k =
-        subst (λ (x : ℕ). Told X lines posters x w.posts.items w.moves.items unseen k) (sym l.same.agent_is) now in
-        let b : Told X lines posters v.agent v.posts.items w.moves.items unseen k =
-        subst (λ (x : ListWithRoom PostReply). Told X lines posters v.agent x.items w.moves.items unseen k) (sym l.same.posts_are) a in
+        let a : ToldByReplies X lines posters v.agent w.posts.items w.moves.items unseen k =
+        subst (λ (x : ℕ). ToldByReplies X lines posters x w.posts.items w.moves.items unseen k) (sym l.same.agent_is) now in
+        let b : ToldByReplies X lines posters v.agent v.posts.items w.moves.items unseen k =
+        subst (λ (x : ListWithRoom PostReply). ToldByReplies X lines posters v.agent x.items w.moves.items unseen k) (sym l.same.posts_are) a in
         record {
-          told = subst (λ (x : ListWithRoom StageReply). Told X lines posters v.agent v.posts.items x.items unseen k) (sym l.same.moves_are) b;
+          told = subst (λ (x : ListWithRoom StageReply). ToldByReplies X lines posters v.agent v.posts.items x.items unseen k) (sym l.same.moves_are) b;
           room = has_room w v l.same t.room;
           seen = λ i. (l.whole i).is;
         }
@@ -142,7 +142,7 @@ module _ {Q P A : Type 0} (q : QueueOf Q P A) (queues : List Q) (lines : List Li
     -- workers ws at first, vs after their work, us after the caller learned, ts after it moved, and zs after it learned again
     module _ (d0 d1 d2 d3 : List P) (outs : ListWithRoom ℕ) (ws vs us ts zs : List (Worker P)) (below1 : AllBelow q queues posters stages (seen_at q d1))
         (below3 : AllBelow q queues posters stages (seen_at q d3)) (new : IsNew q queues d0) (num : AreNumbered 1 ws) (many : length ws ≡ posters + stages)
-        (fresh : AllByRecursion (λ (w : Worker P). IsNew q queues w.desk.passes.items) ws) (room : AllByRecursion (HasRoom posters lines) ws)
+        (fresh : AllByRecursion (λ (w : Worker P). IsNew q queues w.desk.passes.items) ws) (room : AllByRecursion (HasRoomForMoves posters lines) ws)
         (none : AllByRecursion (λ (w : Worker P). w.moves.items ≡ []) ws) (did : Pointwise (DidWork q queues lines posters) ws vs)
         (learn1 : LearnsAll q queues 0 d0 d1 vs us) (same1 : Pointwise SameWorker vs us) (moved : CallerMovedFor q queues lines posters d1 d2 us ts outs)
         (enough : length lines ≤ length outs.items + outs.spare) (learn3 : LearnsAll q queues 0 d2 d3 ts zs) (same3 : Pointwise SameWorker ts zs)
@@ -158,10 +158,10 @@ module _ {Q P A : Type 0} (q : QueueOf Q P A) (queues : List Q) (lines : List Li
 
       begins : AllByRecursion (Begins q queues lines posters) ws
       begins =
-          both (λ (w : Worker P). IsNew q queues w.desk.passes.items × HasRoom posters lines w) (λ (w : Worker P). w.moves.items ≡ []) (Begins q queues lines posters) ws
+          both (λ (w : Worker P). IsNew q queues w.desk.passes.items × HasRoomForMoves posters lines w) (λ (w : Worker P). w.moves.items ≡ []) (Begins q queues lines posters) ws
           (λ w a b. record { new = a.0; room = a.1; none = b })
-          (both (λ (w : Worker P). IsNew q queues w.desk.passes.items) (HasRoom posters lines) (λ (w : Worker P).
-          IsNew q queues w.desk.passes.items × HasRoom posters lines w) ws (λ w a b. (a, b)) fresh room) none
+          (both (λ (w : Worker P). IsNew q queues w.desk.passes.items) (HasRoomForMoves posters lines) (λ (w : Worker P).
+          IsNew q queues w.desk.passes.items × HasRoomForMoves posters lines w) ws (λ w a b. (a, b)) fresh room) none
 
       told : AllByRecursion (IsTold q queues lines posters stages (seen_at q d1)) us
       told =
@@ -222,7 +222,7 @@ module _ {Q P A : Type 0} (q : QueueOf Q P A) (queues : List Q) (lines : List Li
       all_later i = prefix_trans (seen_at q d1 i) (seen_at q d2 i) (seen_at q d3 i) (caller_later i) (learn3 i).grows
 
       told_at : (i : ℕ) → i < posters + stages
-          → Told (in_run V posters stages) lines posters (suc i) (posts_at zs i) (moves_at us i) unseen (seen_at q d3)
+          → ToldByReplies (in_run V posters stages) lines posters (suc i) (posts_at zs i) (moves_at us i) unseen (seen_at q d3)
       told_at i low =
           let X : ℕ → View A QueueEntry QueueRefused = in_run V posters stages in
           let w = find (IsTold q queues lines posters stages (seen_at q d1)) 1 i us num_us told (omega (arith, low, long_us)) in
@@ -230,9 +230,9 @@ module _ {Q P A : Type 0} (q : QueueOf Q P A) (queues : List Q) (lines : List Li
           let posts : posts_at zs i ≡ w.worker.posts.items =
           nth_next (λ (x : Worker P). x.posts.items) SameWorker ts zs (λ x y s. ap (λ (r : ListWithRoom PostReply). r.items) s.posts_are) same3 i
           ∙ (nth_next (λ (x : Worker P). x.posts.items) SameDesk us ts (λ x y s. ap (λ (r : ListWithRoom PostReply). r.items) s.posts_are) moves.desks i ∙ w.posts_are) in
-          let here : Told X lines posters (suc i) w.worker.posts.items w.worker.moves.items unseen (seen_at q d1) =
-          subst (λ (x : ℕ). Told X lines posters x w.worker.posts.items w.worker.moves.items unseen (seen_at q d1)) is w.holds.told in
-          let more : Told X lines posters (suc i) w.worker.posts.items w.worker.moves.items unseen (seen_at q d3) =
+          let here : ToldByReplies X lines posters (suc i) w.worker.posts.items w.worker.moves.items unseen (seen_at q d1) =
+          subst (λ (x : ℕ). ToldByReplies X lines posters x w.worker.posts.items w.worker.moves.items unseen (seen_at q d1)) is w.holds.told in
+          let more : ToldByReplies X lines posters (suc i) w.worker.posts.items w.worker.moves.items unseen (seen_at q d3) =
           told_until V lines posters stages (suc i) w.worker.posts.items w.worker.moves.items (seen_at q d1) (seen_at q d3) laws
           (λ n. record { later = all_later n; own = own_kept (suc i) (omega arith) (omega (arith, low)) n; below = below3 n }) here in
           rw (posts, w.moves_are) more

@@ -12,7 +12,7 @@ use Rattle.orc_workers.proofs.Resting.{ends_last}
 use Rattle.orc_stages.specs.declared.replies.StageReply.{StageReply}
 use Rattle.orc_stages.specs.Stage.{QueueShare, DidShares, Posting, Moving, froms, tos}
 use Rattle.orc_stages.specs.Desks.{view_at, seen_at, StageActs, PosterDid, StageDid}
-use Rattle.orc_stages.specs.Team.{Told}
+use Rattle.orc_stages.specs.Team.{ToldByReplies}
 use Rattle.orc_stages.proofs.Shares.{shares_none}
 
 -- the first, and then those of a family
@@ -111,7 +111,7 @@ stage_behind q queue queues all lines place skip stage agent p ps ps2 old moves 
 pub stage_told : {Q P A : Type 0} (q : QueueOf Q P A) (queues : List Q) (lines : List Line) (posters place stage agent : ℕ) (old new : List P)
     (posts : List PostReply) (moves : List StageReply)
     → StageDid q queues lines place stage agent old new moves → stage ≡ suc place → agent ≡ posters + suc place → posts ≡ []
-    → Told (view_at q queues) lines posters agent posts moves (seen_at q old) (seen_at q new)
+    → ToldByReplies (view_at q queues) lines posters agent posts moves (seen_at q old) (seen_at q new)
 stage_told q queues lines posters place stage agent old new posts moves d is at none = record {
   acts = d.acts;
   acted = d.acted;

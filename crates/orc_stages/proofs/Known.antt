@@ -6,7 +6,7 @@ use Rattle.orc_history.specs.QueueHistory.{agent_of_entry, puts_in, IsLegalQueue
 use Rattle.orc_history.specs.declared.queue.QueueRefused.TheVariants.{Positions}
 use Rattle.orc_history.specs.declared.queue.SharedQueue.{Ghosts as QueueOf}
 use Rattle.orc_stages.specs.Desks.{ArePasses, view_at, seen_at}
-use Rattle.orc_stages.specs.Learning.{AreFor, IsKnown}
+use Rattle.orc_stages.specs.Learning.{AreFor, LawsTell}
 
 -- the laws of queues for so many agents each
 pub record QueueLaws {Q P A : Type 0} (q : QueueOf Q P A) (agents_of : Q → ℕ) : Type 0 where
@@ -18,7 +18,7 @@ pub record QueueLaws {Q P A : Type 0} (q : QueueOf Q P A) (agents_of : Q → ℕ
   pub many : (queue : Q) (agent turns : ℕ) (seen : List A) (from to : ℕ) → q.licence queue agent turns Positions seen from to
       → 2 ^ 62 ≤ q.first queue + puts_in (q.history queue seen)
 
-no_queue : {Q P A : Type 0} (q : QueueOf Q P A) (agents : ℕ) (passes : List P) (i : ℕ) → (seen : List A) → IsKnown (view_at q [] i) agents seen
+no_queue : {Q P A : Type 0} (q : QueueOf Q P A) (agents : ℕ) (passes : List P) (i : ℕ) → (seen : List A) → LawsTell (view_at q [] i) agents seen
 no_queue q agents passes i seen = record {
   grows = λ seen more. ([], refl);
   crowd = λ agent h. absurd h;
@@ -28,7 +28,7 @@ no_queue q agents passes i seen = record {
 }
 
 pub known_at : {Q P A : Type 0} (q : QueueOf Q P A) (agents_of : Q → ℕ) → QueueLaws q agents_of → (me agents : ℕ) (queues : List Q) (passes : List P)
-    → AreFor q agents_of agents queues → ArePasses q me queues passes → (i : ℕ) → IsKnown (view_at q queues i) agents (seen_at q passes i)
+    → AreFor q agents_of agents queues → ArePasses q me queues passes → (i : ℕ) → LawsTell (view_at q queues i) agents (seen_at q passes i)
 known_at q agents_of laws me agents [] passes for are i = no_queue q agents passes i (seen_at q passes i)
 known_at q agents_of laws me agents (queue ∷ queues) [] for are i = absurd are
 known_at q agents_of laws me agents (queue ∷ queues) (p ∷ ps) for are zero = record {

@@ -19,7 +19,7 @@ use Rattle.orc_stages.specs.declared.replies.StageReply.{StageReply}
 use Rattle.orc_stages.specs.declared.team.Worker.{Worker}
 use Rattle.orc_stages.specs.Stage.{QueueShare, IsPostShare, MoveTable, StageRow}
 use Rattle.orc_stages.specs.Desks.{ArePasses, view_at, seen_at}
-use Rattle.orc_stages.specs.Team.{Told}
+use Rattle.orc_stages.specs.Team.{ToldByReplies}
 use Rattle.orc_stages.specs.Pipeline.{IsPipeline}
 use Rattle.orc_stages.specs.Ran.{Ran, PosterRan, StageRan, in_run, unseen}
 use Rattle.orc_stages.specs.Run.{AllCameBack, AreIdle, AreNumbered, HaveSeen, IsBack, first_seen}
@@ -101,8 +101,8 @@ module _ {Q P A : Type 0} (q : QueueOf Q P A) (queues : List Q) (lines : List Li
   stage_at : (i : ℕ) → i < stages → StageAt i
   stage_at i low =
       let at : suc (posters + i) ≡ posters + suc i = omega arith in
-      let t : Told X lines posters (posters + suc i) (posts_at ws (posters + i)) (c.work (posters + i)) unseen k =
-      subst (λ (a : ℕ). Told X lines posters a (posts_at ws (posters + i)) (c.work (posters + i)) unseen k) at (c.told (posters + i) (omega (arith, low, many))) in
+      let t : ToldByReplies X lines posters (posters + suc i) (posts_at ws (posters + i)) (c.work (posters + i)) unseen k =
+      subst (λ (a : ℕ). ToldByReplies X lines posters a (posts_at ws (posters + i)) (c.work (posters + i)) unseen k) at (c.told (posters + i) (omega (arith, low, many))) in
       let p = t.moved i refl in
       record { ran = record { acts = t.acts; acted = t.acted; wrote = p.0; found_empty = t.found_empty i refl }; none = p.1 }
 

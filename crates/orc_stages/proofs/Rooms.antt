@@ -14,7 +14,7 @@ use Rattle.orc_stages.specs.declared.team.Worker.{Worker}
 use Rattle.orc_stages.specs.Desks.{ArePasses}
 use Rattle.orc_stages.specs.Team.{IsReady}
 use Rattle.orc_stages.specs.Seats.{IsRoom, AreRooms, HasAgent, HaveAgents, seated}
-use Rattle.orc_stages.specs.Run.{AreFresh, AreNumbered, HasRoom, IsNew}
+use Rattle.orc_stages.specs.Run.{AreFresh, AreNumbered, HasRoomForMoves, IsNew}
 
 pub AreRooms-snoc : (posters lines k : ℕ) (rs : List Room) (r : Room) → AreRooms posters lines k rs → IsRoom posters lines (k + length rs) r
     → AreRooms posters lines k (rs ++ r ∷ [])
@@ -88,7 +88,7 @@ pub record Ready {Q P A : Type 0} (q : QueueOf Q P A) (queues : List Q) (lines :
   pub ready : AllByRecursion (IsReady q queues lines posters) ws
   pub begin : AllByRecursion (λ (w : Worker P). IsNew q queues w.desk.passes.items) ws
   pub numbered : AreNumbered k ws
-  pub room : AllByRecursion (HasRoom posters lines) ws
+  pub room : AllByRecursion (HasRoomForMoves posters lines) ws
 
 ready_of : {Q P A : Type 0} (q : QueueOf Q P A) (queues : List Q) (lines : List Line) (posters k : ℕ) (ds : List (StageDesk P)) (rs : List Room)
     → AreGood lines → 2 ≤ length queues → length queues ≤ 7 → 1 ≤ k → k + length ds ≤ posters + length queues

@@ -8,7 +8,7 @@ use Rattle.orc_board.specs.Stretches.{View, Kind, Share, Stretch, Did, DidAll, o
 use Rattle.orc_board.specs.Table.{EndsWith, took_of}
 use Rattle.orc_board.proofs.Shares.{Did-just, Did-nothing, DidAll-before, DidAll-more, DidAll-snoc, DidAll-stretch, own_of_rows}
 use Rattle.orc_board.proofs.CallStretches.{ends_later}
-use Rattle.orc_stages.specs.Stage.{QueueShare, DidShares, Taking, jobs_of, own_of}
+use Rattle.orc_stages.specs.Stage.{QueueShare, DidShares, TookAlone, jobs_of, own_of}
 
 -- what was done, and then more
 DidAll-append : {A E W X : Type 0} (kind : Kind E) (x : View A E W) (agent : ℕ) (share : X → Share E W) (rows more : List X) (j k l : List A)
@@ -74,11 +74,11 @@ took_none x agent now got shares j k l c e is took =
     (subst (λ (z : ℕ). Stretch of_queue x z [] k l) e (subst (λ (o : Option (ℕ × ℕ)). Stretch of_queue x now (took_of now o) k l) is took)))
 
 -- what came out of a queue
-pub taking_none : {A : Type 0} (x : View A QueueEntry QueueRefused) (agent : ℕ) (outs : List ℕ) (j : List A) → outs ≡ [] → Taking x agent outs j j
+pub taking_none : {A : Type 0} (x : View A QueueEntry QueueRefused) (agent : ℕ) (outs : List ℕ) (j : List A) → outs ≡ [] → TookAlone x agent outs j j
 taking_none x agent outs j e = record { shares = []; did = shares_none x agent j; tooks = sym e; puts = refl }
 
 pub taking_more : {A : Type 0} (x : View A QueueEntry QueueRefused) (agent job at now : ℕ) (got : Option (ℕ × ℕ)) (outs : List ℕ) (j k l : List A)
-    → Taking x agent outs j k → now ≡ agent → got ≡ Some (job, at) → Stretch of_queue x now (took_of now got) k l → Taking x agent (outs ++ job ∷ []) j l
+    → TookAlone x agent outs j k → now ≡ agent → got ≡ Some (job, at) → Stretch of_queue x now (took_of now got) k l → TookAlone x agent (outs ++ job ∷ []) j l
 taking_more x agent job at now got outs j k l t e is took =
     let share : QueueShare = just (Took agent job at ∷ []) in
     let own : own_of (t.shares ++ share ∷ []) ≡ own_of t.shares ++ Took agent job at ∷ [] = own_of-append t.shares (share ∷ []) in
@@ -90,12 +90,12 @@ taking_more x agent job at now got outs j k l t e is took =
     }
 
 pub taking_end : {A : Type 0} (x : View A QueueEntry QueueRefused) (agent now : ℕ) (got : Option (ℕ × ℕ)) (outs : List ℕ) (j k l : List A)
-    → Taking x agent outs j k → now ≡ agent → got ≡ None → Stretch of_queue x now (took_of now got) k l → Taking x agent outs j l
+    → TookAlone x agent outs j k → now ≡ agent → got ≡ None → Stretch of_queue x now (took_of now got) k l → TookAlone x agent outs j l
 taking_end x agent now got outs j k l t e is took =
     record { shares = t.shares; did = took_none x agent now got t.shares j k l t.did e is took; tooks = t.tooks; puts = t.puts }
 
 -- the take that found nothing was the last, after others
 pub taking_last : {A : Type 0} (x : View A QueueEntry QueueRefused) (agent now : ℕ) (got : Option (ℕ × ℕ)) (outs : List ℕ) (j k l : List A)
-    → Taking x agent outs j k → now ≡ agent → got ≡ None → EndsWith x now (entry_of_dequeue now got) k l → EndsWith x agent (Empty agent) j l
+    → TookAlone x agent outs j k → now ≡ agent → got ≡ None → EndsWith x now (entry_of_dequeue now got) k l → EndsWith x agent (Empty agent) j l
 taking_last x agent now got outs j k l t e is ends =
     shares_last x agent now t.shares j k l t.did e (subst (λ (o : Option (ℕ × ℕ)). EndsWith x now (entry_of_dequeue now o) k l) is ends)

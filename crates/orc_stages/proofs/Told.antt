@@ -18,7 +18,7 @@ use Rattle.orc_workers.proofs.Learned.{Grows, since, none_since, still_last, qui
 use Rattle.orc_stages.specs.declared.replies.StageReply.{StageReply}
 use Rattle.orc_stages.specs.Stage.{QueueShare, DidShares}
 use Rattle.orc_stages.specs.Desks.{Acts}
-use Rattle.orc_stages.specs.Team.{Told}
+use Rattle.orc_stages.specs.Team.{ToldByReplies}
 use Rattle.orc_stages.specs.Ran.{in_run, unseen}
 use Rattle.orc_stages.proofs.Shares.{self}
 
@@ -104,8 +104,8 @@ others_first x C agent j k none new o = record {
 -- a worker, from its beginning
 pub told_first : {A : Type 0} (x : ℕ → View A QueueEntry QueueRefused) (lines : List Line) (posters stages agent : ℕ) (posts : List PostReply)
     (moves : List StageReply) (j k : ℕ → List A)
-    → Laws x (IsWorker posters stages) → ((i : ℕ) → (x i).history (j i) ≡ []) → Told x lines posters agent posts moves j k
-    → Told (in_run x posters stages) lines posters agent posts moves unseen k
+    → Laws x (IsWorker posters stages) → ((i : ℕ) → (x i).history (j i) ≡ []) → ToldByReplies x lines posters agent posts moves j k
+    → ToldByReplies (in_run x posters stages) lines posters agent posts moves unseen k
 told_first x lines posters stages agent posts moves j k laws new told = record {
   acts = told.acts;
   acted = shares_first x (IsWorker posters stages) agent told.acts j k laws new told.acted;
@@ -118,7 +118,7 @@ told_first x lines posters stages agent posts moves j k laws new told = record {
 pub told_until : {A : Type 0} (x : ℕ → View A QueueEntry QueueRefused) (lines : List Line) (posters stages agent : ℕ) (posts : List PostReply)
     (moves : List StageReply) (k l : ℕ → List A)
     → Laws x (IsWorker posters stages) → ((i : ℕ) → OthersDid (x i) (IsWorker posters stages) agent (k i) (l i))
-    → Told (in_run x posters stages) lines posters agent posts moves unseen k → Told (in_run x posters stages) lines posters agent posts moves unseen l
+    → ToldByReplies (in_run x posters stages) lines posters agent posts moves unseen k → ToldByReplies (in_run x posters stages) lines posters agent posts moves unseen l
 told_until x lines posters stages agent posts moves k l laws o told = record {
   acts = told.acts;
   acted = shares_until x (IsWorker posters stages) agent told.acts unseen k l laws o told.acted;

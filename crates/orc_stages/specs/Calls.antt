@@ -8,7 +8,7 @@ use Rattle.orc_board.specs.declared.replies.PostReply.{PostReply}
 use Rattle.orc_board.specs.declared.replies.PostWord.{PostWord}
 use Rattle.orc_board.specs.Stretches.{View, Did, of_queue, queue_view}
 use Rattle.orc_stages.specs.declared.replies.StageReply.{StageReply}
-use Rattle.orc_stages.specs.Stage.{QueueShare, PostPart, Posting, PutInto, Moving, Taking}
+use Rattle.orc_stages.specs.Stage.{QueueShare, PostPart, Posting, PutInto, Moving, TookAlone}
 
 -- idle passes of these two queues, both of this agent
 pub record AreStagePasses {Q P A : Type 0} (q : QueueOf Q P A) (from to : Q) (agent : ℕ) (p r : P) : Type 0 where
@@ -56,4 +56,4 @@ pub record MovesMore {Q P A : Type 0} (q : QueueOf Q P A) (from to : Q) (lines :
 
 -- these jobs are all that the pass's agent took, and it put none
 abbrev pub Takes : {Q P A : Type 0} → QueueOf Q P A → Q → P → P → List ℕ → Type 0
-Takes q queue p p2 outs = Taking (queue_view q queue) (q.agent_of queue p) outs (q.journal p) (q.journal p2)
+Takes q queue p p2 outs = TookAlone (queue_view q queue) (q.agent_of queue p) outs (q.journal p) (q.journal p2)

@@ -25,7 +25,7 @@ pub record SameWorker {P : Type 0} (w v : Worker P) : Type 0 where
   pub moves_are : v.moves ≡ w.moves
 
 -- what the laws of a queue for so many agents say, whose first position is 0, and say of the journal of an idle pass
-pub record IsKnown {A : Type 0} (x : View A QueueEntry QueueRefused) (agents : ℕ) (k : List A) : Type 0 where
+pub record LawsTell {A : Type 0} (x : View A QueueEntry QueueRefused) (agents : ℕ) (k : List A) : Type 0 where
   pub grows : (seen more : List A) → IsPrefix (x.history seen) (x.history (seen ++ more))
   pub crowd : (agent : ℕ) → x.crowd agent → agent < agents
   pub below : AllByRecursion (λ e. agent_of_entry e < agents) (x.history k)
@@ -38,7 +38,7 @@ AreFor q agents_of agents queues = AllByRecursion (λ queue. (agents_of queue �
 
 -- of each queue: what its laws say of the journal that the pass has seen
 abbrev pub AreKnown : {Q P A : Type 0} → QueueOf Q P A → List Q → ℕ → List P → Type 0
-AreKnown q queues agents passes = (i : ℕ) → IsKnown (view_at q queues i) agents (seen_at q passes i)
+AreKnown q queues agents passes = (i : ℕ) → LawsTell (view_at q queues i) agents (seen_at q passes i)
 
 -- in each queue the passes of one agent learned from those of these workers once, or twice over
 module _ {Q P A : Type 0} (q : QueueOf Q P A) (queues : List Q) (me : ℕ) (old new : List P) (ws vs : List (Worker P)) where

@@ -12,7 +12,7 @@ use Rattle.orc_stages.specs.declared.replies.StageReply.{StageReply}
 use Rattle.orc_stages.specs.declared.run.StagesDone.{StagesDone}
 use Rattle.orc_stages.specs.declared.team.Worker.{Worker}
 use Rattle.orc_stages.specs.Desks.{ArePasses, view_at, seen_at}
-use Rattle.orc_stages.specs.Team.{Told}
+use Rattle.orc_stages.specs.Team.{ToldByReplies}
 use Rattle.orc_stages.specs.Learning.{AreKnown}
 use Rattle.orc_stages.specs.Caller.{CallerMoved}
 use Rattle.orc_stages.specs.Pipeline.{IsPipeline}
@@ -23,14 +23,14 @@ abbrev pub IsNew : {Q P A : Type 0} → QueueOf Q P A → List Q → List P → 
 IsNew q queues passes = (i : ℕ) → (view_at q queues i).history (seen_at q passes i) ≡ []
 
 -- a desk of this agent with an idle pass of each queue, which has seen no entry
-pub record IsFresh {Q P A : Type 0} (q : QueueOf Q P A) (queues : List Q) (agent : ℕ) (desk : StageDesk P) : Type 0 where
+pub record IsNewDesk {Q P A : Type 0} (q : QueueOf Q P A) (queues : List Q) (agent : ℕ) (desk : StageDesk P) : Type 0 where
   pub passes : ArePasses q agent queues desk.passes.items
   pub new : IsNew q queues desk.passes.items
 
 -- one fresh desk per agent, in order from this one
 abbrev pub AreFresh : {Q P A : Type 0} → QueueOf Q P A → List Q → ℕ → List (StageDesk P) → Type 0
 AreFresh q queues agent [] = Unit {0}
-AreFresh q queues agent (desk ∷ desks) = IsFresh q queues agent desk × AreFresh q queues (suc agent) desks
+AreFresh q queues agent (desk ∷ desks) = IsNewDesk q queues agent desk × AreFresh q queues (suc agent) desks
 
 -- at each desk the pass at its place stands ahead of those that it had
 abbrev pub StandAhead : {P : Type 0} → List P → List (StageDesk P) → List (StageDesk P) → Type 0
@@ -81,8 +81,8 @@ AreNumbered agent [] = Unit {0}
 AreNumbered agent (w ∷ ws) = (w.agent ≡ agent) × AreNumbered (suc agent) ws
 
 -- a worker that has room for as many moves as there are lines, if it is a stage's
-abbrev pub HasRoom : {P : Type 0} → ℕ → List Line → Worker P → Type 0
-HasRoom posters lines w = posters < w.agent → length lines ≤ length w.moves.items + w.moves.spare
+abbrev pub HasRoomForMoves : {P : Type 0} → ℕ → List Line → Worker P → Type 0
+HasRoomForMoves posters lines w = posters < w.agent → length lines ≤ length w.moves.items + w.moves.spare
 
 -- of these workers the caller passed over those of posters, and moved what was left for the others, the stages
 pub record CallerMovedFor {Q P A : Type 0} (q : QueueOf Q P A) (queues : List Q) (lines : List Line) (posters : ℕ) (old new : List P) (ws vs : List (Worker P))
@@ -112,7 +112,7 @@ pub record AllCameBack {Q P A : Type 0} (q : QueueOf Q P A) (queues : List Q) (l
   pub work : ℕ → List StageReply
   pub own : ℕ → List StageReply
   pub told : (i : ℕ) → i < length ws
-      → Told (in_run (view_at q queues) posters stages) lines posters (suc i) (nth_of (λ (w : Worker P). w.posts.items) ws i) (work i) unseen (seen_at q passes)
+      → ToldByReplies (in_run (view_at q queues) posters stages) lines posters (suc i) (nth_of (λ (w : Worker P). w.posts.items) ws i) (work i) unseen (seen_at q passes)
   pub of_posters : (i : ℕ) → i < posters → nth_of (λ (w : Worker P). w.moves.items) ws i ≡ work i
   pub of_stages : (i : ℕ) → i < stages → nth_of (λ (w : Worker P). w.moves.items) ws (posters + i) ≡ work (posters + i) ++ own i
   pub moved : CallerRan (in_run (view_at q queues) posters stages) lines stages own outs (seen_at q passes)

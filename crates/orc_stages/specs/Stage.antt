@@ -140,7 +140,7 @@ own_of [] = []
 own_of (share ∷ shares) = share.own ++ own_of shares
 
 -- these jobs were taken between the two journals, and nothing was put
-pub record Taking {A : Type 0} (x : View A QueueEntry QueueRefused) (agent : ℕ) (outs : List ℕ) (j k : List A) : Type 0 where
+pub record TookAlone {A : Type 0} (x : View A QueueEntry QueueRefused) (agent : ℕ) (outs : List ℕ) (j k : List A) : Type 0 where
   pub shares : List QueueShare
   pub did : DidShares x agent shares j k
   pub tooks : jobs_of false (own_of shares) ≡ outs

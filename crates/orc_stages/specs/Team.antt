@@ -27,7 +27,7 @@ pub record IsReady {Q P A : Type 0} (q : QueueOf Q P A) (queues : List Q) (lines
   pub move_room : posters < w.agent → jobs_in lines ≤ w.moves.spare
 
 -- what a poster or a stage did between the journals j and k, as its replies tell; a stage is that of its number behind the posters
-pub record Told {A : Type 0} (x : ℕ → View A QueueEntry QueueRefused) (lines : List Line) (posters agent : ℕ) (posts : List PostReply)
+pub record ToldByReplies {A : Type 0} (x : ℕ → View A QueueEntry QueueRefused) (lines : List Line) (posters agent : ℕ) (posts : List PostReply)
     (moves : List StageReply) (j k : ℕ → List A) : Type 0 where
   pub acts : ℕ → List QueueShare
   pub acted : Acts x agent acts j k
@@ -40,5 +40,5 @@ pub record DidWork {Q P A : Type 0} (q : QueueOf Q P A) (queues : List Q) (lines
   pub agent_is : v.agent ≡ w.agent
   pub no_caller : 1 ≤ v.agent
   pub passes : ArePasses q v.agent queues v.desk.passes.items
-  pub told : Told (view_at q queues) lines posters v.agent v.posts.items v.moves.items (seen_at q w.desk.passes.items) (seen_at q v.desk.passes.items)
+  pub told : ToldByReplies (view_at q queues) lines posters v.agent v.posts.items v.moves.items (seen_at q w.desk.passes.items) (seen_at q v.desk.passes.items)
   pub spare : length v.moves.items + v.moves.spare ≡ w.moves.spare

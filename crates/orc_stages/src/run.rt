@@ -6,7 +6,7 @@ ghost use Rattle.orc_stages.specs.Desks.{ArePasses};
 ghost use Rattle.orc_board.specs.Follows.{Pointwise};
 ghost use Rattle.orc_stages.specs.Learning.{AreFor, AreKnown, IsOther, LearnsAll, SameWorker};
 ghost use Rattle.orc_stages.specs.Team.{IsReady};
-ghost use Rattle.orc_stages.specs.Run.{AreFresh, AreIdle, HaveSeenTheSame, IsRunOf, AreNumbered, HasRoom, IsNew, CallerMovedFor, AllCameBack};
+ghost use Rattle.orc_stages.specs.Run.{AreFresh, AreIdle, HaveSeenTheSame, IsRunOf, AreNumbered, HasRoomForMoves, IsNew, CallerMovedFor, AllCameBack};
 
 use crate::reserve::{Reserved, reserve};
 use crate::seating::{hand_back, seat};
@@ -128,7 +128,7 @@ where
     requires begin { AllByRecursion (λ w. IsNew Q.SharedQueue queues.now w.desk.passes.items) waiting.items }
     requires numbered { AreNumbered 1 waiting.items }
     requires count { vec_len waiting + 1 ≡ posters + length queues.now }
-    requires enough { AllByRecursion (HasRoom posters lines.now) waiting.items }
+    requires enough { AllByRecursion (HasRoomForMoves posters lines.now) waiting.items }
     ensures back { AllCameBack Q.SharedQueue queues.now lines.now posters (length queues.now - 1) result.desk.passes.items result.workers.items result.outs.items }
     ensures len { vec_len result.workers ≡ vec_len waiting }
 {

@@ -7,16 +7,16 @@ use Rattle.orc_core.specs.declared.ops.Op.{Op}
 use Rattle.orc_core.specs.Machine.{LeavesRoom, Machine, is_allowed, new_machine, step}
 use Rattle.orc_core.specs.Runs.{run}
 use Rattle.orc_sound.proofs.ForRuns.{room_left}
-use Rattle.orc_trace.specs.Replay.{Begins}
+use Rattle.orc_trace.specs.Replay.{BeginsWithSteps}
 use Rattle.orc_trace_text.specs.FirstLines.{HasStepLine}
 use Rattle.orc_trace_text.specs.TraceText.{IsReadable, line_text, steps_text}
 
-pub Begins-nil : (b : Bounds) (m : Machine) (bytes : List ℕ) → Begins b m [] bytes bytes
+pub Begins-nil : (b : Bounds) (m : Machine) (bytes : List ℕ) → BeginsWithSteps b m [] bytes bytes
 Begins-nil b m bytes = record { text = refl; readable = All-nil (IsReadable b); lawful = tt }
 
 -- a step that is allowed, and then others
 pub Begins-cons : (b : Bounds) (m : Machine) (s : ℕ × Op) (front : List (ℕ × Op)) (rest more bytes : List ℕ)
-    → HasStepLine b s more bytes → is_allowed m s.0 s.1 ≡ true → Begins b (step m s.0 s.1) front rest more → Begins b m (s ∷ front) rest bytes
+    → HasStepLine b s more bytes → is_allowed m s.0 s.1 ≡ true → BeginsWithSteps b (step m s.0 s.1) front rest more → BeginsWithSteps b m (s ∷ front) rest bytes
 Begins-cons b m s front rest more bytes line made h =
     record {
       text = line.text ∙ ap (λ (t : List ℕ). line_text s.0 s.1 ++ 10 ∷ t) h.text ∙ sym (append_assoc (line_text s.0 s.1) (10 ∷ steps_text front) rest);
@@ -28,9 +28,9 @@ Begins-cons b m s front rest more bytes line made h =
 pub record First (b : Bounds) (m : Machine) (s : ℕ × Op) (front : List (ℕ × Op)) (rest bytes : List ℕ) : Type 0 where
   pub line : HasStepLine b s (steps_text front ++ rest) bytes
   pub made : is_allowed m s.0 s.1 ≡ true
-  pub others : Begins b (step m s.0 s.1) front rest (steps_text front ++ rest)
+  pub others : BeginsWithSteps b (step m s.0 s.1) front rest (steps_text front ++ rest)
 
-pub Begins-first : (b : Bounds) (m : Machine) (s : ℕ × Op) (front : List (ℕ × Op)) (rest bytes : List ℕ) → Begins b m (s ∷ front) rest bytes
+pub Begins-first : (b : Bounds) (m : Machine) (s : ℕ × Op) (front : List (ℕ × Op)) (rest bytes : List ℕ) → BeginsWithSteps b m (s ∷ front) rest bytes
     → First b m s front rest bytes
 Begins-first b m s front rest bytes h = record {
   line = record {
@@ -45,8 +45,8 @@ Begins-first b m s front rest bytes h = record {
 
 -- n steps lead from the first state and lines to this state and these bytes: what is played on from here is played from there
 abbrev pub Continues : Bounds → Machine → List ℕ → ℕ → Machine → List ℕ → Type 0
-Continues b m lines n now bytes = (front : List (ℕ × Op)) (rest : List ℕ) → Begins b now front rest bytes
-    → (all : List (ℕ × Op)) × Begins b m all rest lines × (length all ≡ n + length front) × (run m all ≡ run now front)
+Continues b m lines n now bytes = (front : List (ℕ × Op)) (rest : List ℕ) → BeginsWithSteps b now front rest bytes
+    → (all : List (ℕ × Op)) × BeginsWithSteps b m all rest lines × (length all ≡ n + length front) × (run m all ≡ run now front)
 
 pub Continues-start : (b : Bounds) (m : Machine) (lines : List ℕ) → Continues b m lines 0 m lines
 Continues-start b m lines front rest h = (front, h, omega arith, refl)
@@ -60,7 +60,7 @@ Continues-step b m lines n now bytes s more so line made front rest h =
 
 -- where the lines end, or the rest can't be played on
 pub Continues-here : (b : Bounds) (m : Machine) (lines : List ℕ) (n : ℕ) (now : Machine) (bytes : List ℕ) → Continues b m lines n now bytes
-    → (all : List (ℕ × Op)) × Begins b m all bytes lines × (length all ≡ n) × (run m all ≡ now)
+    → (all : List (ℕ × Op)) × BeginsWithSteps b m all bytes lines × (length all ≡ n) × (run m all ≡ now)
 Continues-here b m lines n now bytes so =
     let found = so [] bytes (Begins-nil b now bytes) in
     let size = found.2 in

@@ -10,7 +10,7 @@ use Rattle.orc_trace_text.specs.declared.shape_line.ShapeWord.{ShapeWord}
 use Rattle.orc_trace_text.specs.declared.shape_line.ShapeWord.TheVariants as word
 use Rattle.orc_trace.specs.declared.answers.TraceFault.{TraceFault}
 use Rattle.orc_trace.specs.declared.answers.TraceFault.TheVariants as fault
-use Rattle.orc_trace.specs.Replay.{Begins, IsRefused, IsReplay, IsUnreadable, Refuses}
+use Rattle.orc_trace.specs.Replay.{BeginsWithSteps, IsBadRecord, IsReplay, IsUnreadable, Refuses}
 use Rattle.orc_trace_text.specs.FirstLines.{HasShapeLine, HasStepLine, HasTable, IsFirstOut, IsShapeFault}
 use Rattle.orc_trace_text.specs.TraceText.{line_text, steps_text}
 use Rattle.orc_trace_text.proofs.Lines.{shape-unique, step-unique, wide-shape}
@@ -26,7 +26,7 @@ data End : Type 0 where
 abbrev Ends : Bounds → Machine → List ℕ → End → Type 0
 Ends b m rest whole = rest ≡ []
 Ends b m rest unread = IsUnreadable b rest
-Ends b m rest refused = IsRefused b m rest
+Ends b m rest refused = IsBadRecord b m rest
 
 longer : (x r : List ℕ) → x ++ 10 ∷ r ≡ [] → ⊥
 longer [] r e = cc e
@@ -58,7 +58,7 @@ no_end b m s more rest refused shape line made h =
     cc bad
 
 one_end : (b : Bounds) (m : Machine) (front back : List (ℕ × Op)) (rest left bytes : List ℕ) (e f : End) → IsShape b
-    → Begins b m front rest bytes → Ends b (run m front) rest e → Begins b m back left bytes → Ends b (run m back) left f → (front ≡ back) × (e ≡ f)
+    → BeginsWithSteps b m front rest bytes → Ends b (run m front) rest e → BeginsWithSteps b m back left bytes → Ends b (run m back) left f → (front ≡ back) × (e ≡ f)
 one_end b m [] [] rest left bytes e f shape h i k j =
     let same = sym h.text ∙ k.text in
     (refl, same_end b m left e f shape (subst (λ (x : List ℕ). Ends b m x e) same i) j)
@@ -74,8 +74,8 @@ one_end b m (s ∷ ss) (t ∷ ts) rest left bytes e f shape h i k j =
     let first = Begins-first b m s ss rest bytes h in
     let other = Begins-first b m t ts left bytes k in
     let same = step-unique b s t (steps_text ss ++ rest) (steps_text ts ++ left) bytes shape first.line other.line in
-    let moved = subst (λ (x : ℕ × Op). Begins b (step m x.0 x.1) ts left (steps_text ts ++ left)) (sym same.0) other.others in
-    let there = subst (λ (x : List ℕ). Begins b (step m s.0 s.1) ts left x) (sym same.1) moved in
+    let moved = subst (λ (x : ℕ × Op). BeginsWithSteps b (step m x.0 x.1) ts left (steps_text ts ++ left)) (sym same.0) other.others in
+    let there = subst (λ (x : List ℕ). BeginsWithSteps b (step m s.0 s.1) ts left x) (sym same.1) moved in
     let end = subst (λ (x : ℕ × Op). Ends b (run (step m x.0 x.1) ts) left f) (sym same.0) j in
     let more = one_end b (step m s.0 s.1) ss ts rest left (steps_text ss ++ rest) e f shape first.others i there end in
     (ap₂ (λ (x : ℕ × Op) (xs : List (ℕ × Op)). x ∷ xs) same.0 more.0, more.1)
@@ -87,7 +87,7 @@ record Reached (bytes : List ℕ) (b : Bounds) (front : List (ℕ × Op)) (e : E
   lines : List ℕ
   rest : List ℕ
   table : HasTable b lines bytes
-  steps : Begins b (new_machine b) front rest lines
+  steps : BeginsWithSteps b (new_machine b) front rest lines
   end : Ends b (run (new_machine b) front) rest e
 
 shape_line : (b : Bounds) (lines bytes : List ℕ) → HasTable b lines bytes → HasShapeLine b lines bytes
@@ -97,8 +97,8 @@ one_reached : (bytes : List ℕ) (b c : Bounds) (front back : List (ℕ × Op)) 
     → (b ≡ c) × (front ≡ back) × (e ≡ f)
 one_reached bytes b c front back e f h k =
     let same = shape-unique b c h.lines k.lines bytes (shape_line b h.lines bytes h.table) (shape_line c k.lines bytes k.table) in
-    let moved = subst (λ (x : Bounds). Begins x (new_machine x) back k.rest k.lines) (sym same.0) k.steps in
-    let there = subst (λ (x : List ℕ). Begins b (new_machine b) back k.rest x) (sym same.1) moved in
+    let moved = subst (λ (x : Bounds). BeginsWithSteps x (new_machine x) back k.rest k.lines) (sym same.0) k.steps in
+    let there = subst (λ (x : List ℕ). BeginsWithSteps b (new_machine b) back k.rest x) (sym same.1) moved in
     let end = subst (λ (x : Bounds). Ends x (run (new_machine x) back) k.rest f) (sym same.0) k.end in
     let ends = one_end b (new_machine b) front back h.rest k.rest h.lines e f h.table.shape h.steps h.end there end in
     (same.0, ends.0, ends.1)

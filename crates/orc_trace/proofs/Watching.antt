@@ -15,8 +15,8 @@ use Rattle.orc_sound.specs.Backlog.{backlog}
 use Rattle.orc_trace.proofs.Plays.{Begins-nil}
 use Rattle.orc_trace.proofs.Backlogs.{backlog_is}
 use Rattle.orc_trace.specs.Audit.{IsFirstLeak, IsWorst, Leaks, after_steps}
-use Rattle.orc_trace.specs.Replay.{Begins}
-use Rattle.orc_trace.specs.Watched.{LeakOn, Sees, WorseOf, waiting}
+use Rattle.orc_trace.specs.Replay.{BeginsWithSteps}
+use Rattle.orc_trace.specs.Watched.{LeakOn, SeesSteps, WorseOf, waiting}
 use Rattle.orc_trace.specs.declared.answers.Leak.{Leak}
 use Rattle.orc_trace.specs.declared.auditing.Seen.{Seen}
 use Rattle.orc_trace_text.specs.FirstLines.{HasStepLine}
@@ -31,8 +31,8 @@ steps_text-more (t ∷ ts) s more =
     ap (λ (x : List ℕ). line_text t.0 t.1 ++ 10 ∷ x) (steps_text-more ts s more) ∙
     sym (append_assoc (line_text t.0 t.1) (10 ∷ steps_text (ts ++ s ∷ [])) more)
 
-Begins-more : (b : Bounds) (m : Machine) (front : List (ℕ × Op)) (rest lines : List ℕ) (s : ℕ × Op) (more : List ℕ) → Begins b m front rest lines
-    → HasStepLine b s more rest → is_allowed (run m front) s.0 s.1 ≡ true → Begins b m (front ++ s ∷ []) more lines
+Begins-more : (b : Bounds) (m : Machine) (front : List (ℕ × Op)) (rest lines : List ℕ) (s : ℕ × Op) (more : List ℕ) → BeginsWithSteps b m front rest lines
+    → HasStepLine b s more rest → is_allowed (run m front) s.0 s.1 ≡ true → BeginsWithSteps b m (front ++ s ∷ []) more lines
 Begins-more b m front rest lines s more h line made = record {
   text = h.text ∙ ap (λ (x : List ℕ). steps_text front ++ x) line.text ∙ steps_text-more front s more;
   readable = All-append (IsReadable b) front (s ∷ []) h.readable (All-cons (IsReadable b) s [] line.readable (All-nil (IsReadable b)));
@@ -151,9 +151,9 @@ leak-more b front s None (Some f) h on = record {
 -- these steps lead to this state and to the bytes that are left, and this is seen of them
 pub record SoFar (b : Bounds) (lines bytes : List ℕ) (now : Machine) (seen : Seen) : Type 0 where
   pub front : List (ℕ × Op)
-  pub begins : Begins b (new_machine b) front bytes lines
+  pub begins : BeginsWithSteps b (new_machine b) front bytes lines
   pub there : now ≡ run (new_machine b) front
-  pub sees : Sees b front seen
+  pub sees : SeesSteps b front seen
 
 pub so-far-first : (b : Bounds) (lines : List ℕ) (m : Machine) (seen : Seen) → IsShape b → m ≡ new_machine b → seen.steps ≡ 0 → seen.most ≡ waiting m
     → seen.after ≡ 0 → LeakOn m 0 None seen.leak → SoFar b lines lines m seen
@@ -189,7 +189,7 @@ so-far-more b lines bytes now next seen more_seen a op more shape h line made st
   };
 }
   where
-    begins : Begins b (new_machine b) (h.front ++ (a, op) ∷ []) more lines
+    begins : BeginsWithSteps b (new_machine b) (h.front ++ (a, op) ∷ []) more lines
     begins = Begins-more b (new_machine b) h.front bytes lines (a, op) more h.begins line (subst (λ (x : Machine). is_allowed x a op ≡ true) h.there made)
 
     there : next ≡ run (new_machine b) (h.front ++ (a, op) ∷ [])

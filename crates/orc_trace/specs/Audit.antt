@@ -11,7 +11,7 @@ use Rattle.orc_core.specs.declared.ops.Op.{Op}
 use Rattle.orc_rest.specs.Rest.{IsAtRest}
 use Rattle.orc_sound.specs.Backlog.{backlog}
 use Rattle.orc_sound.specs.Linked.{IsOut}
-use Rattle.orc_trace.specs.Replay.{Begins}
+use Rattle.orc_trace.specs.Replay.{BeginsWithSteps}
 use Rattle.orc_trace.specs.declared.answers.Audit.{Audit}
 use Rattle.orc_trace.specs.declared.answers.Leak.{Leak}
 use Rattle.orc_trace_text.specs.FirstLines.{HasTable}
@@ -68,4 +68,4 @@ pub record Audits (b : Bounds) (steps : List (ℕ × Op)) (a : Audit) : Type 0 w
 
 -- the bytes are a trace, and this is the audit of its steps
 abbrev pub IsAudit : List ℕ → Audit → Type 0
-IsAudit bytes a = (b : Bounds) × (lines : List ℕ) × (steps : List (ℕ × Op)) × HasTable b lines bytes × Begins b (new_machine b) steps [] lines × Audits b steps a
+IsAudit bytes a = (b : Bounds) × (lines : List ℕ) × (steps : List (ℕ × Op)) × HasTable b lines bytes × BeginsWithSteps b (new_machine b) steps [] lines × Audits b steps a

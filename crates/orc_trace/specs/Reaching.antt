@@ -9,7 +9,7 @@ use Rattle.orc_trace.specs.Audit.{IsLinkedToARoot}
 use Rattle.orc_trace.specs.declared.reaching.Reach.{Reach}
 
 -- a mark for each of so many rows, and room for each in the list
-pub record HasRoom (reach : Reach) (rows : ℕ) : Type 0 where
+pub record HasMarks (reach : Reach) (rows : ℕ) : Type 0 where
   pub marks : length reach.marks.items ≡ rows
   pub found : length reach.found.items ≡ rows
 

@@ -71,7 +71,7 @@ LeakOn m k None None = IsLeastLeak m None
 LeakOn m k None (Some l) = (l.after ≡ k) × IsLeastLeak m (Some l.row)
 
 -- what is seen of these steps
-pub record Sees (b : Bounds) (steps : List (ℕ × Op)) (s : Seen) : Type 0 where
+pub record SeesSteps (b : Bounds) (steps : List (ℕ × Op)) (s : Seen) : Type 0 where
   pub number : s.steps ≡ length steps
   pub worst : IsWorst b steps s.most s.after
   pub leak : IsFirstLeak b steps s.leak

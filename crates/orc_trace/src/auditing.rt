@@ -8,9 +8,9 @@ ghost use Rattle.orc_core.specs.Runs.{run};
 ghost use Rattle.orc_trace.specs.declared.answers.Audit.{Audit};
 ghost use Rattle.orc_trace.specs.declared.answers.TraceFault.{TraceFault};
 ghost use Rattle.orc_trace.specs.Audit.{IsAudit, lives_of};
-ghost use Rattle.orc_trace.specs.Replay.{Begins, IsStepFault, Refuses};
-ghost use Rattle.orc_trace.specs.Reaching.{HasRoom};
-ghost use Rattle.orc_trace.specs.Watched.{LeakOn, Sees, WorseOf, waiting};
+ghost use Rattle.orc_trace.specs.Replay.{BeginsWithSteps, IsStepFault, Refuses};
+ghost use Rattle.orc_trace.specs.Reaching.{HasMarks};
+ghost use Rattle.orc_trace.specs.Watched.{LeakOn, SeesSteps, WorseOf, waiting};
 
 use crate::answers::{Audit, Leak, TraceFault};
 use crate::leaks::leak_in;
@@ -79,9 +79,9 @@ fn watch(
     reach: &mut Reach,
 ) -> Result<Seen, TraceFault>
     requires new { state.old ≡ new_machine (bounds_of shape.now) }
-    requires room { HasRoom reach.old (bounds_of shape.now).rows }
-    ensures ok { IfOk result (λ seen. (steps : List (ℕ × Op)) × Begins (bounds_of shape.now) state.old steps [] lines.now
-        × Sees (bounds_of shape.now) steps seen × (state.new ≡ run state.old steps)) }
+    requires room { HasMarks reach.old (bounds_of shape.now).rows }
+    ensures ok { IfOk result (λ seen. (steps : List (ℕ × Op)) × BeginsWithSteps (bounds_of shape.now) state.old steps [] lines.now
+        × SeesSteps (bounds_of shape.now) steps seen × (state.new ≡ run state.old steps)) }
     ensures err { IfErr result (IsStepFault (bounds_of shape.now) state.old lines.now) }
 {
     let mut rest = lines;
@@ -101,8 +101,8 @@ fn watch(
 
 // What is seen of the first state.
 fn first_look(state: &State, reach: &mut Reach) -> Seen
-    requires { HasRoom reach.old state.now.bounds.rows }
-    ensures room { HasRoom reach.new state.now.bounds.rows }
+    requires { HasMarks reach.old state.now.bounds.rows }
+    ensures room { HasMarks reach.new state.now.bounds.rows }
     ensures steps { result.steps ≡ 0 }
     ensures most { result.most ≡ waiting state.now }
     ensures after { result.after ≡ 0 }
@@ -118,9 +118,9 @@ fn first_look(state: &State, reach: &mut Reach) -> Seen
 
 // What has been seen with this state, which one more step left.
 fn look(state: &State, reach: &mut Reach, seen: Seen) -> Seen
-    requires room { HasRoom reach.old state.now.bounds.rows }
+    requires room { HasMarks reach.old state.now.bounds.rows }
     requires few { seen.steps + 1 < 2 ^ 64 }
-    ensures room { HasRoom reach.new state.now.bounds.rows }
+    ensures room { HasMarks reach.new state.now.bounds.rows }
     ensures steps { result.steps ≡ seen.steps + 1 }
     ensures worst { WorseOf (waiting state.now) (seen.steps + 1) seen.most seen.after result.most result.after }
     ensures leak { LeakOn state.now (seen.steps + 1) seen.leak result.leak }
@@ -149,8 +149,8 @@ fn worse_of(backlog: u32, steps: u64, most: u32, after: u64) -> (u32, u64)
 
 // The first leak before; where there was none, that of this state, after so many steps.
 fn first_leak(state: &State, reach: &mut Reach, before: Option<Leak>, steps: u64) -> Option<Leak>
-    requires { HasRoom reach.old state.now.bounds.rows }
-    ensures room { HasRoom reach.new state.now.bounds.rows }
+    requires { HasMarks reach.old state.now.bounds.rows }
+    ensures room { HasMarks reach.new state.now.bounds.rows }
     ensures leak { LeakOn state.now steps before result }
 {
     if before.is_some() {

@@ -2,7 +2,7 @@
 
 ghost use Rattle.std.specs.Prelude.{◌≡◌, ◌<◌, ℕ, IfNone, IfSome, true, false};
 ghost use Rattle.std.specs.List.{list_any};
-ghost use Rattle.orc_trace.specs.Reaching.{HasRoom};
+ghost use Rattle.orc_trace.specs.Reaching.{HasMarks};
 ghost use Rattle.orc_trace.specs.Watched.{IsLeastLeak, at_rest, is_held, is_lost, rests, rests_at};
 
 use crate::reaching::Reach;
@@ -63,7 +63,7 @@ fn is_at_rest(state: &State) -> bool
 
 // The least row that is out and has no mark.
 fn first_lost(state: &State, reach: &Reach) -> Option<u32>
-    requires { HasRoom reach.now state.now.bounds.rows }
+    requires { HasMarks reach.now state.now.bounds.rows }
     ensures some { IfSome result (λ row. (row < state.now.bounds.rows) × (is_lost state.now reach.now.marks.items row ≡ true)
         × ((r : ℕ) → r < row → is_lost state.now reach.now.marks.items r ≡ false)) }
     ensures none { IfNone result ((r : ℕ) → r < state.now.bounds.rows → is_lost state.now reach.now.marks.items r ≡ false) }
@@ -78,9 +78,9 @@ fn first_lost(state: &State, reach: &Reach) -> Option<u32>
 
 /// The least row that leaks. Unless the state is at rest, no row is looked at. The marks are written over.
 pub fn leak_in(state: &State, reach: &mut Reach) -> Option<u32>
-    requires { HasRoom reach.old state.now.bounds.rows }
+    requires { HasMarks reach.old state.now.bounds.rows }
     ensures leak { IsLeastLeak state.now result }
-    ensures room { HasRoom reach.new state.now.bounds.rows }
+    ensures room { HasMarks reach.new state.now.bounds.rows }
 {
     if !is_at_rest(state) {
         return None;

@@ -7,7 +7,7 @@ ghost use Rattle.orc_core.specs.Machine.{new_machine};
 ghost use Rattle.orc_core.specs.Runs.{run};
 ghost use Rattle.orc_trace.specs.declared.answers.Replayed.{Replayed};
 ghost use Rattle.orc_trace.specs.declared.answers.TraceFault.{TraceFault};
-ghost use Rattle.orc_trace.specs.Replay.{Begins, IsReplay, IsStepFault, Refuses};
+ghost use Rattle.orc_trace.specs.Replay.{BeginsWithSteps, IsReplay, IsStepFault, Refuses};
 
 use crate::answers::{Replayed, TraceFault};
 use orc_core::{State, apply, census};
@@ -50,7 +50,7 @@ fn play_trace(alloc: Global, bytes: &[u8]) -> Result<Replayed, TraceFault>
 // Makes the steps of these lines on a new table, and answers how many they are.
 fn play(shape: &Shape, state: &mut State, lines: &[u8]) -> Result<u64, TraceFault>
     requires { state.old ≡ new_machine (bounds_of shape.now) }
-    ensures ok { IfOk result (λ number. (steps : List (ℕ × Op)) × Begins (bounds_of shape.now) state.old steps [] lines.now
+    ensures ok { IfOk result (λ number. (steps : List (ℕ × Op)) × BeginsWithSteps (bounds_of shape.now) state.old steps [] lines.now
         × (number ≡ length steps) × (state.new ≡ run state.old steps)) }
     ensures err { IfErr result (IsStepFault (bounds_of shape.now) state.old lines.now) }
 {

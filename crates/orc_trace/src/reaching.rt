@@ -6,7 +6,7 @@ ghost use Rattle.orc_words.specs.Places.{link_at};
 ghost use Rattle.orc_words.specs.declared.place.Word.{Word};
 ghost use Rattle.orc_core.specs.Counts.{links_to};
 ghost use Rattle.orc_trace.specs.Audit.{IsLinkedToARoot};
-ghost use Rattle.orc_trace.specs.Reaching.{AreFound, AreTargetsMarked, FindsMore, HasRoom, MarksReached, is_marked};
+ghost use Rattle.orc_trace.specs.Reaching.{AreFound, AreTargetsMarked, FindsMore, HasMarks, MarksReached, is_marked};
 
 use orc_core::State;
 use orc_fault::NoMemory;
@@ -23,7 +23,7 @@ pub struct Reach {
 impl Reach {
     /// For the rows of a table.
     pub fn new(alloc: Global, shape: &Shape) -> Result<Reach, NoMemory>
-        ensures { IfOk result (λ reach. HasRoom reach (bounds_of shape.now).rows) }
+        ensures { IfOk result (λ reach. HasMarks reach (bounds_of shape.now).rows) }
     {
         let rows = shape.rows() as usize;
         let marks = vec![in alloc; false; rows]?;
@@ -41,8 +41,8 @@ impl Reach {
 
     /// Marks the rows to which links lead from the roots, and no other.
     pub fn mark_reached(&mut self, state: &State)
-        requires { HasRoom self.old state.now.bounds.rows }
-        ensures room { HasRoom self.new state.now.bounds.rows }
+        requires { HasMarks self.old state.now.bounds.rows }
+        ensures room { HasMarks self.new state.now.bounds.rows }
         ensures reached { MarksReached state.now self.new.marks.items }
     {
         find_all(state, &mut self.marks, &mut self.found);

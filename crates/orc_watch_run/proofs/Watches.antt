@@ -14,7 +14,7 @@ use Rattle.orc_watch.specs.declared.line.WatchLine.TheVariants as line
 use Rattle.orc_watch.specs.declared.reply.WatchReply.{WatchReply}
 use Rattle.orc_watch.specs.declared.reply.WatchWord.TheVariants as word
 use Rattle.orc_watch_run.specs.CellView.{of_cell}
-use Rattle.orc_watch_run.specs.Follows.{Answered, Asks, CellShare, IsReplyShare, Watching}
+use Rattle.orc_watch_run.specs.Follows.{DidLine, AsksToPublish, CellShare, IsReplyShare, Watching}
 
 pub watching_none : {A : Type 0} (x : View A CellEntry CellRefused) (lines : List WatchLine) (worker : ℕ) (replies : List WatchReply) (j : List A)
     → replies ≡ [] → Watching x lines worker replies j j
@@ -23,9 +23,9 @@ watching_none x lines worker replies j e = record { shares = []; table = rw e tt
 pub watching_more : {A : Type 0} (x : View A CellEntry CellRefused) (lines : List WatchLine) (worker now index : ℕ) (l : WatchLine)
     (replies : List WatchReply) (r : WatchReply) (i j k : List A)
     → Watching x lines worker replies i j → now ≡ worker → r.worker ≡ worker → r.line ≡ index → slice_get lines index ≡ Some l
-    → Answered x now l r.what j k → Watching x lines worker (replies ++ r ∷ []) i k
+    → DidLine x now l r.what j k → Watching x lines worker (replies ++ r ∷ []) i k
 watching_more x lines worker now index l replies r i j k w e worker_is line_is at done0 =
-    let done : Answered x worker l r.what j k = subst (λ (a : ℕ). Answered x a l r.what j k) e done0 in
+    let done : DidLine x worker l r.what j k = subst (λ (a : ℕ). DidLine x a l r.what j k) e done0 in
     record {
       shares = w.shares ++ done.share ∷ [];
       table = Pointwise-snoc (IsReplyShare lines worker) replies w.shares r done.share w.table
@@ -39,7 +39,7 @@ own_many replies own e = sym (length-map replies (λ (r : WatchReply). r.line)) 
 
 -- what came of a publish
 pub was_set : {A : Type 0} (x : View A CellEntry CellRefused) (agent : ℕ) (l : WatchLine) (left right : Option ℕ) (a b : ℕ) (j k : List A)
-    → Asks l left right → Stretch of_cell x agent (Published agent left right a b ∷ []) j k → Answered x agent l (word.Set a b) j k
+    → AsksToPublish l left right → Stretch of_cell x agent (Published agent left right a b ∷ []) j k → DidLine x agent l (word.Set a b) j k
 was_set x agent l left right a b j k asks s = record {
   share = just (Published agent left right a b ∷ []);
   is = record { left = left; right = right; asks = asks; is = refl };
@@ -47,16 +47,16 @@ was_set x agent l left right a b j k asks s = record {
 }
 
 pub was_spent : {A : Type 0} (x : View A CellEntry CellRefused) (agent : ℕ) (l : WatchLine) (left right : Option ℕ) (why : SpentRow) (j k : List A)
-    → Asks l left right → Did of_cell x agent (refusal (refused.Spent why)) j k → Answered x agent l word.Spent j k
+    → AsksToPublish l left right → Did of_cell x agent (refusal (refused.Spent why)) j k → DidLine x agent l word.Spent j k
 was_spent x agent l left right why j k asks d =
     record { share = refusal (refused.Spent why); is = (why, record { left = left; right = right; asks = asks; is = refl }); did = d }
 
 pub had_no_node : {A : Type 0} (x : View A CellEntry CellRefused) (agent : ℕ) (l : WatchLine) (left right : Option ℕ) (why : CellRefused) (j k : List A)
-    → Asks l left right → why ≡ refused.NoNode → Did of_cell x agent (refusal why) j k → Answered x agent l word.NoNode j k
+    → AsksToPublish l left right → why ≡ refused.NoNode → Did of_cell x agent (refusal why) j k → DidLine x agent l word.NoNode j k
 had_no_node x agent l left right why j k asks is d =
     record { share = refusal why; is = record { left = left; right = right; asks = asks; is = ap (λ (w : CellRefused). refusal w) is }; did = d }
 
 pub was_seen : {A : Type 0} (x : View A CellEntry CellRefused) (agent : ℕ) (l : WatchLine) (a b : ℕ) (j k : List A)
-    → l ≡ line.See → Stretch of_cell x agent (Seen agent a b ∷ []) j k → Answered x agent l (word.Saw a b) j k
+    → l ≡ line.See → Stretch of_cell x agent (Seen agent a b ∷ []) j k → DidLine x agent l (word.Saw a b) j k
 was_seen x agent l a b j k is s =
     record { share = just (Seen agent a b ∷ []); is = (is, refl); did = Did-just of_cell x agent (Seen agent a b ∷ []) j k s }

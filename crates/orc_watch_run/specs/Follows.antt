@@ -22,35 +22,35 @@ abbrev pub CellShare : Type 0
 CellShare = Share CellEntry CellRefused
 
 -- the line asks to publish these parts, and keep one that isn't given
-abbrev pub Asks : WatchLine → Option ℕ → Option ℕ → Type 0
-Asks (line.Left value) left right = (left ≡ Some value) × (right ≡ None)
-Asks (line.Right value) left right = (left ≡ None) × (right ≡ Some value)
-Asks (line.Both first second) left right = (left ≡ Some first) × (right ≡ Some second)
-Asks line.See left right = ⊥
+abbrev pub AsksToPublish : WatchLine → Option ℕ → Option ℕ → Type 0
+AsksToPublish (line.Left value) left right = (left ≡ Some value) × (right ≡ None)
+AsksToPublish (line.Right value) left right = (left ≡ None) × (right ≡ Some value)
+AsksToPublish (line.Both first second) left right = (left ≡ Some first) × (right ≡ Some second)
+AsksToPublish line.See left right = ⊥
 
 -- the line asks to publish these parts, and both parts are these since
-pub record IsSet (agent : ℕ) (line : WatchLine) (x y : ℕ) (share : CellShare) : Type 0 where
+pub record IsPublished (agent : ℕ) (line : WatchLine) (x y : ℕ) (share : CellShare) : Type 0 where
   pub left : Option ℕ
   pub right : Option ℕ
-  pub asks : Asks line left right
+  pub asks : AsksToPublish line left right
   pub is : share ≡ just (Published agent left right x y ∷ [])
 
 -- the line asks to publish, which was refused for this cause
-pub record IsRefused (line : WatchLine) (why : CellRefused) (share : CellShare) : Type 0 where
+pub record IsRefusedPublish (line : WatchLine) (why : CellRefused) (share : CellShare) : Type 0 where
   pub left : Option ℕ
   pub right : Option ℕ
-  pub asks : Asks line left right
+  pub asks : AsksToPublish line left right
   pub is : share ≡ refusal why
 
 -- what the reply to a line says of the cell
 abbrev pub IsAnswer : ℕ → WatchLine → WatchWord → CellShare → Type 0
-IsAnswer agent l (word.Set x y) share = IsSet agent l x y share
+IsAnswer agent l (word.Set x y) share = IsPublished agent l x y share
 IsAnswer agent l (word.Saw x y) share = (l ≡ line.See) × (share ≡ just (Seen agent x y ∷ []))
-IsAnswer agent l word.NoNode share = IsRefused l refused.NoNode share
-IsAnswer agent l word.Spent share = (why : SpentRow) × IsRefused l (refused.Spent why) share
+IsAnswer agent l word.NoNode share = IsRefusedPublish l refused.NoNode share
+IsAnswer agent l word.Spent share = (why : SpentRow) × IsRefusedPublish l (refused.Spent why) share
 
 -- what an agent did with a line between these journals
-pub record Answered {A : Type 0} (x : View A CellEntry CellRefused) (agent : ℕ) (line : WatchLine) (what : WatchWord) (j k : List A) : Type 0 where
+pub record DidLine {A : Type 0} (x : View A CellEntry CellRefused) (agent : ℕ) (line : WatchLine) (what : WatchWord) (j k : List A) : Type 0 where
   pub share : CellShare
   pub is : IsAnswer agent line what share
   pub did : Did of_cell x agent share j k

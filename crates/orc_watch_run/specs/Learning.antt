@@ -23,7 +23,7 @@ module _ {L D P S : Type 0} (members : LinksOf L D P S PairsNote) (links : L) wh
     pub other : me ≢ w.agent
 
   -- what is known of the journal that a pass of the cell has seen
-  pub record IsKnown (p : P) : Type 0 where
+  pub record LawsTell (p : P) : Type 0 where
     pub grows : (seen more : List S) → IsPrefix (entries_of (members.events links seen)) (entries_of (members.events links (seen ++ more)))
     pub below : AllByRecursion (λ e. agent_of_entry e < members.agents links) (entries_of (members.events links (members.journal p)))
     pub legal : IsLegalCell (entries_of (members.events links (members.journal p)))

@@ -10,7 +10,7 @@ use Rattle.orc_watch.specs.declared.line.WatchLine.{WatchLine}
 use Rattle.orc_watch.specs.declared.reply.WatchReply.{WatchReply}
 use Rattle.orc_watch.specs.declared.reply.WatchWord.{WatchWord}
 use Rattle.orc_watch_run.specs.CellView.{cell_view, of_cell}
-use Rattle.orc_watch_run.specs.Follows.{Answered, Watching}
+use Rattle.orc_watch_run.specs.Follows.{DidLine, Watching}
 
 module _ {L D P S : Type 0} (members : LinksOf L D P S PairsNote) (links : L) where
   -- the call made these entries of its agent, and no others
@@ -28,7 +28,7 @@ module _ {L D P S : Type 0} (members : LinksOf L D P S PairsNote) (links : L) wh
 
   -- the pass's agent did with this line what the word says
   abbrev pub AnswersLine : P → P → WatchLine → WatchWord → Type 0
-  AnswersLine old new line what = Answered (cell_view members links) (agent members links old) line what (members.journal old) (members.journal new)
+  AnswersLine old new line what = DidLine (cell_view members links) (agent members links old) line what (members.journal old) (members.journal new)
 
   -- these replies are all that the worker did
   abbrev pub Watches : P → P → List WatchLine → ℕ → List WatchReply → Type 0

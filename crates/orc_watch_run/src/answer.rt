@@ -4,7 +4,7 @@ ghost use Rattle.std.specs.Prelude.{◌≡◌, ◌≢◌, ◌⊎◌, [], ◌∷�
 ghost use Rattle.orc_cell.specs.CellCalls.{IsUsable};
 ghost use Rattle.orc_cell.specs.declared.refused.CellRefused.{CellRefused};
 ghost use Rattle.orc_pairs_rule.specs.declared.entry.CellEntry.{CellEntry};
-ghost use Rattle.orc_watch_run.specs.Follows.{Asks};
+ghost use Rattle.orc_watch_run.specs.Follows.{AsksToPublish};
 ghost use Rattle.orc_watch_run.specs.WatchCalls.{AnswersLine, CellCall, CellRefuses, KeepsAgent};
 
 use orc_board::TURNS;
@@ -77,7 +77,7 @@ fn publish_word<R: Wait, L: Links<Rule = Pairs>>(
     right: Option<u64>,
 ) -> WatchWord
     requires usable { IsUsable L.Links cell.now.links p.old }
-    requires line { Asks line.now left right }
+    requires line { AsksToPublish line.now left right }
     ensures usable { IsUsable L.Links cell.now.links p.new }
     ensures agent { KeepsAgent L.Links cell.now.links p.old p.new }
     ensures answered { AnswersLine L.Links cell.now.links p.old p.new line.now result }

@@ -3,7 +3,7 @@
 ghost use Rattle.std.specs.Prelude.{◌≡◌, vec_len};
 ghost use Rattle.std.specs.List.{AllByRecursion};
 ghost use Rattle.orc_board.specs.Follows.{Pointwise};
-ghost use Rattle.orc_watch_run.specs.Learning.{IsKnown, IsOther, LearnsAll, LearnsOnce, SameWorker};
+ghost use Rattle.orc_watch_run.specs.Learning.{LawsTell, IsOther, LearnsAll, LearnsOnce, SameWorker};
 ghost use Rattle.orc_watch_run.specs.Passes.{IsPassOf};
 
 use crate::team::Worker;
@@ -60,7 +60,7 @@ pub(crate) fn learn_from_team<L: Links<Rule = Pairs>>(
     requires pass { IsPassOf L.Links cell.now.links me pass.old }
     requires others { AllByRecursion (IsOther L.Links cell.now.links me) others.old.items }
     ensures pass { IsPassOf L.Links cell.now.links me pass.new }
-    ensures known { IsKnown L.Links cell.now.links pass.new }
+    ensures known { LawsTell L.Links cell.now.links pass.new }
     ensures others { AllByRecursion (IsOther L.Links cell.now.links me) others.new.items }
     ensures same { Pointwise SameWorker others.old.items others.new.items }
     ensures len { vec_len others.new ≡ vec_len others.old }

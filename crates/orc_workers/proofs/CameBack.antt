@@ -23,7 +23,7 @@ use Rattle.orc_board.specs.Stretches.{View, queue_views, set_view, beside, all_b
 use Rattle.orc_board.specs.Table.{TakeEnds}
 use Rattle.orc_board.specs.Follows.{Pointwise, TakingRest, LastIsEmpty, IsWorker, none}
 use Rattle.orc_workers.specs.Team.{DidWork, DidPost, DidTake}
-use Rattle.orc_workers.specs.Learning.{IsKnown, IsOther, SameWorker, IsWhole, LearnsAllOfQueues, LearnsAllOfSet}
+use Rattle.orc_workers.specs.Learning.{LawsTell, IsOther, SameWorker, IsWhole, LearnsAllOfQueues, LearnsAllOfSet}
 use Rattle.orc_workers.specs.CameBack.{IsNew, IsTold, IsBack, AreNumbered, AllCameBack}
 use Rattle.orc_board.proofs.ListFacts.{le-cases, AllByRecursion-map}
 use Rattle.orc_board.proofs.Shares.{Did-just, Works-more, Stands-after, prefix_trans}
@@ -324,7 +324,7 @@ pub came_back : {Q S P R A B : Type 0} (q : QueueOf Q P A) (s : SetOf S R B) (qu
     → LearnsAllOfQueues q s queue rush set 0 d2 d3 us ts → LearnsAllOfSet q s queue rush set 0 d2 d3 us ts
     → Pointwise SameWorker us ts
     → IsDesk q s queue rush set 0 d3
-    → IsKnown q s queue rush set (suc (posters + takers)) (suc (posters + takers)) (suc (posters + takers)) d3
+    → LawsTell q s queue rush set (suc (posters + takers)) (suc (posters + takers)) (suc (posters + takers)) d3
     → AllByRecursion (IsOther q s queue rush set 0) ts
     → AllCameBack q s queue rush set lines posters takers d3 takes ts
 came_back {P = P} {R = R} {A = A} {B = B} q s queue rush set lines posters takers d0 d1 d2 d3 takes ws vs us ts laws below1 below3 new new2 num many fresh
@@ -427,7 +427,7 @@ for_both P f t false = f
 for_both P f t true = t
 
 pub known_as : {Q S P R A B : Type 0} (q : QueueOf Q P A) (s : SetOf S R B) (queue rush : Q) (set : S) (a b c x : ℕ) (desk : Desk P R)
-    → a ≡ x → b ≡ x → c ≡ x → IsKnown q s queue rush set a b c desk → IsKnown q s queue rush set x x x desk
+    → a ≡ x → b ≡ x → c ≡ x → LawsTell q s queue rush set a b c desk → LawsTell q s queue rush set x x x desk
 known_as q s queue rush set a b c x desk e f h k =
-    subst (λ (n : ℕ). IsKnown q s queue rush set n x x desk) e
-    (subst (λ (n : ℕ). IsKnown q s queue rush set a n x desk) f (subst (λ (n : ℕ). IsKnown q s queue rush set a b n desk) h k))
+    subst (λ (n : ℕ). LawsTell q s queue rush set n x x desk) e
+    (subst (λ (n : ℕ). LawsTell q s queue rush set a n x desk) f (subst (λ (n : ℕ). LawsTell q s queue rush set a b n desk) h k))

@@ -25,7 +25,7 @@ use Rattle.orc_workers.specs.declared.team.Worker.{Worker}
 use Rattle.orc_board.specs.Stretches.{View, queue_views, set_view, beside, all_beside, pick, Row}
 use Rattle.orc_board.specs.Follows.{Pointwise, TakerRow, Posting, TakingRest, ZeroLast, LastIsEmpty, IsWorker, own_records, by_key, taker_agent, posts_of, takes_of, none}
 use Rattle.orc_workers.specs.Desks.{AreIdle, HaveSeen}
-use Rattle.orc_workers.specs.CameBack.{IsTold, IsBack, AreNumbered, AllCameBack, IsOver}
+use Rattle.orc_workers.specs.CameBack.{IsTold, IsBack, AreNumbered, AllCameBack, HasEnded}
 use Rattle.orc_workers.specs.Seats.{all_of}
 use Rattle.orc_board.proofs.ListFacts.{AllByRecursion-append, AllByRecursion-map, le-cases}
 use Rattle.orc_board.proofs.Ends.{posters_of}
@@ -240,7 +240,7 @@ pub over_of : {Q S P R A B : Type 0} (q : QueueOf Q P A) (s : SetOf S R B) (queu
     → AllCameBack q s queue rush set lines posters takers desk own ws
     → desks ≡ (desk ∷ []) ++ map (λ (w : Worker P R). w.desk) ws → posts ≡ [] ++ all_of (λ (w : Worker P R). w.posts.items) ws
     → takes ≡ own ++ all_of (λ (w : Worker P R). w.takes.items) ws
-    → IsOver q s queue rush set lines posters takers desks posts takes
+    → HasEnded q s queue rush set lines posters takers desks posts takes
 over_of {P = P} {R = R} {A = A} q s queue rush set lines posters takers desk own ws desks posts takes some short first many c desks_are posts_are takes_are =
     let C : ℕ → Type 0 = IsWorker posters takers in
     let k : Bool → List A = seen_in q desk in
@@ -260,14 +260,14 @@ over_of {P = P} {R = R} {A = A} q s queue rush set lines posters takers desk own
       | inl e ↦ inl (λ b. zero_ended (es b) (legal b) (c.queues_zero_last b) (e b))
       | inr full ↦ inr (omega (arith, full, more))
     ] in
-    let is : IsOver q s queue rush set lines posters takers (desk ∷ map (λ (w : Worker P R). w.desk) ws) posts takes = record {
+    let is : HasEnded q s queue rush set lines posters takers (desk ∷ map (λ (w : Worker P R). w.desk) ws) posts takes = record {
       idle = (c.caller, idle_desks q s queue rush set lines k n 1 ws c.numbered c.back);
       all = ap suc (length-map ws (λ (w : Worker P R). w.desk) ∙ many);
       seen = (((λ b. refl), refl), seen_desks q s queue rush set lines k n ws c.back);
       ran = ran_board (queue_views q queue rush) (set_view s set) lines posters takers posts takes k n some c.none_first
           (λ b agent seen from to h. let big = c.known.many_puts b agent seen from to h in omega (arith, big, first b)) short legal c.known.set_legal end work;
     } in
-    subst (λ (ds : List (Desk P R)). IsOver q s queue rush set lines posters takers ds posts takes) (sym desks_are) is
+    subst (λ (ds : List (Desk P R)). HasEnded q s queue rush set lines posters takers ds posts takes) (sym desks_are) is
 
 -- there are no more replies of either kind than lines
 pub few_replies : {Q S P R A B : Type 0} (q : QueueOf Q P A) (s : SetOf S R B) (queue rush : Q) (set : S) (lines : List Line) (posters takers : ℕ)

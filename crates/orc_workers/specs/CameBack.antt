@@ -18,7 +18,7 @@ use Rattle.orc_board.specs.Desk.{IsDesk, seen_in}
 use Rattle.orc_workers.specs.Desks.{AreIdle, HaveSeen, queue_seen, set_seen}
 use Rattle.orc_board.specs.Stretches.{View, queue_views, set_view, beside, all_beside, pick}
 use Rattle.orc_board.specs.Follows.{TakingRest, ZeroLast, LastIsEmpty, IsWorker, none}
-use Rattle.orc_workers.specs.Learning.{IsKnown}
+use Rattle.orc_workers.specs.Learning.{LawsTell}
 use Rattle.orc_workers.specs.Team.{DidPost, DidTake}
 use Rattle.orc_board.specs.Runs.{Ran}
 
@@ -49,7 +49,7 @@ pub record IsBack {Q S P R A B : Type 0} (q : QueueOf Q P A) (s : SetOf S R B) (
 pub record AllCameBack {Q S P R A B : Type 0} (q : QueueOf Q P A) (s : SetOf S R B) (queue rush : Q) (set : S) (lines : List Line) (posters takers : ℕ)
     (desk : Desk P R) (takes : List TakeReply) (ws : List (Worker P R)) : Type 0 where
   pub caller : IsDesk q s queue rush set 0 desk
-  pub known : IsKnown q s queue rush set (suc (posters + takers)) (suc (posters + takers)) (suc (posters + takers)) desk
+  pub known : LawsTell q s queue rush set (suc (posters + takers)) (suc (posters + takers)) (suc (posters + takers)) desk
   pub none_first : (b : Bool) → q.history (pick queue rush b) [] ≡ []
   pub numbered : AreNumbered 1 ws
   pub back : AllByRecursion (IsBack q s queue rush set lines (seen_in q desk) (s.journal desk.set)) ws
@@ -63,7 +63,7 @@ pub record AllCameBack {Q S P R A B : Type 0} (q : QueueOf Q P A) (s : SetOf S R
   pub last : ((b : Bool) → LastIsEmpty 0 (q.history (pick queue rush b) (seen_in q desk b))) ⊎ (length lines ≤ length takes)
 
 -- what a run leaves: idle desks in order, which have all seen the same journals, and replies that follow these
-pub record IsOver {Q S P R A B : Type 0} (q : QueueOf Q P A) (s : SetOf S R B) (queue rush : Q) (set : S) (lines : List Line) (posters takers : ℕ)
+pub record HasEnded {Q S P R A B : Type 0} (q : QueueOf Q P A) (s : SetOf S R B) (queue rush : Q) (set : S) (lines : List Line) (posters takers : ℕ)
     (desks : List (Desk P R)) (posts : List PostReply) (takes : List TakeReply) : Type 0 where
   pub idle : AreIdle q s queue rush set 0 desks
   pub all : length desks ≡ suc (posters + takers)

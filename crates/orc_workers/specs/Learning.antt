@@ -26,7 +26,7 @@ pub record SameWorker {P R : Type 0} (w v : Worker P R) : Type 0 where
   pub takes_are : v.takes ≡ w.takes
 
 -- what the laws of the containers say, and say of the journals of an idle desk
-pub record IsKnown {Q S P R A B : Type 0} (q : QueueOf Q P A) (s : SetOf S R B) (queue rush : Q) (set : S) (queue_agents rush_agents set_agents : ℕ)
+pub record LawsTell {Q S P R A B : Type 0} (q : QueueOf Q P A) (s : SetOf S R B) (queue rush : Q) (set : S) (queue_agents rush_agents set_agents : ℕ)
     (desk : Desk P R) : Type 0 where
   pub queues_grow : (b : Bool) (seen more : List A) → IsPrefix (q.history (pick queue rush b) seen) (q.history (pick queue rush b) (seen ++ more))
   pub set_grows : (seen more : List B) → IsPrefix (s.history set seen) (s.history set (seen ++ more))

@@ -3,7 +3,7 @@ ghost use Rattle.std.specs.Prelude.{◌≡◌, vec_len};
 ghost use Rattle.std.specs.List.{AllByRecursion};
 ghost use Rattle.orc_board.specs.Desk.{IsDesk};
 ghost use Rattle.orc_board.specs.Follows.{Pointwise};
-ghost use Rattle.orc_workers.specs.Learning.{IsKnown, IsOther, SameWorker, LearnsQueues, LearnsSet, LearnsAllOfQueues, LearnsAllOfSet};
+ghost use Rattle.orc_workers.specs.Learning.{LawsTell, IsOther, SameWorker, LearnsQueues, LearnsSet, LearnsAllOfQueues, LearnsAllOfSet};
 
 use crate::team::Worker;
 use orc_board::Desk;
@@ -68,7 +68,7 @@ pub(crate) fn learn_from_team<Q: LearnQueue, S: LearnSet>(
     requires desk { IsDesk Q.SharedQueue S.SharedSet queue.now rush.now set.now me desk.old }
     requires others { AllByRecursion (IsOther Q.SharedQueue S.SharedSet queue.now rush.now set.now me) others.old.items }
     ensures desk { IsDesk Q.SharedQueue S.SharedSet queue.now rush.now set.now me desk.new }
-    ensures known { IsKnown Q.SharedQueue S.SharedSet queue.now rush.now set.now (Q.agents queue.now) (Q.agents rush.now) (S.agents set.now) desk.new }
+    ensures known { LawsTell Q.SharedQueue S.SharedSet queue.now rush.now set.now (Q.agents queue.now) (Q.agents rush.now) (S.agents set.now) desk.new }
     ensures others { AllByRecursion (IsOther Q.SharedQueue S.SharedSet queue.now rush.now set.now me) others.new.items }
     ensures same { Pointwise SameWorker others.old.items others.new.items }
     ensures len { vec_len others.new ≡ vec_len others.old }

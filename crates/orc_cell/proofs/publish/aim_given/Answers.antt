@@ -1,7 +1,7 @@
 -- A given part is staged, so it isn't the fresh node.
 use Rattle.std.proofs.Common.{subst, sym}
 use Rattle.orc_heap.specs.Slots.{id_in}
-use Rattle.orc_cell.specs.Publishes.{AimsGiven, IsReady, SideHeld, staging_root}
+use Rattle.orc_cell.specs.Publishes.{AimsGiven, IsHalfReady, SideHeld, staging_root}
 use Rattle.orc_cell.specs.declared.publish.New.{New}
 use Rattle.orc_cell.proofs.Aiming.{staged_not_fresh}
 use Rattle.orc_cell.proofs.Pieces.{Known}
@@ -47,7 +47,7 @@ returns-in-Zero-clause-aimed g c =
     let pair = c.args.pair.now in
     none_given n c.args.half s pair c.args.new.now c.requires.fresh
     (g.met.L.Links.fresh_is d o (id_in s.slots pair) c.requires.pass c.requires.fresh.fresh)
-    (subst (λ (x : New). IsReady n c.args.half pair x s) (sym c.in-Zero.is) tt)
+    (subst (λ (x : New). IsHalfReady n c.args.half pair x s) (sym c.in-Zero.is) tt)
 
 pub returns-in-Kept-clause-aimed : goal.returns-in-Kept-clause-aimed
 returns-in-Kept-clause-aimed g c =
@@ -58,4 +58,4 @@ returns-in-Kept-clause-aimed g c =
     let pair = c.args.pair.now in
     none_given n c.args.half s pair c.args.new.now c.requires.fresh
     (g.met.L.Links.fresh_is d o (id_in s.slots pair) c.requires.pass c.requires.fresh.fresh)
-    (subst (λ (x : New). IsReady n c.args.half pair x s) (sym c.in-Kept.is) tt)
+    (subst (λ (x : New). IsHalfReady n c.args.half pair x s) (sym c.in-Kept.is) tt)

@@ -1,7 +1,7 @@
 -- By what is known of the part.
 use Rattle.std.proofs.Common.{Ok, ap, refl, subst, sym}
 use Rattle.orc_heap.specs.Seats.{heap_of, place_in}
-use Rattle.orc_cell.specs.Publishes.{Aims, IsNewPart, IsReady, SideHeld, given_of, staging_root}
+use Rattle.orc_cell.specs.Publishes.{Aims, IsNewPart, IsHalfReady, SideHeld, given_of, staging_root}
 use Rattle.orc_cell.specs.declared.publish.New.{New}
 use Rattle.orc_cell.proofs.Readying.{ready_aimed}
 use Rattle.orc_cell.proofs.publish.aim_next.Goals as goal
@@ -15,7 +15,7 @@ returns-in-Given-clause-aimed g c =
     let pair = c.args.pair.now in
     let place = place_in s.slots c.args.place.now in
     let staged = subst (λ (x : New). SideHeld n (staging_root half s.agent) x s) c.in-Given.is c.requires.new in
-    let ready = subst (λ (x : New). IsReady n half pair x s) c.in-Given.is c.requires.ready in
+    let ready = subst (λ (x : New). IsHalfReady n half pair x s) c.in-Given.is c.requires.ready in
     subst (λ (x : New). Aims n half pair (IsNewPart (heap_of n s) place x) s (Ok c.in-Given.value) s) (sym c.in-Given.is)
     (_, refl, ready_aimed n half s _ pair _ c.in-Given.value staged c.requires.fresh ready)
 

@@ -5,7 +5,7 @@ use Rattle.orc_heap.specs.Seats.{heap_of}
 use Rattle.orc_heap.specs.Slots.{Slots, id_in}
 use Rattle.orc_heap.specs.declared.events.Place.TheVariants.{Next}
 use Rattle.orc_fifo_rule.specs.Watches.{WasNamed}
-use Rattle.orc_queue.specs.Turns.{FindsEnd, TakesNext}
+use Rattle.orc_queue.specs.Turns.{FindsEnd, TakesFromHead}
 use Rattle.orc_queue.proofs.Holding.{found_holds, found_kept, found_other, found_other_id, pass_known}
 use Rattle.orc_queue.proofs.Looking.{FindsNull, HoldsNext, next_held, next_link, next_null, null_named}
 use Rattle.orc_queue.proofs.Pieces.{named_puts}
@@ -95,7 +95,7 @@ returns-in-Some-clause-took g c =
     let head = c.args.head.now in
     let next = c.in-Stable-default-Some.next in
     let e = c.take_next-took.ensures in
-    let got = subst (λ (o : Option (ℕ × ℕ)). TakesNext n (id_in a.slots head) (id_in a.slots next) a o b) c.in-Some.is e.took in
+    let got = subst (λ (o : Option (ℕ × ℕ)). TakesFromHead n (id_in a.slots head) (id_in a.slots next) a o b) c.in-Some.is e.took in
     next_taken n _ a b _ 2 head next c.requires.held f c.in-Stable-default-Some.ensures.looked.fresh (g.met.L.Links.allowed d c.take_next-took.new.p e.pass)
     (λ i is. g.met.L.Links.fresh_is d c.take_next-took.new.p i e.pass is) c.release.ensures.released _ _ got
 
@@ -109,7 +109,7 @@ returns-in-None-clause-took g c =
     let head = c.args.head.now in
     let next = c.in-Stable-default-Some.next in
     let e = c.take_next-took.ensures in
-    let got = subst (λ (o : Option (ℕ × ℕ)). TakesNext n (id_in a.slots head) (id_in a.slots next) a o b) c.in-None.is e.took in
+    let got = subst (λ (o : Option (ℕ × ℕ)). TakesFromHead n (id_in a.slots head) (id_in a.slots next) a o b) c.in-None.is e.took in
     next_over n _ a b _ 2 head next c.requires.held f c.in-Stable-default-Some.ensures.looked.fresh (g.met.L.Links.allowed d c.take_next-took.new.p e.pass)
     (λ i is. g.met.L.Links.fresh_is d c.take_next-took.new.p i e.pass is) c.release.ensures.released got
 

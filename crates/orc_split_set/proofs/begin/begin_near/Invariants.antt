@@ -6,7 +6,7 @@ use Rattle.orc_ordered_search.specs.Searches.{HasRoom, Quiet}
 use Rattle.orc_split_rule.specs.SplitDiscipline.{IsSize, greatest}
 use Rattle.orc_split_rule.specs.SplitOrder.{bucket_of, dummy_place}
 use Rattle.orc_split_rule.specs.declared.split.SplitNote.{SplitNote}
-use Rattle.orc_split_set.specs.Beginnings.{Held, MayBegin}
+use Rattle.orc_split_set.specs.Beginnings.{Held, MayBeginAt}
 use Rattle.orc_split_set.specs.Crowds.{SeesOwn}
 use Rattle.orc_split_set.specs.Looks.{HasStart}
 use Rattle.orc_split_set.specs.NewNodes.{value_of}
@@ -19,7 +19,7 @@ invariant-loop-size g l = record {
   pass : g.L.Links.belongs l.links l.p;
   later : IsPrefix (g.L.Links.journal l.fn.p) (g.L.Links.journal l.p);
   size : IsSize (greatest (g.L.Links.numbers l.links)) l.size;
-  begins : MayBegin l.new l.size;
+  begins : MayBeginAt l.new l.size;
   by : dummy_place (bucket_of (value_of l.new) l.size) ≤ dummy_place (bucket_of (value_of l.new) l.fn.size);
   room : HasRoom (g.L.Links.seat l.links l.p).slots;
   agent : (g.L.Links.seat l.links l.p).agent ≡ (g.L.Links.seat l.links l.fn.p).agent;

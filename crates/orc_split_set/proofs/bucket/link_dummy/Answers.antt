@@ -8,7 +8,7 @@ use Rattle.orc_ordered_search.proofs.Inserting.{seen_holds}
 use Rattle.orc_ordered_search.proofs.Marking.{within_wider}
 use Rattle.orc_split_rule.specs.SplitDiscipline.{IsDummy}
 use Rattle.orc_split_rule.specs.declared.split.SplitNote.{SplitNote}
-use Rattle.orc_split_set.specs.Rootings.{HasDummy}
+use Rattle.orc_split_set.specs.Rootings.{HasNewDummy}
 use Rattle.orc_split_set.specs.SplitSearches.{split_reading}
 use Rattle.orc_split_set.proofs.Ordered.{split_ordering}
 use Rattle.orc_split_set.proofs.Rooting.{added_roots, dummy_held, missed_roots, refused_roots, spent_row}
@@ -18,7 +18,7 @@ use Rattle.orc_split_set.proofs.bucket.link_dummy.Goals as goal
 
 -- the dummy was linked
 linked : (g : Over) (c : In-Ok-true g) → let d = c.args.links.now in let n = g.L.Links.numbers d in let a = c.args in
-    (s : Seat SplitNote) (w : HasDummy n a.bucket a.left a.first a.right a.dummy s (g.L.Links.seat d a.p.now))
+    (s : Seat SplitNote) (w : HasNewDummy n a.bucket a.left a.first a.right a.dummy s (g.L.Links.seat d a.p.now))
     → AddsNode (split_reading n) a.bucket 0 [] a.dummy w.id 1 (slots_with s.slots (Some a.dummy) w.id) s (Ok true) (g.L.Links.seat d c.add_node.new.p)
 linked g c = λ s w.
     let d = c.args.links.now in
@@ -32,7 +32,7 @@ linked g c = λ s w.
 
 -- the left place showed another link
 missed : (g : Over) (c : In-Ok-false g) → let d = c.args.links.now in let n = g.L.Links.numbers d in let a = c.args in
-    (s : Seat SplitNote) (w : HasDummy n a.bucket a.left a.first a.right a.dummy s (g.L.Links.seat d a.p.now))
+    (s : Seat SplitNote) (w : HasNewDummy n a.bucket a.left a.first a.right a.dummy s (g.L.Links.seat d a.p.now))
     → AddsNode (split_reading n) a.bucket 0 [] a.dummy w.id 1 (slots_with s.slots (Some a.dummy) w.id) s (Ok false) (g.L.Links.seat d c.add_node.new.p)
 missed g c = λ s w.
     let d = c.args.links.now in
@@ -46,7 +46,7 @@ missed g c = λ s w.
 
 -- a row was worn
 refused : (g : Over) (c : In-Err g) → let d = c.args.links.now in let n = g.L.Links.numbers d in let a = c.args in
-    (s : Seat SplitNote) (w : HasDummy n a.bucket a.left a.first a.right a.dummy s (g.L.Links.seat d a.p.now))
+    (s : Seat SplitNote) (w : HasNewDummy n a.bucket a.left a.first a.right a.dummy s (g.L.Links.seat d a.p.now))
     → AddsNode (split_reading n) a.bucket 0 [] a.dummy w.id 1 (slots_with s.slots (Some a.dummy) w.id) s (Err c.in-Err.spent) (g.L.Links.seat d c.add_node.new.p)
 refused g c = λ s w.
     let d = c.args.links.now in

@@ -1,7 +1,7 @@
 use Rattle.std.proofs.Common.{rules, true, false, ◌≡◌, ◌∙◌, ◌+◌, List, ℕ, arith, sym, subst}
 use Rattle.orc_words.specs.Bounds.{bounds_of}
 use Rattle.orc_core.specs.Machine.{Machine, is_allowed, step}
-use Rattle.orc_trace.specs.Replay.{Begins}
+use Rattle.orc_trace.specs.Replay.{BeginsWithSteps}
 use Rattle.orc_trace_text.proofs.Lines.{shape-in_range}
 use Rattle.orc_trace.proofs.Plays.{Continues, Continues-here, Continues-start, Continues-step, none-left, room-here, some-left, step-shorter}
 use Rattle.orc_trace.proofs.playing.play.Goals as goal
@@ -48,4 +48,4 @@ returns-clause-ok c =
     let here = Continues-here (bounds_of c.args.shape.now) c.args.state.now c.args.lines.now c.loop-rest.steps c.loop-rest.state c.loop-rest.rest.now
     c.loop-rest.invariant.so in
     let empty = none-left c.loop-rest.rest.now (sym c.is_empty.ensures ∙ c.loop-rest-test.false) in
-    (here.0, subst (λ (x : List ℕ). Begins (bounds_of c.args.shape.now) c.args.state.now here.0 x c.args.lines.now) empty here.1, sym here.2, sym here.3)
+    (here.0, subst (λ (x : List ℕ). BeginsWithSteps (bounds_of c.args.shape.now) c.args.state.now here.0 x c.args.lines.now) empty here.1, sym here.2, sym here.3)

@@ -4,7 +4,7 @@ use Rattle.orc_history.specs.SetHistory.{agent_of_set_entry}
 use Rattle.orc_board.specs.Desk.{seen_in}
 use Rattle.orc_board.specs.Stretches.{queue_views, set_view}
 use Rattle.orc_board.specs.Follows.{TakingRest, IsWorker}
-use Rattle.orc_workers.specs.Learning.{IsKnown}
+use Rattle.orc_workers.specs.Learning.{LawsTell}
 use Rattle.std.specs.List.{AllByRecursion}
 use Rattle.orc_board.proofs.Wholes.{Below}
 use Rattle.orc_workers.proofs.Teams.{team_each}
@@ -50,7 +50,7 @@ returns-clause-back g c =
           (all_below agent_of_entry _ _ _ _ c.requires.agents.1 (e3.known.queues_below true));
       set_below = all_below agent_of_set_entry _ _ _ _ c.requires.agents.2 e3.known.set_below;
     } in
-    let known : IsKnown g.Q.SharedQueue g.S.SharedSet queue rush set (suc N) (suc N) (suc N) d3 =
+    let known : LawsTell g.Q.SharedQueue g.S.SharedSet queue rush set (suc N) (suc N) (suc N) d3 =
     known_as g.Q.SharedQueue g.S.SharedSet queue rush set _ _ _ _ d3 (omega (arith, c.requires.agents.0)) (omega (arith, c.requires.agents.1))
     (omega (arith, c.requires.agents.2)) e3.known in
     let taking = subst (λ (a : ℕ). TakingRest qv sv c.args.lines.now 0 a c.take_rest.new.replies.items (seen_in g.Q.SharedQueue d1)
