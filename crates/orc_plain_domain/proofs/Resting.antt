@@ -32,6 +32,13 @@ use Rattle.orc_plain_domain.proofs.Counting.{bit_free, bit_out, nodes_given, out
 use Rattle.orc_plain_domain.proofs.Growing.{still_adds, still_of, tie}
 use Rattle.orc_plain_domain.proofs.Learning.{first_more, grow_seen}
 
+-- a pass that makes steps alone has still taken in all others
+pub covers_on : {N : Type 0} (agents : ℕ) (s t : PlainView N) → t.agent ≡ s.agent → t.absorbed ≡ s.absorbed → CoversAll agents s → CoversAll agents t
+covers_on agents s t own same all = λ agent low. elim (all agent low) [
+  | inl mine ↦ inl (own ∙ mine)
+  | inr taken ↦ inr (subst (λ z. Among agent z) (sym same) taken)
+]
+
 pub first_removed : {A : Type 0} (xs : List A) (x : A) → x ≡ slice_index_or xs 0 x → 0 < length xs → xs ≡ x ∷ drop 1 xs
 first_removed [] x e l = absurd (omega (arith, l))
 first_removed (y ∷ xs) x e l = ap (λ z. z ∷ xs) (sym e)

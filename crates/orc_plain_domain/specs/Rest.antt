@@ -12,7 +12,7 @@ use Rattle.orc_plain_board.specs.declared.machine.Plain.{Plain}
 use Rattle.orc_plain_board.specs.declared.machine.PlainOp.{PlainOp}
 use Rattle.orc_plain_board.specs.declared.machine.PlainStep.{PlainStep}
 use Rattle.orc_plain_board.specs.declared.shape.PlainShape.{PlainShape}
-use Rattle.orc_plain_domain.specs.Passes.{IsPassOf, seat_of}
+use Rattle.orc_plain_domain.specs.Passes.{IsPassOf, domain_bounds, seat_of}
 use Rattle.orc_plain_domain.specs.declared.domain.PlainDomain.{PlainDomain}
 use Rattle.orc_plain_domain.specs.declared.domain.PlainRest.{PlainRest}
 
@@ -42,9 +42,10 @@ module _ {D N : Type 0} {d : discipline.Ghosts D N} {m : machine.Ghosts Plain N 
   abbrev pub rest_rows : PlainRest D N d m → List ℕ
   rest_rows r = (shows r.domain.board r.pass.pass).rows
 
-  -- the pass that is left is one of the domain's, so its board has shown this list
-  abbrev pub IsShown : PlainRest D N d m → Type 0
-  IsShown r = IsPassOf r.domain r.pass
+  -- the pass that is left is one of the domain's, so its board has shown this list; and it took in all others, so the list is whole
+  pub record IsShown (r : PlainRest D N d m) : Type 0 where
+    pub belongs : IsPassOf r.domain r.pass
+    pub all : CoversAll (domain_bounds r.domain).agents (shows r.domain.board r.pass.pass)
 
   -- this is the domain at rest, whose board has shown one whole list of events
   pub record IsRestOf (domain : PlainDomain D N) (r : PlainRest D N d m) : Type 0 where

@@ -2,10 +2,11 @@
 
 ghost use Rattle.std.specs.Prelude.{◌≡◌, ◌+◌, [], All, IfOk, refl};
 ghost use Rattle.orc_any_domain.specs.Domains.{AreAllIdle, heap_numbers};
+ghost use Rattle.orc_heap.specs.Moves.{gives_in};
 ghost use Rattle.orc_heap.specs.Seeds.{SeedAllowed, opening_events};
 ghost use Rattle.orc_plain_domain.specs.Ends.{AreAll, AreIdle, FirstSawAll};
 ghost use Rattle.orc_plain_domain.specs.Passes.{domain_bounds, domain_opening, seat_of};
-ghost use Rattle.orc_plain_domain.specs.Rest.{IsRestOf};
+ghost use Rattle.orc_plain_domain.specs.Rest.{IsRestOf, rest_journal};
 ghost use Rattle.orc_words.specs.Bounds.{bounds_of};
 
 use crate::domain::{PlainDomain, PlainPass, PlainRest};
@@ -62,6 +63,9 @@ impl<D: Discipline> Domain for PlainDomain<D> {
     }
 
     fn counts(rest: &PlainRest<D>) -> RowCounts
+        ensures given { result.given ≡ gives_in (rest_journal rest.now) }
+        ensures reused { result.reused ≡ 0 }
+        ensures linked { result.linked ≡ gives_in (rest_journal rest.now) }
         ensures balance { (domain : _) → IsRestOf domain rest.now → result.given ≡ result.reused + result.linked }
     {
         RowCounts {

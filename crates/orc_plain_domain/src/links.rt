@@ -1,13 +1,14 @@
 //! The calls of links, over a board.
 
-ghost use Rattle.std.specs.Prelude.{◌≡◌, ◌+◌, ◌%◌, ℕ, ◌∷◌, [], None, Some, IfErr, IfOk, refl, true};
+ghost use Rattle.std.specs.Prelude.{◌≡◌, ◌≢◌, ◌<◌, ◌+◌, ◌%◌, ℕ, ◌∷◌, [], None, Some, IfErr, IfOk, refl, true};
 ghost use mathlib.Core.List.{IsPrefix};
 ghost use Rattle.orc_fault.specs.declared.Spent.{Spent};
-ghost use Rattle.orc_heap.specs.Calls.{Gives, MayLook, MayMove, RefusesSwing, Swings, Tests};
+ghost use Rattle.orc_heap.specs.Calls.{Gives, Learns, Looks, MayAim, MayAimSide, MayLook, MayMove, MovesOn, ReadsValue, RefusesAim, RefusesSwing, Releases, Swings, Tests, aim_of, aim_side_of, fill_of};
+ghost use Rattle.orc_heap.specs.Journals.{run_heap};
 ghost use Rattle.orc_heap.specs.OwnEvents.{Only};
 ghost use Rattle.orc_history.specs.Parts.{InPart};
-ghost use Rattle.orc_heap.specs.Slots.{IsFree};
-ghost use Rattle.orc_heap.specs.Seats.{HoldsPlace, HoldsWant, IsNotFresh, Seat};
+ghost use Rattle.orc_heap.specs.Slots.{Holds, IsFree, id_in};
+ghost use Rattle.orc_heap.specs.Seats.{HoldsFresh, HoldsPlace, HoldsTarget, HoldsWant, IsIdle, IsNotFresh, IsOutside, place_in};
 ghost use Rattle.orc_plain_domain.specs.Given.{IsLacking};
 ghost use Rattle.orc_plain_domain.specs.Passes.{IsPassOf, domain_bounds, domain_numbers, journal_of, next_row, rows_of, seat_of};
 ghost use Rattle.orc_plain_domain.specs.Turns.{IsNext};
@@ -89,12 +90,28 @@ impl<D: Discipline> Links for PlainDomain<D> {
         Err(NoNode)
     }
 
-    fn fill(&self, p: &mut PlainPass<D>, fresh: &Held, which: u32, value: u64) {
+    fn fill(&self, p: &mut PlainPass<D>, fresh: &Held, which: u32, value: u64)
+        requires pass { IsPassOf self.now p.old }
+        requires fresh { HoldsFresh (seat_of self.now p.old) fresh.now }
+        requires which { which < 2 }
+        ensures pass { IsPassOf self.now p.new }
+        ensures later { IsPrefix (journal_of p.old) (journal_of p.new) }
+        ensures filled { Only (fill_of (seat_of self.now p.old) fresh.now which value ∷ []) (seat_of self.now p.old) (seat_of self.now p.new) }
+        ensures next { next_row p.new ≡ next_row p.old }
+    {
         self.board.fill(&mut p.pass, fresh.row(), which, value);
     }
 
     #[inline(always)]
-    fn look(&self, p: &mut PlainPass<D>, place: &At, slot: u32) -> Looked {
+    fn look(&self, p: &mut PlainPass<D>, place: &At, slot: u32) -> Looked
+        requires pass { IsPassOf self.now p.old }
+        requires place { HoldsPlace (domain_numbers self.now) (seat_of self.now p.old).slots place.now }
+        requires slot { IsFree (seat_of self.now p.old).slots slot }
+        ensures pass { IsPassOf self.now p.new }
+        ensures later { IsPrefix (journal_of p.old) (journal_of p.new) }
+        ensures looked { Looks (place_in (seat_of self.now p.old).slots place.now) slot (seat_of self.now p.old) result (seat_of self.now p.new) }
+        ensures next { next_row p.new ≡ next_row p.old }
+    {
         let word = word_at(place);
         let one = self.load(p, word);
         let mark = one.mark;
@@ -110,7 +127,18 @@ impl<D: Discipline> Links for PlainDomain<D> {
     }
 
     #[inline(always)]
-    fn look_on(&self, p: &mut PlainPass<D>, place: &At, from: Held, slot: u32) -> LookedOn {
+    fn look_on(&self, p: &mut PlainPass<D>, place: &At, from: Held, slot: u32) -> LookedOn
+        requires pass { IsPassOf self.now p.old }
+        requires place { HoldsPlace (domain_numbers self.now) (seat_of self.now p.old).slots place.now }
+        requires from { Holds (seat_of self.now p.old).slots from }
+        requires linked { (seat_of self.now p.old).fresh ≢ Some (id_in (seat_of self.now p.old).slots from) }
+        requires outside { IsOutside from place.now }
+        requires slot { IsFree (seat_of self.now p.old).slots slot }
+        ensures pass { IsPassOf self.now p.new }
+        ensures later { IsPrefix (journal_of p.old) (journal_of p.new) }
+        ensures looked { MovesOn (place_in (seat_of self.now p.old).slots place.now) slot (seat_of self.now p.old) from result (seat_of self.now p.new) }
+        ensures next { next_row p.new ≡ next_row p.old }
+    {
         let word = word_at(place);
         let one = self.load(p, word);
         let mark = one.mark;
@@ -150,6 +178,7 @@ impl<D: Discipline> Links for PlainDomain<D> {
         ensures pass { IsPassOf self.now p.new }
         ensures later { IsPrefix (journal_of p.old) (journal_of p.new) }
         ensures tested { Tests place.now link.now note (seat_of self.now p.old) result (seat_of self.now p.new) }
+        ensures next { next_row p.new ≡ next_row p.old }
     {
         let want = row_link(link);
         let found = self
@@ -158,16 +187,50 @@ impl<D: Discipline> Links for PlainDomain<D> {
         found == pack_link(want)
     }
 
-    fn value(&self, p: &mut PlainPass<D>, h: &Held, which: u32) -> u64 {
+    fn value(&self, p: &mut PlainPass<D>, h: &Held, which: u32) -> u64
+        requires pass { IsPassOf self.now p.old }
+        requires held { Holds (seat_of self.now p.old).slots h.now }
+        requires which { which < 2 }
+        ensures pass { IsPassOf self.now p.new }
+        ensures later { IsPrefix (journal_of p.old) (journal_of p.new) }
+        ensures value { ReadsValue (run_heap (domain_numbers self.now) (seat_of self.now p.new).seen) (id_in (seat_of self.now p.old).slots h.now) which result }
+        ensures nothing { Only [] (seat_of self.now p.old) (seat_of self.now p.new) }
+        ensures next { next_row p.new ≡ next_row p.old }
+    {
         self.board.read(&mut p.pass, h.row(), which)
     }
 
-    fn aim(&self, p: &mut PlainPass<D>, fresh: &Held, to: Option<&Held>) -> Result<(), Spent> {
+    fn aim(&self, p: &mut PlainPass<D>, fresh: &Held, to: Option<&Held>) -> Result<(), Spent>
+        requires pass { IsPassOf self.now p.old }
+        requires fresh { HoldsFresh (seat_of self.now p.old) fresh.now }
+        requires target { HoldsTarget (seat_of self.now p.old) to }
+        requires allowed { MayAim (D.may (domain_numbers self.now)) (domain_numbers self.now) (seat_of self.now p.old) fresh.now to }
+        ensures pass { IsPassOf self.now p.new }
+        ensures later { IsPrefix (journal_of p.old) (journal_of p.new) }
+        ensures aimed { IfOk result (λ _. Only (aim_of (seat_of self.now p.old) fresh.now to.entry ∷ []) (seat_of self.now p.old) (seat_of self.now p.new)) }
+        ensures none { IfErr result (λ e. Only [] (seat_of self.now p.old) (seat_of self.now p.new)) }
+        ensures spent { IfErr result (λ e. RefusesAim (seat_of self.now p.old).slots to.entry e (seat_of self.now p.new).seen) }
+        ensures worn { IfErr result (λ e. ⊥) }
+        ensures next { next_row p.new ≡ next_row p.old }
+    {
         self.store(p, fresh, 0, to);
         Ok(())
     }
 
-    fn aim_side(&self, p: &mut PlainPass<D>, fresh: &Held, to: Option<&Held>) -> Result<(), Spent> {
+    fn aim_side(&self, p: &mut PlainPass<D>, fresh: &Held, to: Option<&Held>) -> Result<(), Spent>
+        requires pass { IsPassOf self.now p.old }
+        requires two { (domain_numbers self.now).links ≡ 2 }
+        requires fresh { HoldsFresh (seat_of self.now p.old) fresh.now }
+        requires target { HoldsTarget (seat_of self.now p.old) to }
+        requires allowed { MayAimSide (D.may (domain_numbers self.now)) (domain_numbers self.now) (seat_of self.now p.old) fresh.now to }
+        ensures pass { IsPassOf self.now p.new }
+        ensures later { IsPrefix (journal_of p.old) (journal_of p.new) }
+        ensures aimed { IfOk result (λ _. Only (aim_side_of (seat_of self.now p.old) fresh.now to.entry ∷ []) (seat_of self.now p.old) (seat_of self.now p.new)) }
+        ensures none { IfErr result (λ e. Only [] (seat_of self.now p.old) (seat_of self.now p.new)) }
+        ensures spent { IfErr result (λ e. RefusesAim (seat_of self.now p.old).slots to.entry e (seat_of self.now p.new).seen) }
+        ensures worn { IfErr result (λ e. ⊥) }
+        ensures next { next_row p.new ≡ next_row p.old }
+    {
         self.store(p, fresh, 1, to);
         Ok(())
     }
@@ -191,6 +254,7 @@ impl<D: Discipline> Links for PlainDomain<D> {
         ensures none { IfErr result (λ e. Only [] (seat_of self.now p.old) (seat_of self.now p.new)) }
         ensures spent { IfErr result (λ e. RefusesSwing (seat_of self.now p.old).slots from.now to.now e (seat_of self.now p.new).seen) }
         ensures worn { IfErr result (λ e. ⊥) }
+        ensures next { next_row p.new ≡ next_row p.old }
     {
         let moved = self.board.link_cas(
             &mut p.pass,
@@ -202,15 +266,36 @@ impl<D: Discipline> Links for PlainDomain<D> {
         Ok(moved == 1)
     }
 
-    fn release(&self, p: &mut PlainPass<D>, h: Held) {
+    fn release(&self, p: &mut PlainPass<D>, h: Held)
+        requires pass { IsPassOf self.now p.old }
+        requires held { Holds (seat_of self.now p.old).slots h }
+        ensures pass { IsPassOf self.now p.new }
+        ensures later { IsPrefix (journal_of p.old) (journal_of p.new) }
+        ensures released { Releases (seat_of self.now p.old) h (seat_of self.now p.new) }
+        ensures next { next_row p.new ≡ next_row p.old }
+    {
         self.retire(p, h.row());
         p.slots[h.slot() as usize] = None;
         h.end();
     }
 
-    fn settle(&self, p: &mut PlainPass<D>) {}
+    fn settle(&self, p: &mut PlainPass<D>)
+        requires pass { IsPassOf self.now p.old }
+        requires idle { IsIdle (seat_of self.now p.old) }
+        ensures pass { IsPassOf self.now p.new }
+        ensures later { IsPrefix (journal_of p.old) (journal_of p.new) }
+        ensures nothing { Only [] (seat_of self.now p.old) (seat_of self.now p.new) }
+        ensures next { next_row p.new ≡ next_row p.old }
+    {}
 
-    fn learn(&self, into: &mut PlainPass<D>, from: &mut PlainPass<D>) {
+    fn learn(&self, into: &mut PlainPass<D>, from: &mut PlainPass<D>)
+        requires passes { IsPassOf self.now into.old × IsPassOf self.now from.old }
+        requires agents { (seat_of self.now into.old).agent ≢ (seat_of self.now from.old).agent }
+        ensures passes { IsPassOf self.now into.new × IsPassOf self.now from.new }
+        ensures learned { Learns (λ e. e.agent) (seat_of self.now into.old) (seat_of self.now from.old) (seat_of self.now into.new)
+            (seat_of self.now from.new) (journal_of into.old) (journal_of from.old) (journal_of into.new) (journal_of from.new) }
+        ensures next { (next_row into.new ≡ next_row into.old) × (next_row from.new ≡ next_row from.old) }
+    {
         self.board.learn(&mut into.pass, &mut from.pass);
     }
 

@@ -81,6 +81,7 @@ impl<D: Discipline> PlainDomain<D> {
         requires pass { IsPassOf self.now p.old }
         requires alone { CoversAll (domain_bounds self.now).agents (shows self.now.board p.old.pass) }
         ensures pass { IsPassOf self.now p.new }
+        ensures alone { CoversAll (domain_bounds self.now).agents (shows self.now.board p.new.pass) }
         ensures seen { (seat_of self.now p.new).seen ≡ (seat_of self.now p.old).seen }
         ensures count { result ≡ gives_in (seat_of self.now p.old).seen }
     {

@@ -76,6 +76,7 @@ impl<D: Discipline> PlainDomain<D> {
         ensures pass { IsPassOf self.now p.new }
         ensures later { IsPrefix (journal_of p.old) (journal_of p.new) }
         ensures aimed { Only (aim_at (seat_of self.now p.old) number fresh.now to.entry ∷ []) (seat_of self.now p.old) (seat_of self.now p.new) }
+        ensures next { next_row p.new ≡ next_row p.old }
     {
         let link = target_link(to);
         self.board
