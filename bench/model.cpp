@@ -2,12 +2,12 @@
 // choices, no answers. The words lie as in the domain's table, and each call makes the loads and the locked steps that the
 // domain makes where nobody disturbs it:
 //
-//   an enqueue                     10 loads, 13 locked steps
-//   a dequeue                      14 + 8 x agents loads, 14 locked steps: it frees the dummy, and scans all slots for it
-//   a search that visits n nodes   5 + 3 n loads, 4 + n locked steps
+//   an enqueue                     11 loads, 13 locked steps
+//   a dequeue                      15 + 8 x agents loads, 14 locked steps: it frees the dummy, and scans all slots for it
+//   a search that visits n nodes   6 + 3 n loads, 4 + n locked steps
 //
-// Without the steps that save others, in which a handover word is exchanged without a look, a swing counts down behind slot 0, and a
-// slot is emptied before it names another row:
+// Without the steps that save others, in which a handover word is exchanged without a look, a swing counts down behind slot 0, which
+// is taken in from right after and not once more at the call's end, and a slot is emptied before it names another row:
 //
 //   an enqueue                     8 loads, 18 locked steps
 //   a dequeue                      10 + 8 x agents loads, 20 locked steps
@@ -78,6 +78,9 @@ template <bool SAVES> struct Table {
 
   // What follows a count down.
   Number counted_down() { return SAVES ? 0 : unlock(0); }
+
+  // What each call ends with, as counts down under other slots' holds leave slot 0 alone.
+  Number end_call() { return SAVES ? take_in(handover(0)) : 0; }
 };
 
 Number link_to(Number row) { return 2 * (row + 1); }
@@ -127,6 +130,7 @@ template <bool SAVES> struct Queue {
     Number handed = table.counted_down();
     handed |= table.unlock(1);
     handed |= table.unlock(2);
+    handed |= table.end_call();
     if (handed) std::abort();
   }
 
@@ -150,6 +154,7 @@ template <bool SAVES> struct Queue {
     Number handed = table.counted_down();
     handed |= table.unlock(2);
     handed |= table.unlock(1);
+    handed |= table.end_call();
 
     Number start = table.counter(dummy).load();
     for (Number agent = 0; agent < table.agents; agent++)
@@ -218,6 +223,7 @@ template <bool SAVES> struct List {
       link = next;
     }
     if (has_left) handed |= table.unlock(left);
+    handed |= table.end_call();
     if (handed) std::abort();
     return found;
   }

@@ -10,7 +10,7 @@ ghost use Rattle.orc_heap.specs.Seats.{HoldsFresh, HoldsPlace, HoldsTarget, Hold
 ghost use Rattle.orc_heap.specs.Slots.{Holds, IsFree, id_in};
 ghost use Rattle.orc_history.specs.Parts.{InPart, IsAlone};
 ghost use Rattle.orc_domain.specs.Causes.{IsLacking, IsWornIn};
-ghost use Rattle.orc_machine_rest.specs.OwnSteps.{AtMostMore, LeavesNothing, most_rounds, steps_a_round};
+ghost use Rattle.orc_machine_rest.specs.OwnSteps.{AtMostMore, HasTakenIn, LeavesNothing, most_rounds, steps_a_round};
 ghost use Rattle.orc_domain.specs.OwnSteps.{TakesInFree};
 ghost use Rattle.orc_domain.specs.Passes.{IsPassOf, domain_bounds, domain_numbers, journal_of, next_row, seat_of};
 ghost use Rattle.orc_domain.specs.Searches.{Found};
@@ -325,9 +325,9 @@ impl<D: Discipline> Links for OrcDomain<D> {
         h.end();
     }
 
-    /// Works through the retired rows that the pass has in its work list, in hand or scanned, in at most
-    /// `4 * (rows + 8 * agents)` rounds: those that nothing links or holds are freed. Some remain only where another agent
-    /// steps meanwhile.
+    /// Takes in what was handed over beside slot 0, and works through the retired rows that the pass has in its work list, in
+    /// hand or scanned, in at most `4 * (rows + 8 * agents)` rounds: those that nothing links or holds are freed. Some remain
+    /// only where another agent steps meanwhile.
     fn settle(&self, p: &mut OrcPass<D>)
         requires pass { IsPassOf self.now p.old }
         requires idle { IsIdle (seat_of self.now p.old) }
@@ -336,7 +336,8 @@ impl<D: Discipline> Links for OrcDomain<D> {
         ensures nothing { Only [] (seat_of self.now p.old) (seat_of self.now p.new) }
         ensures settled { IsAlone (λ s. s.agent) (seat_of self.now p.old).agent (journal_of p.old) (journal_of p.new)
             → backlog_in (shows p.new.pass).record_is ≡ 0 }
-        ensures few { AtMostMore (seat_of self.now p.old).agent (most_rounds (domain_bounds self.now) * steps_a_round (domain_bounds self.now))
+        ensures slot_0 { HasTakenIn (seat_of self.now p.old).agent 0 (journal_of p.old) (journal_of p.new) }
+        ensures few { AtMostMore (seat_of self.now p.old).agent (1 + most_rounds (domain_bounds self.now) * steps_a_round (domain_bounds self.now))
             (journal_of p.old) (journal_of p.new) }
         ensures taken_in { LeavesNothing (seat_of self.now p.old).agent (journal_of p.old) (journal_of p.new) }
         ensures next { next_row p.new ≡ next_row p.old }

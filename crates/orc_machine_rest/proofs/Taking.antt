@@ -3,20 +3,22 @@ use Rattle.std.proofs.Common.{List, [], refl, subst, sym, ℕ, ◌++◌, ◌+◌
 use Rattle.std.proofs.Math.Decide.{dec_lt}
 use mathlib.Core.List.{IsPrefix}
 use mathlib.Core.Logic.{dite}
-use Rattle.orc_machine_rest.specs.Drains.{Drains, Takes, TakesInFrom}
-use Rattle.orc_machine_rest.proofs.Joins.{adds_none, adds_then}
+use Rattle.orc_machine_rest.specs.Drains.{Drains, Takes, TakesInAndSettles, TakesInFrom}
+use Rattle.orc_machine_rest.proofs.Joins.{adds_leaves, adds_none, adds_then}
 use Rattle.orc_machine_rest.proofs.Makes.{added_adds}
 use Rattle.orc_machine_rest.proofs.Passes.{added, bounds_are, made, mine}
 use Rattle.orc_machine_rest.proofs.TakenIn.{taken_since, taken_then}
-use Rattle.orc_machine_rest.specs.OwnSteps.{HasTakenIn}
-use Rattle.orc_machine_rest.specs.Parts.{Settles}
+use Rattle.orc_machine_rest.specs.OwnSteps.{HasTakenIn, LeavesNothing}
+use Rattle.orc_machine_rest.specs.Parts.{Adds, NoEvents, Settles}
 use Rattle.orc_machine_rest.specs.Passes.{IsPassOf, record_of, state_of}
 use Rattle.orc_core.specs.Allowed.{may}
 use Rattle.orc_core.specs.Machine.{record_at}
+use Rattle.orc_core.specs.declared.ops.Op.{Op}
 use Rattle.orc_core.specs.declared.ops.Op.TheVariants.{TakeIn}
 use Rattle.orc_core.specs.declared.records.Agent.{Agent}
 use Rattle.orc_rest.proofs.Draining.{drained}
 use Rattle.orc_rest.proofs.TakingIn.{made_between, take_slot, took_more, took_none}
+use Rattle.orc_heap.proofs.Steps.{alone_later}
 use Rattle.orc_heap.specs.declared.discipline.Discipline as discipline
 use Rattle.orc_machine_board.specs.Kinds.{MakesPlain, MayDo}
 use Rattle.orc_machine_board.specs.Rules.{run_of}
@@ -31,7 +33,7 @@ use Rattle.orc_rest.specs.Turns.{IsReachedState, NoneHanded}
 use Rattle.orc_shared_words.specs.declared.machine.Machine as machine
 use Rattle.orc_sound.specs.declared.steps.Step.{Step}
 use Rattle.orc_words.specs.Bounds.{Bounds}
-use Rattle.orc_machine_rest.proofs.Alone.{Parts, alone_parts}
+use Rattle.orc_machine_rest.proofs.Alone.{Parts, alone_done, alone_parts}
 use Rattle.orc_history.specs.Parts.{IsAlone}
 
 module _ {D N : Type 0} {d : discipline.Ghosts D N} {m : machine.Ghosts Reclaiming N (MachineShape N) Request (Step N) Agent Agent} (board : MachineBoard D N)
@@ -99,3 +101,25 @@ module _ {N : Type 0} (b : Bounds) (a : ℕ) (s t : MachineView N) (p : Drains b
 
   pub alone_taken : NoneHanded a (run_of b t.journal)
   alone_taken = p.drained.hands parts.before parts.after parts.is parts.others parts.mine
+
+-- what was handed over beside slot 0 is taken in, and then the agent settles
+module _ {N : Type 0} (b : Bounds) (a : ℕ) (s t : MachineView N) (p : TakesInAndSettles b a s t) where
+  abbrev both_steps : List (ℕ × Op)
+  both_steps = (p.takes.made.others ++ (a, TakeIn 0) ∷ []) ++ p.settles.settled.steps
+
+  adds_both : Adds b a both_steps s t
+  adds_both = adds_then b a (p.takes.made.others ++ (a, TakeIn 0) ∷ []) p.settles.settled.steps s p.between t p.takes.adds p.settles.adds
+
+  pub both_quiet : NoEvents b a s.journal t.journal
+  both_quiet = adds_both.quiet
+
+  pub both_leave : LeavesNothing a s.journal t.journal
+  both_leave = adds_leaves b a both_steps s t adds_both
+
+  -- where no other agent has a step in the part of both, nothing is left to the agent
+  pub both_done : IsAlone (λ (x : Step N). x.agent) a s.journal t.journal → IsDone (record_at (run_of b t.journal) a)
+  both_done alone =
+      let one = p.takes.adds in
+      let rest = p.settles.adds in
+      alone_done b a p.between t p.settles (alone_later (λ (x : Step N). x.agent) a s.journal p.between.journal t.journal
+      (one.part, sym one.journal) (rest.part, sym rest.journal) alone)

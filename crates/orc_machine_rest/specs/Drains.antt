@@ -1,6 +1,6 @@
--- What the parts of a drain add to what its pass has seen.
+-- What a pass that takes in and settles, and the parts of a drain, add to what it has seen.
 use Rattle.std.specs.Prelude.{[], ◌++◌, ◌∷◌, ℕ}
-use Rattle.orc_machine_rest.specs.Parts.{Adds}
+use Rattle.orc_machine_rest.specs.Parts.{Adds, Settles}
 use Rattle.orc_core.specs.declared.ops.Op.TheVariants.{TakeIn}
 use Rattle.orc_rest.specs.Drains.{Drained, TookIn}
 use Rattle.orc_machine_board.specs.Rules.{run_of}
@@ -18,6 +18,12 @@ module _ {N : Type 0} where
   pub record TakesInFrom (b : Bounds) (a k : ℕ) (s t : MachineView N) : Type 0 where
     pub took : TookIn a k (run_of b s.journal) (run_of b t.journal)
     pub adds : Adds b a took.steps s t
+
+  -- the agent took in what was handed over beside slot 0, and settled
+  pub record TakesInAndSettles (b : Bounds) (a : ℕ) (s t : MachineView N) : Type 0 where
+    pub between : MachineView N
+    pub takes : Takes b a 0 s between
+    pub settles : Settles b a between t
 
   -- the agent drained
   pub record Drains (b : Bounds) (a : ℕ) (s t : MachineView N) : Type 0 where

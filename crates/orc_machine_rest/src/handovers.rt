@@ -1,7 +1,7 @@
 //! Taking in slot by slot, and draining.
 
 ghost use Rattle.std.specs.Prelude.{◌≡◌, ◌<◌, ◌≤◌, ◌+◌, ◌-◌, ◌*◌, ℕ};
-ghost use Rattle.orc_machine_rest.specs.Drains.{Drains, Takes, TakesInFrom};
+ghost use Rattle.orc_machine_rest.specs.Drains.{Drains, TakesInFrom};
 ghost use Rattle.orc_machine_rest.specs.OwnSteps.{AtMostMore, HasTakenIn, LeavesNothing, TakesInAll, most_rounds, steps_a_round};
 ghost use Rattle.orc_machine_rest.specs.Parts.{NoEvents};
 ghost use Rattle.orc_machine_rest.specs.Passes.{IsPassOf, record_of, state_of};
@@ -10,23 +10,10 @@ ghost use Rattle.orc_machine_board.specs.Views.{Belongs, board_bounds, shows};
 ghost use Rattle.orc_rest.specs.Records.{IsBetweenRounds, IsDone};
 ghost use Rattle.orc_rest.specs.Turns.{NoneHanded};
 
-use crate::settle;
+use crate::rounds::settle_all;
+use crate::steps::take_in;
 use orc_heap::Discipline;
 use orc_machine_board::{MachineBoard, MachineBoardPass};
-
-// Takes in what was handed over beside a slot.
-fn take_in<D: Discipline>(board: &MachineBoard<D>, p: &mut MachineBoardPass<D>, agent: u32, k: u32)
-    requires pass { IsPassOf board.now agent p.old }
-    requires between { IsBetweenRounds (record_of board.now agent p.old) }
-    requires slot { k < 8 }
-    ensures pass { IsPassOf board.now agent p.new }
-    ensures between { IsBetweenRounds (record_of board.now agent p.new) }
-    ensures takes { Takes (board_bounds board.now) agent k (shows p.old) (shows p.new) }
-    ensures taken_in { HasTakenIn agent k (shows p.old).journal (shows p.new).journal }
-    ensures few { AtMostMore agent 1 (shows p.old).journal (shows p.new).journal }
-{
-    let _ = board.take_in(p, k);
-}
 
 // Takes in what was handed over beside this slot and each later one.
 fn take_in_from<D: Discipline>(
@@ -64,7 +51,7 @@ fn drain_own<D: Discipline>(board: &MachineBoard<D>, p: &mut MachineBoardPass<D>
 {
     take_in(board, p, agent, 0);
     take_in_from(board, p, agent, 1);
-    settle(board, p);
+    settle_all(board, p, agent);
 }
 
 /// Takes in what was handed over beside each of the eight slots, and settles, in at most `4 * (rows + 8 * agents)` rounds. What is

@@ -1,7 +1,8 @@
 //! Rounds, and settling by as many of them as it takes.
 
-ghost use Rattle.std.specs.Prelude.{◌≡◌, ◌-◌, ◌*◌, ◌≤◌, IfSome, None, true};
-ghost use Rattle.orc_machine_rest.specs.OwnSteps.{AtMostMore, LeavesNothing, most_rounds, steps_a_round};
+ghost use Rattle.std.specs.Prelude.{◌≡◌, ◌-◌, ◌+◌, ◌*◌, ◌≤◌, IfSome, None, true};
+ghost use Rattle.orc_machine_rest.specs.Drains.{TakesInAndSettles};
+ghost use Rattle.orc_machine_rest.specs.OwnSteps.{AtMostMore, HasTakenIn, LeavesNothing, most_rounds, steps_a_round};
 ghost use Rattle.orc_machine_rest.specs.Parts.{MakesRounds, NoEvents, Opens, Settles};
 ghost use Rattle.orc_machine_rest.specs.Passes.{IsPassOf, record_of};
 ghost use Rattle.orc_core.specs.RecordParts.{scans};
@@ -9,7 +10,7 @@ ghost use Rattle.orc_history.specs.Parts.{IsAlone};
 ghost use Rattle.orc_machine_board.specs.Views.{Belongs, board_bounds, shows};
 ghost use Rattle.orc_rest.specs.Records.{IsBetweenRounds, IsDone, IsNext, IsScanOf, IsStill};
 
-use crate::steps::{free_doomed, kept, look_step, settle_step, unretire_scanned};
+use crate::steps::{free_doomed, kept, look_step, settle_step, take_in, unretire_scanned};
 use orc_core::{CounterUse, Op};
 use orc_heap::Discipline;
 use orc_machine_board::{MachineBoard, MachineBoardPass};
@@ -139,7 +140,11 @@ fn settle_rounds<D: Discipline>(
 }
 
 // Makes as many rounds as it takes, and at most `4 * (rows + 8 * agents)`.
-fn settle_all<D: Discipline>(board: &MachineBoard<D>, p: &mut MachineBoardPass<D>, agent: u32)
+pub(crate) fn settle_all<D: Discipline>(
+    board: &MachineBoard<D>,
+    p: &mut MachineBoardPass<D>,
+    agent: u32,
+)
     requires pass { IsPassOf board.now agent p.old }
     requires between { IsBetweenRounds (record_of board.now agent p.old) }
     ensures pass { IsPassOf board.now agent p.new }
@@ -156,8 +161,9 @@ fn settle_all<D: Discipline>(board: &MachineBoard<D>, p: &mut MachineBoardPass<D
     }
 }
 
-/// Works through the retired rows that the pass has in its work list, in hand or scanned, in at most
-/// `4 * (rows + 8 * agents)` rounds, of `8 * agents + 6 * links + 4` steps at most. Some remain only where another agent steps meanwhile.
+/// Takes in what was handed over beside slot 0, and works through the retired rows that the pass has in its work list, in hand or
+/// scanned, in at most `4 * (rows + 8 * agents)` rounds, of `8 * agents + 6 * links + 4` steps at most. Some remain only where another
+/// agent steps meanwhile.
 pub fn settle<D: Discipline>(board: &MachineBoard<D>, p: &mut MachineBoardPass<D>)
     requires belongs { Belongs board.now p.old }
     requires between { IsBetweenRounds (shows p.old).record_is }
@@ -167,10 +173,12 @@ pub fn settle<D: Discipline>(board: &MachineBoard<D>, p: &mut MachineBoardPass<D
     ensures quiet { NoEvents (board_bounds board.now) (shows p.old).agent (shows p.old).journal (shows p.new).journal }
     ensures taken_in { LeavesNothing (shows p.old).agent (shows p.old).journal (shows p.new).journal }
     ensures done { IsAlone (λ s. s.agent) (shows p.old).agent (shows p.old).journal (shows p.new).journal → IsDone (shows p.new).record_is }
-    ensures settles { Settles (board_bounds board.now) (shows p.old).agent (shows p.old) (shows p.new) }
-    ensures few { AtMostMore (shows p.old).agent (most_rounds (board_bounds board.now) * steps_a_round (board_bounds board.now))
+    ensures settles { TakesInAndSettles (board_bounds board.now) (shows p.old).agent (shows p.old) (shows p.new) }
+    ensures slot_0 { HasTakenIn (shows p.old).agent 0 (shows p.old).journal (shows p.new).journal }
+    ensures few { AtMostMore (shows p.old).agent (1 + most_rounds (board_bounds board.now) * steps_a_round (board_bounds board.now))
         (shows p.old).journal (shows p.new).journal }
 {
     let agent = p.agent();
+    take_in(board, p, agent, 0);
     settle_all(board, p, agent);
 }

@@ -1,7 +1,8 @@
 //! The parts of a round: steps, and what follows one another without a choice.
 
 ghost use Rattle.std.specs.Prelude.{◌≡◌, ◌<◌, ◌*◌, ◌+◌, None, Some, [], ◌∷◌, false, true};
-ghost use Rattle.orc_machine_rest.specs.OwnSteps.{AtMostMore, TakesInCleared, answers_word};
+ghost use Rattle.orc_machine_rest.specs.Drains.{Takes};
+ghost use Rattle.orc_machine_rest.specs.OwnSteps.{AtMostMore, HasTakenIn, TakesInCleared, answers_word};
 ghost use Rattle.orc_core.specs.After.{after};
 ghost use Rattle.orc_machine_rest.specs.Parts.{Goes, Opens};
 ghost use Rattle.orc_machine_rest.specs.Passes.{IsPassOf, record_of, state_of};
@@ -134,6 +135,25 @@ pub(crate) fn leave_slot_zero<D: Discipline>(
 {
     let _ = board.clear(p, 0);
     let _ = board.take_in(p, 0);
+}
+
+// Takes in what was handed over beside a slot.
+pub(crate) fn take_in<D: Discipline>(
+    board: &MachineBoard<D>,
+    p: &mut MachineBoardPass<D>,
+    agent: u32,
+    k: u32,
+)
+    requires pass { IsPassOf board.now agent p.old }
+    requires between { IsBetweenRounds (record_of board.now agent p.old) }
+    requires slot { k < 8 }
+    ensures pass { IsPassOf board.now agent p.new }
+    ensures between { IsBetweenRounds (record_of board.now agent p.new) }
+    ensures takes { Takes (board_bounds board.now) agent k (shows p.old) (shows p.new) }
+    ensures taken_in { HasTakenIn agent k (shows p.old).journal (shows p.new).journal }
+    ensures few { AtMostMore agent 1 (shows p.old).journal (shows p.new).journal }
+{
+    let _ = board.take_in(p, k);
 }
 
 // Tries the bit of a row that is due.

@@ -1,15 +1,38 @@
-use Rattle.std.proofs.Common.{subst, sym, ◌*◌}
-use Rattle.orc_machine_rest.proofs.Alone.{alone_done}
+use Rattle.std.proofs.Common.{arith, subst, sym, ◌*◌, ◌+◌}
 use Rattle.orc_machine_rest.proofs.Passes.{mine, pass_of}
-use Rattle.orc_machine_rest.specs.OwnSteps.{AtMostMore, most_rounds, steps_a_round}
-use Rattle.orc_machine_rest.specs.Parts.{Settles}
+use Rattle.orc_machine_rest.proofs.TakenIn.{taken_then}
+use Rattle.orc_machine_rest.proofs.Taking.{both_done, both_leave, both_quiet}
+use Rattle.orc_machine_rest.specs.Drains.{TakesInAndSettles}
+use Rattle.orc_machine_rest.specs.OwnSteps.{AtMostMore, HasTakenIn, LeavesNothing, most_rounds, steps_a_round}
+use Rattle.orc_machine_rest.specs.Parts.{NoEvents}
 use Rattle.orc_machine_rest.specs.Passes.{record_of}
 use Rattle.orc_machine_board.specs.Views.{board_bounds, shows}
 use Rattle.orc_rest.specs.Records.{IsDone}
 use Rattle.orc_machine_rest.proofs.rounds.settle.Goals as goal
 
-pub settle_all-requires-clause-pass : goal.settle_all-requires-clause-pass
-settle_all-requires-clause-pass g c = pass_of c.args.board.now c.agent-agent.result c.args.p.now c.requires.belongs (sym c.agent-agent.ensures)
+pub take_in-requires-clause-pass : goal.take_in-requires-clause-pass
+take_in-requires-clause-pass g c = pass_of c.args.board.now c.agent-agent.result c.args.p.now c.requires.belongs (sym c.agent-agent.ensures)
+
+pub returns-clause-settles : goal.returns-clause-settles
+returns-clause-settles g c =
+    subst (λ a. TakesInAndSettles (board_bounds c.args.board.now) a (shows c.args.p.now) (shows c.settle_all.new.p)) c.agent-agent.ensures
+    (record { between = shows c.take_in.new.p; takes = c.take_in.ensures.takes; settles = c.settle_all.ensures.settles })
+
+pub returns-clause-quiet : goal.returns-clause-quiet
+returns-clause-quiet g c =
+    let b = board_bounds c.args.board.now in
+    let s = shows c.args.p.now in
+    let t = shows c.settle_all.new.p in
+    subst (λ a. NoEvents b a s.journal t.journal) c.agent-agent.ensures (both_quiet b c.agent-agent.result s t
+    (record { between = shows c.take_in.new.p; takes = c.take_in.ensures.takes; settles = c.settle_all.ensures.settles }))
+
+pub returns-clause-taken_in : goal.returns-clause-taken_in
+returns-clause-taken_in g c =
+    let b = board_bounds c.args.board.now in
+    let s = shows c.args.p.now in
+    let t = shows c.settle_all.new.p in
+    subst (λ a. LeavesNothing a s.journal t.journal) c.agent-agent.ensures (both_leave b c.agent-agent.result s t
+    (record { between = shows c.take_in.new.p; takes = c.take_in.ensures.takes; settles = c.settle_all.ensures.settles }))
 
 pub returns-clause-done : goal.returns-clause-done
 returns-clause-done g c = λ alone.
@@ -18,12 +41,25 @@ returns-clause-done g c = λ alone.
     let s = shows c.args.p.now in
     let t = shows c.settle_all.new.p in
     let its = c.agent-agent.ensures in
-    let settles = subst (λ a. Settles b a s t) its c.settle_all.ensures.settles in
+    let both : TakesInAndSettles b s.agent s t = subst (λ a. TakesInAndSettles b a s t) its
+    (record { between = shows c.take_in.new.p; takes = c.take_in.ensures.takes; settles = c.settle_all.ensures.settles }) in
     subst IsDone (mine board c.agent-agent.result c.settle_all.new.p c.settle_all.ensures.pass)
-    (subst (λ a. IsDone (record_of board a c.settle_all.new.p)) (sym its) (alone_done b s.agent s t settles alone))
+    (subst (λ a. IsDone (record_of board a c.settle_all.new.p)) (sym its) (both_done b s.agent s t both alone))
+
+pub returns-clause-slot_0 : goal.returns-clause-slot_0
+returns-clause-slot_0 g c =
+    let s = shows c.args.p.now in
+    let t = shows c.settle_all.new.p in
+    let rest = c.settle_all.ensures.settles.adds in
+    subst (λ a. HasTakenIn a 0 s.journal t.journal) c.agent-agent.ensures (taken_then c.agent-agent.result 0 s.journal (shows c.take_in.new.p).journal t.journal
+    c.take_in.ensures.taken_in (rest.part, sym rest.journal))
 
 pub returns-clause-few : goal.returns-clause-few
 returns-clause-few g c =
     let b = board_bounds c.args.board.now in
-    subst (λ a. AtMostMore a (most_rounds b * steps_a_round b) (shows c.args.p.now).journal (shows c.settle_all.new.p).journal)
-    c.agent-agent.ensures c.settle_all.ensures.few
+    let s = shows c.args.p.now in
+    let t = shows c.settle_all.new.p in
+    let one = c.take_in.ensures.few in
+    let rest = c.settle_all.ensures.few in
+    let few : AtMostMore c.agent-agent.result (1 + most_rounds b * steps_a_round b) s.journal t.journal = omega (arith, one, rest) in
+    subst (λ a. AtMostMore a (1 + most_rounds b * steps_a_round b) s.journal t.journal) c.agent-agent.ensures few

@@ -1,7 +1,7 @@
-use Rattle.std.proofs.Common.{sym}
 use Rattle.orc_machine_board.specs.Views.{shows}
 use Rattle.orc_domain.proofs.Settling.{backlog_none, settle_can, settled_between, settles_nothing}
 use Rattle.orc_domain.proofs.Stages.{stage}
+use Rattle.orc_machine_rest.proofs.TakenIn.{done_later}
 use Rattle.orc_domain.proofs.links.OrcDomainLinks.settle.Goals as goal
 
 pub settle-requires-clause-between : goal.settle-requires-clause-between
@@ -21,7 +21,9 @@ returns-clause-pass g c =
     record { board = e.belongs; ready = next.ready; untouched = next.untouched; inside = is.inside }
 
 pub returns-clause-later : goal.returns-clause-later
-returns-clause-later g c = let adds = c.settle.ensures.settles.adds in (adds.part, sym adds.journal)
+returns-clause-later g c =
+    let p = c.args.p.now in
+    done_later (shows p.pass).agent (shows p.pass).journal (shows c.settle.new.p).journal _ c.settle.ensures.slot_0.done
 
 pub returns-clause-nothing : goal.returns-clause-nothing
 returns-clause-nothing g c =

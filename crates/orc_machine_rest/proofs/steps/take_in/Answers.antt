@@ -1,7 +1,7 @@
 use Rattle.orc_machine_rest.proofs.Taking.{may_take, still_between, taken_in, takes}
 use Rattle.orc_machine_rest.proofs.Passes.{next_pass, one_step}
 use Rattle.orc_core.specs.declared.ops.Op.TheVariants.{TakeIn}
-use Rattle.orc_machine_rest.proofs.handovers.take_in.Goals as goal
+use Rattle.orc_machine_rest.proofs.steps.take_in.Goals as goal
 
 pub take_in-requires-clause-allowed : goal.take_in-requires-clause-allowed
 take_in-requires-clause-allowed g c = may_take c.args.board.now c.args.agent c.args.k c.args.p.now c.requires.pass c.requires.between c.requires.slot
