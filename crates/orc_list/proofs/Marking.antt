@@ -5,7 +5,7 @@ use Rattle.orc_fault.specs.declared.Spent.{Spent}
 use Rattle.orc_heap.proofs.ByAnswer.{Swings-fresh, Swings-missed, Swings-moved}
 use Rattle.orc_heap.proofs.Pieces.{linked_not_fresh, missed_fresh}
 use Rattle.orc_heap.specs.Allowed.{AllowedLater}
-use Rattle.orc_heap.specs.Calls.{Misses, Swings, event_of, move_of, unless_node}
+use Rattle.orc_heap.specs.Calls.{Misses, RefusesSwing, Swings, event_of, move_of, unless_node}
 use Rattle.orc_heap.specs.Heap.{HeapNumbers, link_to}
 use Rattle.orc_heap.specs.OwnEvents.{Only, Puts}
 use Rattle.orc_heap.specs.Seats.{IsNotFresh, Seat, heap_of, link_in, place_in}
@@ -18,6 +18,7 @@ use Rattle.orc_heap.specs.declared.events.Place.TheVariants.{Next}
 use Rattle.orc_heap.specs.declared.holds.At.{At}
 use Rattle.orc_heap.specs.declared.holds.At.TheVariants.{Node as AtNode, Root as AtRoot, Side as AtSide}
 use Rattle.orc_heap.specs.declared.holds.Want.{Want}
+use Rattle.orc_heap.specs.declared.holds.Want.TheVariants.{Node as WantNode, Null as WantNull}
 use Rattle.orc_history.specs.Journals.{Within}
 use Rattle.orc_history.specs.Parts.{InPart}
 use Rattle.orc_history.specs.declared.set.SetEntry.TheVariants.{Removed}
@@ -27,7 +28,7 @@ use Rattle.orc_chain_rule.specs.declared.chain.ChainNote.TheVariants.{Entry, Unl
 use Rattle.orc_ordered_chains.specs.Chains.{IsRun, link_over}
 use Rattle.orc_chain_rule.specs.ChainDiscipline.{ChainHolds, ChainMay, HasKey, IsChainPlace}
 use Rattle.orc_list.specs.Searches.{NextFollows}
-use Rattle.orc_list.specs.Turns.{Marks, TriesUnlink}
+use Rattle.orc_list.specs.Turns.{HasManyLinks, Marks, TriesUnlink}
 use Rattle.orc_ordered_search.proofs.Held.{FreshIs}
 use mathlib.Core.List.{IsPrefix}
 use Rattle.std.proofs.Common.{length, ◌++◌}
@@ -78,13 +79,20 @@ pub try_allowed : (n : HeapNumbers) (s : Seat ChainNote) (place at : Place) (fir
 try_allowed n s place at first others to past at_is past_is holds l run = rw (at_is, past_is)
     (unlink_allowed n s.agent place (link_to first) first others to s.seen holds l refl run)
 
+-- a refused swing names a target to which many links were made
+many_links : (s : Seat ChainNote) (from past : Want) (why : Spent) (seen : List (Event ChainNote)) (to : Option ℕ) → link_in s.slots past ≡ link_over to
+    → RefusesSwing s.slots from past why seen → HasManyLinks to seen
+many_links s from (WantNull mark) why seen to is r = absurd r
+many_links s from (WantNode h mark) why seen to is r = (id_in s.slots h.now, sym (ap (λ (l : Link). l.to) is), r.1.links)
+
 pub tries : (n : HeapNumbers) (s t : Seat ChainNote) (place : Place) (id first : ℕ) (to : Option ℕ) (Worn : Type 0) (at : At) (from past : Want)
     (result : Result Bool Spent)
     → place_in s.slots at ≡ place → link_in s.slots from ≡ link_to first
     → link_in s.slots past ≡ link_over to → NextFollows n id to s → FreshIs (list_ordering n) s
-    → IfOk result (λ done. Swings at from past (Some Unlink) s done t) → IfErr result (λ e. Only [] s t) → IfErr result (λ e. Worn)
+    → IfOk result (λ done. Swings at from past (Some Unlink) s done t) → IfErr result (λ e. Only [] s t)
+    → IfErr result (λ e. RefusesSwing s.slots from past e t.seen) → IfErr result (λ e. Worn)
     → TriesUnlink place first to Worn s t
-tries n s t place id first to Worn at from past (Ok done) at_is from_is past_is follows fresh w none worn = cases done refl
+tries n s t place id first to Worn at from past (Ok done) at_is from_is past_is follows fresh w none refused worn = cases done refl
   where
     cases : (b : Bool) → done ≡ b → TriesUnlink place first to Worn s t
     cases true is = record {
@@ -101,8 +109,8 @@ tries n s t place id first to Worn at from past (Ok done) at_is from_is past_is 
       either = inl (inr (subst (λ (p : Place). Misses p (link_to first) s t) at_is (subst (λ (l : Link). Misses (place_in s.slots at) l s t) from_is
           (Swings-missed w is))));
     }
-tries n s t place id first to Worn at from past (Err e) at_is from_is past_is follows fresh w none worn = record
-    { slots = none.slots; fresh = none.fresh; either = inr (worn, none.puts) }
+tries n s t place id first to Worn at from past (Err e) at_is from_is past_is follows fresh w none refused worn = record
+    { slots = none.slots; fresh = none.fresh; either = inr (worn, many_links s from past e t.seen to past_is refused, none.puts) }
 
 pub worn_part : {S : Type 0} (agent_of : S → ℕ) (agent : ℕ) (before after : List S) (worn : Spent → List S → ℕ → ℕ → Type 0) → IsPrefix before after
     → (result : Result Bool Spent)
@@ -124,5 +132,5 @@ pub tries_wider : (Worn More : Type 0) (place : Place) (first : ℕ) (to : Optio
 tries_wider Worn More place first to s t wider w = record {
   slots = w.slots;
   fresh = w.fresh;
-  either = elim w.either [ inl swung ↦ inl swung | inr worn ↦ inr (wider worn.0, worn.1) ];
+  either = elim w.either [ inl swung ↦ inl swung | inr worn ↦ inr (wider worn.0, worn.1, worn.2) ];
 }

@@ -1,5 +1,7 @@
 -- A key is taken out at the node that a search found.
 use Rattle.std.proofs.lemmas.List.{length-append}
+use Rattle.std.proofs.lemmas.List.Elements.{filter-append}
+use Rattle.std.specs.Prelude.{filter}
 use Rattle.std.proofs.Common.{Bool, List, None, Option, Some, [], ap, append_assoc, arith, false, inl, inr, refl, subst, sym, true, ℕ, ◌%◌, ◌++◌, ◌∙◌, ◌∷◌, ◌≡◌, ◌≢◌, ◌≤◌, length}
 use Rattle.std.specs.List.{Contains}
 use Rattle.orc_heap.proofs.Calls.{Puts-stood, Puts-trans, part_allowed}
@@ -10,10 +12,10 @@ use Rattle.orc_heap.proofs.Runs.{run_heap-snoc}
 use Rattle.orc_heap.proofs.SingleActs.{has_link, some_same}
 use Rattle.orc_heap.specs.Acts.{Fits}
 use Rattle.orc_heap.specs.Allowed.{AllAllowed, HasLink, IsLinkedNode, events_by}
-use Rattle.orc_heap.specs.Calls.{event_of}
+use Rattle.orc_heap.specs.Calls.{event_of, links_made}
 use Rattle.orc_heap.specs.Hands.{Hand, hand}
 use Rattle.orc_heap.specs.Heap.{Heap, HeapNumbers, link_to, shown}
-use Rattle.orc_heap.specs.Journals.{run_heap}
+use Rattle.orc_heap.specs.Journals.{points_to, run_heap}
 use Rattle.orc_heap.specs.Moves.{AllOwn, from_own, gives_in, moves_in}
 use Rattle.orc_heap.specs.OwnEvents.{Puts}
 use Rattle.orc_heap.specs.Seats.{Seat, heap_of}
@@ -37,7 +39,7 @@ use Rattle.orc_ordered_search.specs.Searches.{AllGone, BeginsRun, HoldsIfAny, Qu
 use Rattle.orc_list.specs.Searches.{FindsPresent, InHand, NextFollows, list_reading}
 use Rattle.orc_ordered_search.specs.Ways.{IsFew}
 use Rattle.orc_ordered_search.specs.Searches.{first_or, place_at, target_at}
-use Rattle.orc_list.specs.Turns.{LeavesOff, Made, MarkStops, Marks, TakesOut, Tires, TriesUnlink}
+use Rattle.orc_list.specs.Turns.{HasManyLinks, LeavesOff, Made, MarkStops, Marks, StopsBefore, TakesOut, Tires, TriesUnlink}
 use Rattle.orc_list.proofs.Answering.{from_is, head_of, place_of_hand, reads_node, target_is}
 use Rattle.orc_ordered_search.proofs.Held.{first_held, in_hand_on, present_hand, second_held}
 use Rattle.orc_list.proofs.Making.{made_after, made_on, missed, over_on}
@@ -122,6 +124,12 @@ quiet_stops n key s t y own q p slots fresh = record {
   entries_are = q.no_entries;
   moves = q.no_move;
 }
+
+-- links that were made stay made
+links_stay : (es fs : List (Event ChainNote)) (id : ℕ) → 32 ≤ links_made es id → 32 ≤ links_made (es ++ fs) id
+links_stay es fs id many =
+    let points : Event ChainNote → Bool = λ e. points_to e.act id in
+    omega (arith, many, ap length (filter-append points es fs), length-append (filter points es) (filter points fs))
 
 -- the left place is a place of a chain
 left_place_on : (n : HeapNumbers) (t : Seat ChainNote) (place : Place) (key : ℕ) → FollowsOn n.roots (heap_of n t) place key
@@ -274,7 +282,7 @@ module _ {n : HeapNumbers} {root key : ℕ} {left first : Option Hold} {node : H
       | inl p ↦ in_hand_on (list_ordering n) s.slots left first (Some node) next u v _ p all tried.slots h
       | inr miss ↦ in_hand_on (list_ordering n) s.slots left first (Some node) next u v _ miss.puts all tried.slots h
     ]
-    | inr worn ↦ in_hand_on (list_ordering n) s.slots left first (Some node) next u v [] worn.1 all tried.slots h
+    | inr worn ↦ in_hand_on (list_ordering n) s.slots left first (Some node) next u v [] worn.2 all tried.slots h
   ]
 
   pub removes_missed : (u y : Seat ChainNote) → Marks key f.id (node_of next f.next_id) t false u → AllGone s.slots u y → AllAllowed (ChainMay n) [] u.seen
@@ -397,6 +405,18 @@ module _ {n : HeapNumbers} {root key : ℕ} {left first : Option Hold} {node : H
         off = off;
       }
 
+  -- the marked node leads to the one behind the run, and the links that were made to that one stay made
+  stops : (v y : Seat ChainNote) → Puts t (mark ∷ []) y → Puts v [] y → HasManyLinks to v.seen → AllAllowed (ChainMay n) [] y.seen
+      → StopsBefore key (f.own ++ mark ∷ []) (heap_of n y) y.seen
+  stops v y p q many all = record {
+    id = f.id;
+    takes = takes_right f.own (mark ∷ []) key f.id (inl (link_over to, marked, refl, refl));
+    next = many.0;
+    leads = subst (λ (o : Option ℕ). HasLink (heap_of n y) f.id (record { to = o; mark = true })) many.1
+        (marked_link n t y f.id (link_over to) marked _ p all (key_linked (heap_of n t) f.id key f.is_of.has_key) refl);
+    many = subst (λ (z : List (Event ChainNote)). 32 ≤ links_made z many.0) (sym q.is) (links_stay v.seen q.part many.0 many.2);
+  }
+
   pub removes_done : (Worn : Type 0) (u v y : Seat ChainNote) → Marks key f.id (node_of next f.next_id) t true u
       → TriesUnlink (left_place (key % n.roots) left f.left_id) (run_head first f.first_id f.id) (node_of next f.next_id) Worn u v → AllGone s.slots v y
       → ChainHolds n t.seen → AllAllowed (ChainMay n) [] y.seen → TakesOut n key Worn 1 s y
@@ -408,8 +428,8 @@ module _ {n : HeapNumbers} {root key : ℕ} {left first : Option Hold} {node : H
           let made = took (e ∷ []) v y whole g.puts refl refl (omega arith) in
           record {
             answers = record { own = f.own ++ mark ∷ e ∷ []; made = made; slots = g.slots_are; fresh = fresh };
-            off = λ alone none. leaves (e ∷ []) (heap_of n y) (off_chain u.agent y holds (alone_at (e ∷ []) y
-                (puts_released t v y (mark ∷ e ∷ []) whole g.puts) made.puts alone all_y));
+            off = λ alone. inl (leaves (e ∷ []) (heap_of n y) (off_chain u.agent y holds (alone_at (e ∷ []) y
+                (puts_released t v y (mark ∷ e ∷ []) whole g.puts) made.puts alone all_y)));
           }
       | inr miss ↦
           let e : Event ChainNote = event_of u (Miss place (link_to head) miss.found) None in
@@ -417,18 +437,18 @@ module _ {n : HeapNumbers} {root key : ℕ} {left first : Option Hold} {node : H
           let made = took (e ∷ []) v y whole g.puts refl refl (omega arith) in
           record {
             answers = record { own = f.own ++ mark ∷ e ∷ []; made = made; slots = g.slots_are; fresh = fresh };
-            off = λ alone none.
+            off = λ alone.
                 let a = alone_at (e ∷ []) y (puts_released t v y (mark ∷ e ∷ []) whole g.puts) made.puts alone all_y in
                 let found : miss.found ≡ f.behind.leads.from = some_same (sym a.all.1.0.fits.0 ∙ a.shows) in
                 absurd (miss.other (found ∙ run_from.from_is));
           }
     ]
     | inr worn ↦
-        let whole = Puts-trans t u v (mark ∷ []) [] m.puts worn.1 in
+        let whole = Puts-trans t u v (mark ∷ []) [] m.puts worn.2 in
         let made = took [] v y whole g.puts refl refl (omega arith) in
         record {
           answers = record { own = f.own ++ mark ∷ []; made = made; slots = g.slots_are; fresh = fresh };
-          off = λ alone none. absurd (none worn.0);
+          off = λ alone. inr (worn.0, stops v y (puts_released t v y (mark ∷ []) whole g.puts) g.puts worn.1 all_y);
         }
   ]
     where

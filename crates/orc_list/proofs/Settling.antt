@@ -1,5 +1,5 @@
 -- What a call did, by its answer, up to the pass that has settled.
-use Rattle.std.proofs.Common.{Bool, Err, List, Ok, Result, [], ap, append-nil, arith, inl, inr, length, refl, subst, sym, true, ℕ, ◌*◌, ◌++◌, ◌+◌, ◌==◌, ◌∙◌, ◌∷◌, ◌≡◌, ◌≢◌, ◌≤◌}
+use Rattle.std.proofs.Common.{Bool, Err, List, Ok, Result, [], ap, append-nil, arith, inl, inr, length, refl, subst, sym, true, ℕ, ◌*◌, ◌++◌, ◌+◌, ◌==◌, ◌∙◌, ◌∷◌, ◌≡◌, ◌≢◌, ◌≤◌, ◌⊎◌}
 use Rattle.std.proofs.lemmas.Bool.{eq-eqb, or_left, or_right}
 use Rattle.std.specs.Prelude.{IsErr}
 use Rattle.orc_fault.specs.declared.Again.{Again as AgainFault}
@@ -27,7 +27,7 @@ use Rattle.orc_chain_rule.specs.declared.chain.ChainNote.{ChainNote}
 use Rattle.orc_list.specs.Answers.{AsksTurns, InsertAnswers, InsertCall, RemovesTurns}
 use Rattle.orc_list.specs.Inserts.{LeavesRunOff, SeesAbsent}
 use Rattle.orc_ordered_search.specs.Ways.{CoversLooks}
-use Rattle.orc_list.specs.Turns.{Answers, AreFew, AreOver, LeavesOff, Made, Tires}
+use Rattle.orc_list.specs.Turns.{Answers, AreFew, AreOver, LeavesOff, Made, StopsBefore, Tires}
 use Rattle.orc_list.proofs.Passing.{leaves_on}
 
 -- the entries of a call, by its answer
@@ -209,20 +209,20 @@ module _ (s t u : Seat ChainNote) (o : Only [] t u) where
   some_event [] entry e = cc
   some_event (e ∷ es) entry is = omega arith
 
-  -- a remove that was alone, where nothing was worn
+  -- a remove that was alone
   pub off_settled : (n : HeapNumbers) (key : ℕ) (Worn : Type 0) (turns : ℕ) (r : Result Bool AgainFault) (l : RemovesTurns n key Worn turns s r t)
-      → r ≡ Ok true → (Worn → ⊥)
-      → AllOwn s.agent (from_own s.agent (remove_did n key Worn turns r l).made.puts.part) → LeavesOff key (remove_did n key Worn turns r l).own
-      (heap_of n u)
+      → r ≡ Ok true → AllOwn s.agent (from_own s.agent (remove_did n key Worn turns r l).made.puts.part)
+      → LeavesOff key (remove_did n key Worn turns r l).own (heap_of n u)
+      ⊎ (Worn × StopsBefore key (remove_did n key Worn turns r l).own (heap_of n u) u.seen)
   unfolding remove_did answered made_settled
-  off_settled n key Worn turns (Ok true) l is none alone =
+  off_settled n key Worn turns (Ok true) l is alone =
       let m = l.1.answers.made in
       let w = puts_released s t u l.1.answers.own m.puts o.puts in
       let same = nothing_new l.1.answers.own (some_event l.1.answers.own _ m.entries_are) m.puts w alone in
-      subst (λ z. LeavesOff key l.1.answers.own (run_heap n z)) (sym same) (l.1.off (own_part_left s t u l.1.answers.own [] l.1.answers.own m.puts o.puts w
-      alone) none)
-  off_settled n key Worn turns (Ok Bool.false) l is none alone = cc
-  off_settled n key Worn turns (Err e) l is none alone = cc
+      subst (λ z. LeavesOff key l.1.answers.own (run_heap n z) ⊎ (Worn × StopsBefore key l.1.answers.own (run_heap n z) z)) (sym same)
+      (l.1.off (own_part_left s t u l.1.answers.own [] l.1.answers.own m.puts o.puts w alone))
+  off_settled n key Worn turns (Ok Bool.false) l is alone = cc
+  off_settled n key Worn turns (Err e) l is alone = cc
 
 -- the pass holds what it held: it is idle, and of the same agent
 pub ask_keeps : (key turns : ℕ) (s t : Seat ChainNote) (r : Result Bool AgainFault) → AsksTurns key turns s r t → IsIdle s → IsIdle t × (t.agent ≡ s.agent)

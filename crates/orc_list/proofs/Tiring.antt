@@ -1,5 +1,5 @@
 -- One turn after another, for a call that keeps no node.
-use Rattle.std.proofs.Common.{Bool, List, None, Ok, Option, Some, [], arith, false, inr, refl, subst, true, ℕ, ◌++◌, ◌+◌, ◌∙◌, ◌∷◌, ◌≤◌}
+use Rattle.std.proofs.Common.{Bool, List, None, Ok, Option, Some, [], arith, false, inl, inr, refl, subst, true, ℕ, ◌++◌, ◌+◌, ◌∙◌, ◌∷◌, ◌≤◌, ◌⊎◌}
 use Rattle.orc_heap.proofs.Pieces.{own_part_right}
 use Rattle.orc_heap.specs.Heap.{Heap, HeapNumbers}
 use Rattle.orc_heap.specs.Seats.{Seat, heap_of}
@@ -7,7 +7,7 @@ use Rattle.orc_history.specs.declared.set.SetEntry.{SetEntry}
 use Rattle.orc_history.specs.declared.set.SetEntry.TheVariants.{Asked, Removed}
 use Rattle.orc_chain_rule.specs.declared.chain.ChainNote.{ChainNote}
 use Rattle.orc_list.specs.Answers.{AsksTurns, RemovesTurns}
-use Rattle.orc_list.specs.Turns.{Answers, AsksTurn, LeavesOff, Made, RemovesTurn, TakesKey, Tires}
+use Rattle.orc_list.specs.Turns.{Answers, AsksTurn, LeavesOff, Made, RemovesTurn, StopsBefore, TakesKey, Tires}
 use Rattle.orc_list.proofs.Making.{made_most, made_next, over_next, over_none}
 use Rattle.orc_ordered_search.proofs.Seen.{loads-append, sees_right, sees_run_right}
 use Rattle.orc_heap.specs.declared.events.Event.{Event}
@@ -44,11 +44,15 @@ asks_answer key turns most s t u answer w a low = (
 
 -- a turn of a remove, and what was worn in a longer stretch
 
+pub either_wider : {A Worn More B : Type 0} → (Worn → More) → A ⊎ (Worn × B) → A ⊎ (More × B)
+either_wider wider (inl a) = inl a
+either_wider wider (inr w) = inr (wider w.0, w.1)
+
 pub turn_wider : (n : HeapNumbers) (key turns : ℕ) (Worn More : Type 0) (s t : Seat ChainNote) (result : Option Bool) → (Worn → More)
     → RemovesTurn n key Worn turns s result t → RemovesTurn n key More turns s result t
 turn_wider n key turns Worn More s t None wider r = r
 turn_wider n key turns Worn More s t (Some false) wider r = r
-turn_wider n key turns Worn More s t (Some true) wider r = record { answers = r.answers; off = λ alone none. r.off alone (λ w. none (wider w)) }
+turn_wider n key turns Worn More s t (Some true) wider r = record { answers = r.answers; off = λ alone. either_wider wider (r.off alone) }
 
 pub takes_right : (es fs : List (Event ChainNote)) (key id : ℕ) → TakesKey fs key id → TakesKey (es ++ fs) key id
 takes_right [] fs key id k = k
@@ -66,6 +70,16 @@ leaves_right key es fs h l = record {
   sees_run = sees_run_right es fs l.from l.over (Some l.id) l.sees_run;
   off = l.off;
 }
+
+stops_right : (key : ℕ) (es fs : List (Event ChainNote)) (h : Heap) (seen : List (Event ChainNote)) → StopsBefore key fs h seen
+    → StopsBefore key (es ++ fs) h seen
+stops_right key es fs h seen l = record { id = l.id; takes = takes_right es fs key l.id l.takes; next = l.next; leads = l.leads; many = l.many }
+
+-- what a later turn left is what all turns left
+off_right : (key : ℕ) (es fs : List (Event ChainNote)) (h : Heap) (seen : List (Event ChainNote)) (Worn : Type 0)
+    → LeavesOff key fs h ⊎ (Worn × StopsBefore key fs h seen) → LeavesOff key (es ++ fs) h ⊎ (Worn × StopsBefore key (es ++ fs) h seen)
+off_right key es fs h seen Worn (inl l) = inl (leaves_right key es fs h l)
+off_right key es fs h seen Worn (inr w) = inr (w.0, stops_right key es fs h seen w.1)
 
 pub removes_answer : (n : HeapNumbers) (key turns most : ℕ) (Worn More : Type 0) (s t u : Seat ChainNote) (answer : Bool) → (Worn → More) → Tires turns s t
     → RemovesTurn n key Worn 1 t (Some answer) u → turns + 1 ≤ most
@@ -85,7 +99,7 @@ removes_answer n key turns most Worn More s t u true wider w a low =
       (λ e. omega (arith, e, low)),
       record {
         answers = record { own = own; made = made; slots = a.answers.slots ∙ w.slots; fresh = a.answers.fresh ∙ w.fresh };
-        off = λ alone none. leaves_right key w.own a.answers.own (heap_of n u)
-            (a.off (own_part_right s t u w.own a.answers.own own w.over.made.puts a.answers.made.puts made.puts alone) (λ worn. none (wider worn)));
+        off = λ alone. off_right key w.own a.answers.own (heap_of n u) u.seen More
+            (either_wider wider (a.off (own_part_right s t u w.own a.answers.own own w.over.made.puts a.answers.made.puts made.puts alone)));
       },
     )

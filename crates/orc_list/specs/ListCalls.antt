@@ -12,7 +12,7 @@ use Rattle.orc_chain_rule.specs.declared.chain.ChainNote.{ChainNote}
 use Rattle.orc_ordered_search.specs.Causes.{WithinPart}
 use Rattle.orc_list.specs.Causes.{CostTurns, HasWorn, UsesTurns}
 use Rattle.orc_list.specs.Inserts.{LeavesRunOff, SeesAbsent}
-use Rattle.orc_list.specs.Turns.{AreFew, LeavesOff, MarksAlone}
+use Rattle.orc_list.specs.Turns.{AreFew, LeavesOff, MarksAlone, StopsBefore}
 
 module _ {L D P S : Type 0} (members : LinksOf L D P S ChainNote) (links : L) where
   -- the root is that of the key
@@ -60,10 +60,6 @@ module _ {L D P S : Type 0} (members : LinksOf L D P S ChainNote) (links : L) wh
   FindsWorn why old new = WithinPart members.agent_of (agent members links old) (members.journal old) (members.journal new)
       (members.worn links (agent members links old) why (members.journal new))
 
-  -- it read no row's sequence at its limit
-  abbrev pub FindsNoneWorn : P → P → Type 0
-  FindsNoneWorn old new = ¬ HasWorn (members.worn links (agent members links old)) (members.journal old) (members.journal new)
-
   -- Looks of the call found an unmarked link of a place below the key lead over marked nodes to null or above the key
   abbrev pub FindsAbsent : ℕ → P → P → Type 0
   FindsAbsent key old new = SeesAbsent (members.numbers links) key (call_events old new) (members.seat links new)
@@ -71,6 +67,12 @@ module _ {L D P S : Type 0} (members : LinksOf L D P S ChainNote) (links : L) wh
   -- the node at which the call took the key out is on no chain, nor is a node of the run that its Looks found before that
   abbrev pub LeavesOffChain : ℕ → P → P → Type 0
   LeavesOffChain key old new = LeavesOff key (call_events old new) (heap members links new)
+
+  -- the call's agent read some row's sequence at its limit, and the node at which it took the key out leads to one to which at least 32
+  -- links were made
+  abbrev pub StopsBeforeWorn : ℕ → P → P → Type 0
+  StopsBeforeWorn key old new = HasWorn (members.worn links (agent members links old)) (members.journal old) (members.journal new)
+      × StopsBefore key (call_events old new) (heap members links new) (members.seat links new).seen
 
   -- the run of marked nodes at which the call's Looks found the place for the key, up to null or an unmarked node, is on no chain
   abbrev pub LeavesRunOffChain : ℕ → P → P → Type 0

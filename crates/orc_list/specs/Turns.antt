@@ -1,7 +1,8 @@
 -- What the turns of a call do. After Harris 2001.
 use Rattle.std.specs.List.{Contains}
 use Rattle.std.specs.Prelude.{Bool, List, MatchBool, None, Option, Some, [], false, if◌then◌else◌, length, true, ℕ, ◌*◌, ◌++◌, ◌+◌, ◌∷◌, ◌≡◌, ◌≤◌, ◌⊎◌}
-use Rattle.orc_heap.specs.Calls.{Misses, event_of}
+use Rattle.orc_heap.specs.Allowed.{HasLink}
+use Rattle.orc_heap.specs.Calls.{Misses, event_of, links_made}
 use Rattle.orc_heap.specs.Heap.{Heap, HeapNumbers, link_to}
 use Rattle.orc_heap.specs.Moves.{AllOwn, from_own, gives_in, moves_in}
 use Rattle.orc_heap.specs.OwnEvents.{Puts}
@@ -78,12 +79,16 @@ pub record Marks (key id : ℕ) (to : Option ℕ) (s : Seat ChainNote) (done : B
   pub puts : MatchBool done (Puts s (event_of s (Move (Next id) (link_over to) (record { to = to; mark = true }))
       (Some (Entry (Removed s.agent key true))) ∷ []) t) (Misses (Next id) (link_over to) s t)
 
--- the place was led past the run, or showed another link, or something was worn
+-- at least 32 links were made to this node
+abbrev pub HasManyLinks : Option ℕ → List (Event ChainNote) → Type 0
+HasManyLinks to seen = (id : ℕ) × (to ≡ Some id) × (32 ≤ links_made seen id)
+
+-- the place was led past the run, or showed another link, or something was worn, and the node behind the run has many links
 pub record TriesUnlink (place : Place) (first : ℕ) (to : Option ℕ) (IsWorn : Type 0) (s t : Seat ChainNote) : Type 0 where
   pub slots : t.slots ≡ s.slots
   pub fresh : t.fresh ≡ s.fresh
   pub either : (Puts s (event_of s (Move place (link_to first) (link_over to))
-      (Some Unlink) ∷ []) t ⊎ Misses place (link_to first) s t) ⊎ (IsWorn × Puts s [] t)
+      (Some Unlink) ∷ []) t ⊎ Misses place (link_to first) s t) ⊎ (IsWorn × HasManyLinks to t.seen × Puts s [] t)
 
 -- one of these events takes the key out at this node: it marks the node's link
 abbrev pub TakesKey : List (Event ChainNote) → ℕ → ℕ → Type 0
@@ -104,10 +109,20 @@ pub record LeavesOff (key : ℕ) (es : List (Event ChainNote)) (h : Heap) : Type
   pub sees_run : SeesRun es from over (Some id)
   pub off : (x : ℕ) → Contains (over ++ id ∷ []) x → IsOnNoChain h x
 
--- the key was taken out; and if no other agent stepped, and nothing was worn, then its node and the run before it are off the chain
+-- these events took the key out at a node, whose marked link leads to one to which at least 32 links were made
+pub record StopsBefore (key : ℕ) (es : List (Event ChainNote)) (h : Heap) (seen : List (Event ChainNote)) : Type 0 where
+  pub id : ℕ
+  pub takes : TakesKey es key id
+  pub next : ℕ
+  pub leads : HasLink h id (record { to = Some next; mark = true })
+  pub many : 32 ≤ links_made seen next
+
+-- the key was taken out; and if no other agent stepped, then its node and the run before it are off the chain, unless something was
+-- worn, and the node behind them has many links
 pub record TakesOut (n : HeapNumbers) (key : ℕ) (IsWorn : Type 0) (turns : ℕ) (s t : Seat ChainNote) : Type 0 where
   pub answers : Answers turns s (Removed s.agent key true) t
-  pub off : AllOwn s.agent (from_own s.agent answers.made.puts.part) → (IsWorn → ⊥) → LeavesOff key answers.own (heap_of n t)
+  pub off : AllOwn s.agent (from_own s.agent answers.made.puts.part)
+      → LeavesOff key answers.own (heap_of n t) ⊎ (IsWorn × StopsBefore key answers.own (heap_of n t) t.seen)
 
 -- the same at the node that a search found, or its link was another
 abbrev pub RemovesNode : HeapNumbers → ℕ → Type 0 → Seat ChainNote → Bool → Seat ChainNote → Type 0

@@ -1,13 +1,13 @@
 //! The list, and its calls.
 
-ghost use Rattle.std.specs.Prelude.{◌≡◌, [], ◌∷◌, Err, IfErr, IfOk, IsErr, Ok, false, true};
+ghost use Rattle.std.specs.Prelude.{◌≡◌, ◌⊎◌, [], ◌∷◌, Err, IfErr, IfOk, IsErr, Ok, false, true};
 ghost use mathlib.Core.List.{IsPrefix};
 ghost use Rattle.orc_heap.specs.Domains.{IsCallAlone, MakesNoEvent, agent};
 ghost use Rattle.orc_heap.specs.Seats.{IsIdle};
 ghost use Rattle.orc_history.specs.declared.set.ListRefused.{ListRefused};
 ghost use Rattle.orc_history.specs.declared.set.SetEntry.{SetEntry};
-ghost use Rattle.orc_list.specs.ListCalls.{CostsOthers, Enters, EntersNone, FindsAbsent, FindsNoneWorn, FindsWorn, GivesAtMost, IsRootOf, LacksRow};
-ghost use Rattle.orc_list.specs.ListCalls.{LeavesMarked, LeavesOffChain, LeavesRunOffChain, LooksAlone, MakesFew, UsesAllTurns};
+ghost use Rattle.orc_list.specs.ListCalls.{CostsOthers, Enters, EntersNone, FindsAbsent, FindsWorn, GivesAtMost, IsRootOf, LacksRow};
+ghost use Rattle.orc_list.specs.ListCalls.{LeavesMarked, LeavesOffChain, LeavesRunOffChain, LooksAlone, MakesFew, StopsBeforeWorn, UsesAllTurns};
 
 use crate::answer::ask_turns;
 use crate::insert::insert_key;
@@ -97,9 +97,9 @@ impl<L: Links<Rule = Chain>> List<L> {
     /// Takes a key out, and answers true where it was present, in at most `turns` tries. Its agent makes at most two
     /// events in each try for each node at whose link it looked, and 4.
     ///
-    /// Where no other agent has a step in its part of the journal, and no row is worn, a remove that answered true leaves
-    /// the node of the key, and the marked nodes before it, on no chain. Of all rows it checks one alone, that of the node
-    /// behind these, to which it makes a link; where null is behind them it checks none.
+    /// Where no other agent has a step in its part of the journal, a remove that answered true leaves the node of the key, and
+    /// the marked nodes before it, on no chain; unless a row was read worn, and the node behind them, to which a link was to be
+    /// made, is one to which at least 32 links were made.
     ///
     /// # Errors
     ///
@@ -122,7 +122,7 @@ impl<L: Links<Rule = Chain>> List<L> {
         ensures gives { GivesAtMost L.Links self.now.links 0 p.old p.new }
         ensures tries { MakesFew L.Links self.now.links turns 0 p.old p.new }
         ensures off_the_chain { result ≡ Ok true → IsCallAlone L.Links self.now.links p.old p.new
-            → FindsNoneWorn L.Links self.now.links p.old p.new → LeavesOffChain L.Links self.now.links key p.old p.new }
+            → LeavesOffChain L.Links self.now.links key p.old p.new ⊎ StopsBeforeWorn L.Links self.now.links key p.old p.new }
         ensures settled { IsCallAlone L.Links self.now.links p.old p.new → L.backlog p.new ≡ 0 }
     {
         let answer = remove_turns(&self.links, p, root, key, turns);

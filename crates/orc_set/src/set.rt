@@ -1,13 +1,13 @@
 //! The set, and its calls.
 
-ghost use Rattle.std.specs.Prelude.{◌≡◌, ◌<◌, ◌%◌, ◌↔◌, ◌∷◌, [], ℕ, Err, IfErr, IfOk, IsErr, Ok, false, length, true};
+ghost use Rattle.std.specs.Prelude.{◌≡◌, ◌⊎◌, ◌<◌, ◌%◌, ◌↔◌, ◌∷◌, [], ℕ, Err, IfErr, IfOk, IsErr, Ok, false, length, true};
 ghost use mathlib.Core.List.{IsPrefix};
 ghost use Rattle.orc_heap.specs.Domains.{IsCallAlone, MakesNoEvent, agent};
 ghost use Rattle.orc_history.specs.Journals.{Within};
 ghost use Rattle.orc_history.specs.declared.set.ListRefused.{ListRefused};
 ghost use Rattle.orc_history.specs.declared.set.SetEntry.{SetEntry};
-ghost use Rattle.orc_list.specs.ListCalls.{CostsOthers, Enters, EntersNone, FindsAbsent, FindsNoneWorn, FindsWorn, GivesAtMost, LacksRow};
-ghost use Rattle.orc_list.specs.ListCalls.{LeavesMarked, LeavesOffChain, LeavesRunOffChain, LooksAlone, MakesFew, UsesAllTurns};
+ghost use Rattle.orc_list.specs.ListCalls.{CostsOthers, Enters, EntersNone, FindsAbsent, FindsWorn, GivesAtMost, LacksRow};
+ghost use Rattle.orc_list.specs.ListCalls.{LeavesMarked, LeavesOffChain, LeavesRunOffChain, LooksAlone, MakesFew, StopsBeforeWorn, UsesAllTurns};
 ghost use Rattle.orc_list.specs.SetMembers.{HasCause, IsUsable, set_history};
 ghost use Rattle.orc_list.specs.Laws.SetLaws.{cause_stays, entries_below, history_grows, seen_legal};
 
@@ -160,8 +160,8 @@ impl<L: Links<Rule = Chain>> SharedSet for Set<L> {
         ensures cost { IfErr result (λ e. CostsOthers L.Links self.now.list.links turns p.old p.new) }
         ensures gives { GivesAtMost L.Links self.now.list.links 0 p.old p.new }
         ensures tries { MakesFew L.Links self.now.list.links turns 0 p.old p.new }
-        ensures off_the_chain { result ≡ Ok true → IsCallAlone L.Links self.now.list.links p.old p.new → FindsNoneWorn L.Links self.now.list.links p.old p.new
-            → LeavesOffChain L.Links self.now.list.links key p.old p.new }
+        ensures off_the_chain { result ≡ Ok true → IsCallAlone L.Links self.now.list.links p.old p.new
+            → LeavesOffChain L.Links self.now.list.links key p.old p.new ⊎ StopsBeforeWorn L.Links self.now.list.links key p.old p.new }
         ensures settled { IsCallAlone L.Links self.now.list.links p.old p.new → L.backlog p.new ≡ 0 }
     {
         self.list.remove(p, root_of(key, self.roots), key, turns)

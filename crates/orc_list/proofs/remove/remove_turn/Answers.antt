@@ -4,6 +4,7 @@ use Rattle.orc_list.specs.Causes.{HasWorn}
 use Rattle.orc_list.specs.Turns.{RemovesNode, TakesOut}
 use Rattle.orc_list.proofs.Making.{found_over}
 use Rattle.orc_list.proofs.Marking.{worn_wider}
+use Rattle.orc_list.proofs.Tiring.{either_wider}
 use Rattle.orc_list.proofs.remove.remove_turn.Goals as goal
 
 pub returns-in-Over-clause-removed : goal.returns-in-Over-clause-removed
@@ -30,9 +31,9 @@ returns-then-take_out-clause-removed g c =
     (λ (b : Bool). RemovesNode n c.args.key (HasWorn (g.L.Links.worn d t.agent) k l) s b u) c.if-take_out.true r in
     record {
       answers = done.answers;
-      off = λ alone none. done.off alone
-          (λ w. none (worn_wider (g.L.Links.worn d) s.agent t.agent j k l l (λ why xs more from to h. g.met.L.Links.worn_stays d s.agent why xs more from
-          to h) e.found.behind.quiet.puts.agent e.later ([], append-nil l) w));
+      off = λ alone. either_wider
+          (λ w. worn_wider (g.L.Links.worn d) s.agent t.agent j k l l (λ why xs more from to h. g.met.L.Links.worn_stays d s.agent why xs more from
+          to h) e.found.behind.quiet.puts.agent e.later ([], append-nil l) w) (done.off alone);
     }
 
 pub returns-else-take_out-clause-removed : goal.returns-else-take_out-clause-removed

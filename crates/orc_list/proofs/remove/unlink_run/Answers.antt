@@ -39,6 +39,6 @@ returns-clause-tried g c =
     tries (g.L.Links.numbers d) s t (place_at s.slots c.args.root c.args.left.now) c.requires.follows.0 (id_in s.slots c.args.first.now)
     (target_at s.slots c.args.next.now) _ _ _ _ c.swing-tried.result
     (c.place_of.ensures.place s.slots) refl (c.link_to.ensures.link s.slots) c.requires.follows.1
-    (λ i h. g.met.L.Links.fresh_is d c.args.p.now i c.requires.pass h) e.swung e.none
+    (λ i h. g.met.L.Links.fresh_is d c.args.p.now i c.requires.pass h) e.swung e.none e.spent
     (worn_part g.L.Links.agent_of s.agent (g.L.Links.journal c.args.p.now) (g.L.Links.journal c.swing-tried.new.p) (g.L.Links.worn d s.agent) e.later
     c.swing-tried.result e.worn)

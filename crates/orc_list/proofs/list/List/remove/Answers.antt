@@ -1,5 +1,5 @@
 -- What the call did, and the settling after it.
-use Rattle.std.proofs.Common.{Bool, [], append-nil, refl, subst, sym, ℕ}
+use Rattle.std.proofs.Common.{Bool, [], append-nil, refl, subst, sym, ℕ, ◌⊎◌}
 use Rattle.orc_heap.proofs.Pieces.{goes_on}
 use Rattle.orc_heap.proofs.Steps.{alone_later}
 use Rattle.orc_history.specs.Parts.{IsAlone}
@@ -10,7 +10,9 @@ use Rattle.orc_ordered_search.proofs.Causes.{if_err}
 use Rattle.orc_list.proofs.Settling.{off_settled, remove_did, remove_keeps}
 use Rattle.orc_ordered_search.proofs.Settling.{idle_settled}
 use Rattle.orc_heap.specs.Seats.{heap_of}
-use Rattle.orc_list.specs.Turns.{LeavesOff}
+use Rattle.orc_list.specs.Causes.{HasWorn}
+use Rattle.orc_list.specs.Turns.{LeavesOff, StopsBefore}
+use Rattle.orc_list.proofs.Tiring.{either_wider}
 use Rattle.orc_list.proofs.Marking.{worn_wider}
 use Rattle.orc_list.proofs.list.List.remove.Goals as goal
 
@@ -54,10 +56,12 @@ returns g c =
       cost = if_err r _ (λ is. (used is).cost);
       gives = did_give 0 turns entry s u r did;
       tries = did_few 0 turns entry s u r did;
-      off_the_chain = λ is alone none. subst (λ z. LeavesOff c.args.key z (heap_of n u)) (sym (own_call 0 turns entry s u r did))
+      off_the_chain = λ is alone. either_wider
+          (λ w. worn_wider (g.L.Links.worn d) s.agent s.agent j j k m (λ why xs more from to h. g.met.L.Links.worn_stays d s.agent why xs more from
+          to h) refl ([], append-nil j) settle.later w)
+          (subst (λ z. LeavesOff c.args.key z (heap_of n u) ⊎ (HasWorn (g.L.Links.worn d s.agent) j k × StopsBefore c.args.key z (heap_of n u) u.seen))
+          (sym (own_call 0 turns entry s u r did))
           (off_settled s t u settle.nothing n c.args.key _ turns r done.removed is
-          (λ w. none (worn_wider (g.L.Links.worn d) s.agent s.agent j j k m (λ why xs more from to h. g.met.L.Links.worn_stays d s.agent why xs more from
-          to h) refl ([], append-nil j) settle.later w))
-          (part_alone n agents by events adds s u j m grows is_s is_u all below did.own did.made.puts alone));
+          (part_alone n agents by events adds s u j m grows is_s is_u all below did.own did.made.puts alone)));
       settled = λ alone. settle.settled (subst (λ (x : ℕ). IsAlone by x k m) (sym keeps.1) (alone_later by s.agent j k m done.later settle.later alone));
     }
