@@ -1,5 +1,5 @@
 -- A row that was published, with the second read of the link: what allows them, and how they end.
-use Rattle.std.proofs.Common.{Bool, None, Some, false, subst, sym, true, ℕ, ◌≡◌, ◌≢◌}
+use Rattle.std.proofs.Common.{Bool, None, Some, false, subst, sym, true, ℕ, ◌∙◌, ◌≡◌, ◌≢◌}
 use Rattle.orc_core.specs.declared.ops.Op.TheVariants.{LinkLoad}
 use Rattle.orc_core.specs.declared.records.Agent.{Agent}
 use Rattle.orc_heap.specs.declared.discipline.Discipline as discipline
@@ -54,6 +54,13 @@ module _ {D N : Type 0} {d : discipline.Ghosts D N} {m : machine.Ghosts Reclaimi
     pub unlocks : Unlocks (board_bounds board) slot (shows y) (shows q)
 
   module _ {board : MachineBoard D N} {w : Word} {slot r : ℕ} {one : RowLink} {same : Bool} {p q : Pass d m} (e : Protects board w slot r one same p q) where
+    -- it is the same by another name of the link's word, of a marked link
+    pub marked_by : {v : Word} {two : RowLink} → w ≡ v → two.to ≡ Some r → two.mark ≡ true → one ≡ record { to = Some r; mark = true }
+        → Protects board v slot r two same p q
+    marked_by {v} {two} at to mark is =
+        subst (λ z. Protects board z slot r two same p q) at
+        (subst (λ l. Protects board w slot r l same p q) (is ∙ (λ i. record { to = sym to i; mark = sym mark i })) e)
+
     pub stayed : same ≡ true → Stayed board w slot r one p q
     stayed h = record {
       u = e.u;

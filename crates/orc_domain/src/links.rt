@@ -16,10 +16,11 @@ ghost use Rattle.orc_domain.specs.Passes.{IsPassOf, domain_bounds, domain_number
 ghost use Rattle.orc_domain.specs.Searches.{Found};
 
 use crate::domain::{OrcDomain, OrcPass};
+use crate::steps::numbers_of;
 use orc_fault::{NoNode, Spent};
 use orc_heap::{At, Discipline, Held, Links, Looked, LookedOn, Seen, Want};
 use orc_machine_rest::settle;
-use orc_plain_domain::{row_link, word_at};
+use orc_plain_domain::{around, row_link, word_at};
 use orc_sound::Step;
 use orc_words::pack_link;
 
@@ -99,7 +100,7 @@ impl<D: Discipline> Links for OrcDomain<D> {
         self.board.fill(&mut p.pass, row, 0, first);
         self.board.fill(&mut p.pass, row, 1, second);
         self.board.publish(&mut p.pass, slot, row);
-        p.next = (row + 1) % self.board.shape().rows();
+        p.next = around(row + 1, self.board.shape().rows());
         Ok(Held::new(row, slot))
     }
 
@@ -168,7 +169,8 @@ impl<D: Discipline> Links for OrcDomain<D> {
             return LookedOn::Stays(from, Looked::Stable(Seen { null: true, mark }, None));
         };
         if mark {
-            let same = self.protect_marked(&mut p.pass, word, slot, row, one);
+            let (kind, number) = numbers_of(place);
+            let same = self.protect_marked(&mut p.pass, kind, number, slot, row);
             if same {
                 let held = Held::new(row, slot);
                 return LookedOn::Stays(

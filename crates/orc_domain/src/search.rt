@@ -14,6 +14,7 @@ use crate::domain::OrcDomain;
 use orc_core::{CounterUse, SEQUENCE};
 use orc_heap::Discipline;
 use orc_machine_board::MachineBoardPass;
+use orc_plain_domain::around;
 
 impl<D: Discipline> OrcDomain<D> {
     // Goes through all rows once, from this one on, until one is taken.
@@ -30,7 +31,7 @@ impl<D: Discipline> OrcDomain<D> {
     {
         let rows = self.board.shape().rows();
         for offset in 0..rows {
-            let row = (begin + offset) % rows;
+            let row = around(begin + offset, rows);
             if self.try_take(p, row) {
                 return Some(row);
             }

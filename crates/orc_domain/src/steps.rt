@@ -1,21 +1,45 @@
 //! The parts of which the calls are made.
 
-ghost use Rattle.std.specs.Prelude.{◌≡◌, false, true};
+ghost use Rattle.std.specs.Prelude.{◌≡◌, Some, false, true};
 ghost use Rattle.orc_core.specs.RecordParts.{names};
 ghost use Rattle.orc_core.specs.declared.ops.Op.{Op};
 ghost use Rattle.orc_machine_board.specs.Kinds.{MakesPlain, MayDo};
 ghost use Rattle.orc_machine_board.specs.Views.{Belongs, shows};
+ghost use Rattle.orc_plain_domain.specs.Rows.{word_at};
 ghost use Rattle.orc_words.specs.Packed.{link_of, link_word};
 ghost use Rattle.orc_domain.specs.Calls.{Retires, Unlocks};
 ghost use Rattle.orc_domain.specs.Passes.{IsFreshUntouched, domain_bounds, domain_numbers};
-ghost use Rattle.orc_domain.specs.Protections.{MayProtect, Protects};
+ghost use Rattle.orc_domain.specs.Protections.{MayProtect, Protects, word_by};
 ghost use Rattle.orc_domain.specs.Seats.{IsCalm, IsReady, seat_by};
 
 use crate::domain::OrcDomain;
 use orc_core::{CounterUse, SEQUENCE};
-use orc_heap::Discipline;
+use orc_heap::{At, Discipline};
 use orc_machine_board::MachineBoardPass;
 use orc_words::{RowLink, Word, read_link};
+
+// The two numbers by which a place is told: its kind, and its root or its row.
+#[inline(always)]
+pub(crate) fn numbers_of(place: &At) -> (u32, u32)
+    ensures { word_by result.0 result.1 ≡ word_at place.now }
+{
+    match *place {
+        At::Root(root) => (0, root),
+        At::Node(h) => (1, h.row()),
+        At::Side(h) => (2, h.row()),
+    }
+}
+
+// The link word of a place by its two numbers.
+fn word_by(kind: u32, number: u32) -> Word
+    ensures { result ≡ word_by kind number }
+{
+    match kind {
+        0 => Word::Root(number),
+        1 => Word::Next(number),
+        _ => Word::Side(number),
+    }
+}
 
 impl<D: Discipline> OrcDomain<D> {
     // Reads a link. A slot that is named holds the link's target from then on, if that is the row in the slot.
@@ -87,22 +111,27 @@ impl<D: Discipline> OrcDomain<D> {
     }
 
     // The same for a marked link, which a search seldom meets: it stands apart so that a look by which a hold moves on can
-    // stand in line.
+    // stand in line. It takes the link's word by numbers, so that the look can keep the word that it has in registers.
     #[cold]
     #[inline(never)]
     pub(crate) fn protect_marked(
         &self,
         p: &mut MachineBoardPass<D>,
-        at: Word,
+        kind: u32,
+        number: u32,
         slot: u32,
         row: u32,
-        one: RowLink,
     ) -> bool
         requires belongs { Belongs self.now.board p.old }
-        requires allowed { MayProtect self.now.board at slot row p.old }
+        requires allowed { MayProtect self.now.board (word_by kind number) slot row p.old }
         ensures belongs { Belongs self.now.board p.new }
-        ensures protects { Protects self.now.board at slot row one result p.old p.new }
+        ensures protects { Protects self.now.board (word_by kind number) slot row (record { to = Some row; mark = true }) result p.old p.new }
     {
+        let at = word_by(kind, number);
+        let one = RowLink {
+            to: Some(row),
+            mark: true,
+        };
         self.protect(p, at, slot, row, one)
     }
 

@@ -101,6 +101,9 @@ load_kept place slot d w = sym (step_kept (LinkLoad place slot) d w)
 pub published_kept : (k r q : ℕ) (d : Agent) (w : ℕ) → kept_of (record d { slots = slice_set d.slots k (Held q) }) ≡ kept_of (after (Publish k r) d w)
 published_kept k r q d w = ap (λ l. record (kept_of d) { empty = l }) (map-set is_empty d.slots k (Held q)) ∙ sym (step_kept (Publish k r) d w)
 
+pub moved_kept : (k r q : ℕ) (d : Agent) (w : ℕ) → kept_of (record d { slots = slice_set d.slots k (Held q) }) ≡ kept_of (after (MoveOn k r) d w)
+moved_kept k r q d w = ap (λ l. record (kept_of d) { empty = l }) (map-set is_empty d.slots k (Held q)) ∙ sym (step_kept (MoveOn k r) d w)
+
 pub armed_kept : (r q : ℕ) (d : Agent) (w : ℕ) → kept_of (record d { slots = slice_set d.slots 0 (Held q) }) ≡ kept_of (after (Arm r) d w)
 armed_kept r q d w = ap (λ l. record (kept_of d) { empty = l }) (map-set is_empty d.slots 0 (Held q)) ∙ sym (step_kept (Arm r) d w)
 

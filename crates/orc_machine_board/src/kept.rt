@@ -46,6 +46,7 @@ pub(crate) fn keep_parts(own: &mut Agent, op: &Op, read: u64)
             own.looked = None;
         }
         Op::Publish { slot, row: _ } => own.slots[*slot as usize] = IN_USE,
+        Op::MoveOn { slot, row: _ } => own.slots[*slot as usize] = IN_USE,
         Op::Arm { row: _ } => own.slots[0] = IN_USE,
         Op::LinkCas { place: _, from, to } => own.fresh = fresh_after(own.fresh, *from, *to, read),
         Op::CounterLoad {

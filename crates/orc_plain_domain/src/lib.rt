@@ -13,4 +13,4 @@ mod steps;
 pub mod twins;
 
 pub use domain::{PlainDomain, PlainPass, PlainRest};
-pub use names::{first_row, row_link, word_at};
+pub use names::{around, first_row, row_link, word_at};

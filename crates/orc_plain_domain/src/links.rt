@@ -15,7 +15,7 @@ ghost use Rattle.orc_plain_domain.specs.Turns.{IsNext};
 ghost use Rattle.orc_plain_board.specs.Words.{IsOut};
 
 use crate::domain::{PlainDomain, PlainPass};
-use crate::names::{row_link, word_at};
+use crate::names::{around, row_link, word_at};
 use orc_fault::{NoNode, Spent};
 use orc_heap::{At, Discipline, Event, Held, Links, Looked, LookedOn, Seen, Want};
 use orc_words::pack_link;
@@ -82,7 +82,7 @@ impl<D: Discipline> Links for PlainDomain<D> {
         let rows = p.shape.rows();
         let begin = p.next;
         for offset in 0..rows {
-            let row = (begin + offset) % rows;
+            let row = around(begin + offset, rows);
             if self.take(p, row) {
                 return Ok(self.furnish(p, row, slot, first, second));
             }

@@ -1,6 +1,6 @@
 //! How the board names what a caller names, and with which row an agent begins.
 
-ghost use Rattle.std.specs.Prelude.{◌≡◌, ◌<◌, ◌%◌};
+ghost use Rattle.std.specs.Prelude.{◌≡◌, ◌<◌, ◌*◌, ◌%◌};
 ghost use Rattle.orc_words.specs.Bounds.{bounds_of};
 ghost use Rattle.orc_plain_domain.specs.Rows.{row_link, target_link, word_at};
 ghost use Rattle.orc_plain_domain.specs.Turns.{first_row};
@@ -46,6 +46,15 @@ pub(crate) fn target_link(to: Option<&Held>) -> RowLink
             mark: false,
         },
     }
+}
+
+/// The row of this number, where the numbers go on from row 0 behind the last row.
+#[inline(always)]
+pub fn around(number: u32, rows: u32) -> u32
+    requires { number < 2 * rows }
+    ensures { result ≡ number % rows }
+{
+    if number < rows { number } else { number - rows }
 }
 
 /// The row with which an agent's first search begins. Agents begin apart, as far as the rows go.

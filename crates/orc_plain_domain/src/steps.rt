@@ -12,7 +12,7 @@ ghost use Rattle.orc_plain_domain.specs.Calls.{Furnishes, IsSame, Loads, Loses, 
 ghost use Rattle.orc_plain_domain.specs.Passes.{IsPassOf, domain_bounds, domain_numbers, journal_of, next_row, rows_of, seat_of};
 
 use crate::domain::{PlainDomain, PlainPass};
-use crate::names::target_link;
+use crate::names::{around, target_link};
 use orc_heap::{Discipline, Held};
 use orc_words::{RowLink, Word, read_link};
 
@@ -62,7 +62,7 @@ impl<D: Discipline> PlainDomain<D> {
         self.board.fill(&mut p.pass, row, 0, first);
         self.board.fill(&mut p.pass, row, 1, second);
         p.slots[slot as usize] = Some(row);
-        p.next = (row + 1) % p.shape.rows();
+        p.next = around(row + 1, p.shape.rows());
         Held::new(row, slot)
     }
 

@@ -74,10 +74,16 @@ publish-requires-clause-allowed g c =
     publish_can s t c.in-Some.row took u c.args.first c.fill.result c.fill.ensures.made
     v c.args.second c.fill-2.result c.fill-2.ensures.made c.args.slot c.requires.slot
 
-pub overflow_add-p : goal.overflow_add-p
-overflow_add-p g c =
+pub around-p-requires : goal.around-p-requires
+around-p-requires g c =
+    let low = (taken g (goal.at.around-p-requires g c).In-Some).low in
+    let rows = c.rows.ensures ∙ ap (λ (b : Bounds). b.rows) c.shape.ensures in
+    omega (arith, low, rows)
+
+pub overflow_add-row : goal.overflow_add-row
+overflow_add-row g c =
     let k = c.args.self.now.board.words.shape in
-    let took = taken g (goal.at.overflow_add-p g c).In-Some in
+    let took = taken g (goal.at.overflow_add-row g c).In-Some in
     let few = k.shape.few_rows in
     let low = took.low in
     omega (arith, few, low)
@@ -94,15 +100,14 @@ returns-clause-pass g c =
     let w = stage d k _ _ c.publish.ensures.belongs.keeps in
     let rows : c.rows.result ≡ (domain_bounds c.args.self.now).rows = c.rows.ensures ∙ ap (λ (b : Bounds). b.rows) c.shape.ensures in
     let some : 0 < c.rows.result = let r = took.low in omega (arith, r, rows) in
-    let low : (c.in-Some.row + 1) % c.rows.result < c.rows.result = mod-lt (c.in-Some.row + 1) some in
+    let low : c.around-p.result < c.rows.result = subst (λ z. z < c.rows.result) (sym c.around-p.ensures) (mod-lt (c.in-Some.row + 1) some) in
     let next = gives_between s t c.in-Some.row took u c.args.first c.fill.result c.fill.ensures.made
     v c.args.second c.fill-2.result c.fill-2.ensures.made c.args.slot c.requires.slot w c.publish.result c.publish.ensures.made in
     record {
       board = c.publish.ensures.belongs;
       ready = next.ready;
       untouched = next.untouched;
-      inside = subst
-          (λ z. (c.in-Some.row + 1) % c.rows.result < z) rows low;
+      inside = subst (λ z. c.around-p.result < z) rows low;
     }
 
 pub returns-clause-later : goal.returns-clause-later
@@ -165,4 +170,4 @@ pub returns-clause-next : goal.returns-clause-next
 returns-clause-next g c =
     let rows = c.rows.ensures ∙ ap (λ (b : Bounds). b.rows) c.shape.ensures in
     let same = ap (λ (h : Hold). h.row) (sym c.new.ensures) in
-    λ i. (same i + 1) % rows i
+    c.around-p.ensures ∙ (λ i. (same i + 1) % rows i)

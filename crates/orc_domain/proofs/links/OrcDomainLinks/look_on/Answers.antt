@@ -1,4 +1,4 @@
-use Rattle.std.proofs.Common.{None, Some, false, refl, true, ℕ, ◌≡◌, ◌≢◌, ◌∙◌}
+use Rattle.std.proofs.Common.{None, Some, false, refl, subst, sym, true, ℕ, ◌≡◌, ◌≢◌, ◌∙◌}
 use Rattle.orc_heap.proofs.Calls.{looks_beside}
 use Rattle.orc_heap.specs.Seats.{place_in}
 use Rattle.orc_heap.specs.declared.holds.Looked.TheVariants.{Moved, Stable}
@@ -6,9 +6,10 @@ use Rattle.orc_plain_domain.proofs.Equal.{links_agree, links_differ}
 use Rattle.orc_domain.proofs.Looking.{Begun, begin_can, held_leaves, look_between, look_held, look_moved, look_null, moved_between, moved_leaves, moved_mark, null_between, null_leaves}
 use Rattle.orc_domain.proofs.MovingOn.{Leaves, move_between, move_calm, move_can, move_clear_can, move_held, move_leaves, move_off, move_second_can, off_between, off_leaves}
 use Rattle.orc_machine_rest.proofs.TakenIn.{done_later}
-use Rattle.orc_domain.proofs.Protected.{may_protect, stayed, went_off}
+use Rattle.orc_domain.proofs.Protected.{marked_by, may_protect, stayed, went_off}
 use Rattle.orc_domain.proofs.Stages.{stage}
 use Rattle.orc_domain.specs.Passes.{seat_of}
+use Rattle.orc_domain.specs.Protections.{MayProtect}
 use Rattle.orc_domain.proofs.links.OrcDomainLinks.look_on.Given.{Over}
 use Rattle.orc_domain.proofs.links.OrcDomainLinks.look_on.Goals.{After-word_at-word}
 use Rattle.orc_domain.proofs.links.OrcDomainLinks.look_on.Goals as goal
@@ -62,8 +63,9 @@ pub protect_marked-same-requires-clause-allowed : goal.protect_marked-same-requi
 protect_marked-same-requires-clause-allowed g c =
     let l = begun g (goal.at.protect_marked-same-requires-clause-allowed g c).After-word_at-word in
     let one = c.load-one in
-    may_protect c.args.self.now.board _ _ c.args.place.now c.word_at-word.result c.args.slot one.result c.requires.pass.board one.ensures.belongs l
-    one.ensures.made one.ensures.link c.in-Some.row c.in-Some.is
+    subst (λ w. MayProtect c.args.self.now.board w c.args.slot c.in-Some.row c.load-one.new.p) (c.word_at-word.ensures ∙ sym c.numbers_of-kind.ensures)
+    (may_protect c.args.self.now.board _ _ c.args.place.now c.word_at-word.result c.args.slot one.result c.requires.pass.board one.ensures.belongs l
+    one.ensures.made one.ensures.link c.in-Some.row c.in-Some.is)
 
 pub returns-then-mark-clause-pass : goal.returns-then-mark-clause-pass
 returns-then-mark-clause-pass g c =
@@ -71,7 +73,7 @@ returns-then-mark-clause-pass g c =
     let l = begun g (goal.at.returns-then-mark-clause-pass g c).After-word_at-word in
     let one = c.load-one in
     let t = stage g.D.Discipline k _ _ one.ensures.belongs.keeps in
-    let e = went_off c.protect_marked-same.ensures.protects c.if-same.false in
+    let e = went_off (marked_by c.protect_marked-same.ensures.protects (c.numbers_of-kind.ensures ∙ sym c.word_at-word.ensures) c.in-Some.is c.if-mark.true refl) c.if-same.false in
     let u = stage g.D.Discipline k _ _ e.published.belongs.keeps in
     let y = stage g.D.Discipline k _ _ e.reread.belongs.keeps in
     let z = stage g.D.Discipline k _ _ c.protect_marked-same.ensures.belongs.keeps in
@@ -85,7 +87,7 @@ returns-then-mark-clause-looked g c =
     let l = begun g (goal.at.returns-then-mark-clause-looked g c).After-word_at-word in
     let one = c.load-one in
     let t = stage g.D.Discipline k _ _ one.ensures.belongs.keeps in
-    let e = went_off c.protect_marked-same.ensures.protects c.if-same.false in
+    let e = went_off (marked_by c.protect_marked-same.ensures.protects (c.numbers_of-kind.ensures ∙ sym c.word_at-word.ensures) c.in-Some.is c.if-mark.true refl) c.if-same.false in
     let u = stage g.D.Discipline k _ _ e.published.belongs.keeps in
     let y = stage g.D.Discipline k _ _ e.reread.belongs.keeps in
     let z = stage g.D.Discipline k _ _ c.protect_marked-same.ensures.belongs.keeps in
@@ -102,7 +104,7 @@ returns-then-mark-clause-taken_in g c =
     let l = begun g (goal.at.returns-then-mark-clause-taken_in g c).After-word_at-word in
     let one = c.load-one in
     let t = stage g.D.Discipline k _ _ one.ensures.belongs.keeps in
-    let e = went_off c.protect_marked-same.ensures.protects c.if-same.false in
+    let e = went_off (marked_by c.protect_marked-same.ensures.protects (c.numbers_of-kind.ensures ∙ sym c.word_at-word.ensures) c.in-Some.is c.if-mark.true refl) c.if-same.false in
     let u = stage g.D.Discipline k _ _ e.published.belongs.keeps in
     let y = stage g.D.Discipline k _ _ e.reread.belongs.keeps in
     let z = stage g.D.Discipline k _ _ c.protect_marked-same.ensures.belongs.keeps in
@@ -115,7 +117,7 @@ returns-then-mark-clause-later g c =
     let l = begun g (goal.at.returns-then-mark-clause-later g c).After-word_at-word in
     let one = c.load-one in
     let t = stage g.D.Discipline k _ _ one.ensures.belongs.keeps in
-    let e = went_off c.protect_marked-same.ensures.protects c.if-same.false in
+    let e = went_off (marked_by c.protect_marked-same.ensures.protects (c.numbers_of-kind.ensures ∙ sym c.word_at-word.ensures) c.in-Some.is c.if-mark.true refl) c.if-same.false in
     let u = stage g.D.Discipline k _ _ e.published.belongs.keeps in
     let y = stage g.D.Discipline k _ _ e.reread.belongs.keeps in
     let z = stage g.D.Discipline k _ _ c.protect_marked-same.ensures.belongs.keeps in
@@ -128,7 +130,7 @@ returns-then-same-clause-pass g c =
     let l = begun g (goal.at.returns-then-same-clause-pass g c).After-word_at-word in
     let one = c.load-one in
     let t = stage g.D.Discipline k _ _ one.ensures.belongs.keeps in
-    let e = stayed c.protect_marked-same.ensures.protects c.if-same.true in
+    let e = stayed (marked_by c.protect_marked-same.ensures.protects (c.numbers_of-kind.ensures ∙ sym c.word_at-word.ensures) c.in-Some.is c.if-mark.true refl) c.if-same.true in
     let u = stage g.D.Discipline k _ _ e.published.belongs.keeps in
     let y = stage g.D.Discipline k _ _ e.reread.belongs.keeps in
     let next = look_between l t one.result one.ensures.made one.ensures.link c.in-Some.row c.in-Some.is u e.published.number e.published.made
@@ -141,7 +143,7 @@ returns-then-same-clause-looked g c =
     let l = begun g (goal.at.returns-then-same-clause-looked g c).After-word_at-word in
     let one = c.load-one in
     let t = stage g.D.Discipline k _ _ one.ensures.belongs.keeps in
-    let e = stayed c.protect_marked-same.ensures.protects c.if-same.true in
+    let e = stayed (marked_by c.protect_marked-same.ensures.protects (c.numbers_of-kind.ensures ∙ sym c.word_at-word.ensures) c.in-Some.is c.if-mark.true refl) c.if-same.true in
     let u = stage g.D.Discipline k _ _ e.published.belongs.keeps in
     let y = stage g.D.Discipline k _ _ e.reread.belongs.keeps in
     let told = look_held l t one.result one.ensures.made one.ensures.link c.in-Some.row c.in-Some.is u e.published.number e.published.made
@@ -155,7 +157,7 @@ returns-then-same-clause-taken_in g c =
     let l = begun g (goal.at.returns-then-same-clause-taken_in g c).After-word_at-word in
     let one = c.load-one in
     let t = stage g.D.Discipline k _ _ one.ensures.belongs.keeps in
-    let e = stayed c.protect_marked-same.ensures.protects c.if-same.true in
+    let e = stayed (marked_by c.protect_marked-same.ensures.protects (c.numbers_of-kind.ensures ∙ sym c.word_at-word.ensures) c.in-Some.is c.if-mark.true refl) c.if-same.true in
     let u = stage g.D.Discipline k _ _ e.published.belongs.keeps in
     let y = stage g.D.Discipline k _ _ e.reread.belongs.keeps in
     held_leaves l t one.result one.ensures.made one.ensures.link c.in-Some.row c.in-Some.is u e.published.number e.published.made
@@ -167,7 +169,7 @@ returns-then-same-clause-later g c =
     let l = begun g (goal.at.returns-then-same-clause-later g c).After-word_at-word in
     let one = c.load-one in
     let t = stage g.D.Discipline k _ _ one.ensures.belongs.keeps in
-    let e = stayed c.protect_marked-same.ensures.protects c.if-same.true in
+    let e = stayed (marked_by c.protect_marked-same.ensures.protects (c.numbers_of-kind.ensures ∙ sym c.word_at-word.ensures) c.in-Some.is c.if-mark.true refl) c.if-same.true in
     let u = stage g.D.Discipline k _ _ e.published.belongs.keeps in
     let y = stage g.D.Discipline k _ _ e.reread.belongs.keeps in
     done_later _ _ _ _ (held_leaves l t one.result one.ensures.made one.ensures.link c.in-Some.row c.in-Some.is u e.published.number e.published.made

@@ -3,6 +3,8 @@ use Rattle.orc_heap.proofs.Pieces.{goes_on}
 use Rattle.orc_heap.specs.Slots.{Hold}
 use Rattle.orc_plain_board.specs.Words.{IsOut}
 use Rattle.orc_plain_domain.specs.Passes.{domain_bounds, rows_of}
+use Rattle.orc_plain_board.specs.Views.{shows}
+use Rattle.orc_plain_domain.specs.Calls.{Loses}
 use Rattle.orc_plain_domain.specs.Turns.{IsNext}
 use Rattle.orc_plain_domain.proofs.Giving.{gives, tried_all, tried_next, tried_none, tried_one}
 use Rattle.orc_plain_domain.proofs.links.PlainDomainLinks.give.Goals as goal
@@ -19,7 +21,15 @@ returns-then-take-clause-given g c =
 pub loop-offset-preserved : goal.loop-offset-preserved
 loop-offset-preserved g c =
     tried_one c.args.self.now c.args.p.now c.loop-offset.p c.take.new.p c.rows-rows.result c.args.p.now.next c.loop-offset.offset
-    c.loop-offset.invariant c.take.ensures.pass c.take.ensures.same c.if-take.ensures.took
+    c.loop-offset.invariant c.take.ensures.pass c.take.ensures.same
+    (subst (λ row. Loses row c.loop-offset.p.slots (shows c.args.self.now.board c.loop-offset.p.pass) (shows c.args.self.now.board c.take.new.p.pass))
+    c.around-row.ensures c.if-take.ensures.took)
+
+pub around-row-requires : goal.around-row-requires
+around-row-requires g c =
+    let low = c.loop-offset.invariant.inside.1 in
+    let more = c.loop-offset-test.true in
+    omega (arith, low, more)
 
 pub returns-clause-lacking : goal.returns-clause-lacking
 returns-clause-lacking g c =
@@ -34,7 +44,7 @@ returns-then-take-clause-in_turn g c =
     let begin = c.args.p.now.next in
     let rows = c.rows-rows.result in
     let more = goes_on _ _ _ c.if-take.ensures.took.rows c.furnish.ensures.rows in
-    subst (IsNext (domain_bounds links).rows begin (IsOut (rows_of links c.furnish.new.p))) (ap (λ (h : Hold). h.row) (sym c.furnish.ensures.hold))
+    subst (IsNext (domain_bounds links).rows begin (IsOut (rows_of links c.furnish.new.p))) (sym c.around-row.ensures ∙ ap (λ (h : Hold). h.row) (sym c.furnish.ensures.hold))
     (tried_next links c.args.p.now c.loop-offset.p rows begin c.loop-offset.offset c.loop-offset.invariant c.loop-offset-test.true
     (rows_of links c.furnish.new.p) more)
 
