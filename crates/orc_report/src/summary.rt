@@ -7,7 +7,7 @@ ghost use Rattle.orc_jobs.specs.GoodLines.{AreGood};
 ghost use Rattle.orc_board.specs.Follows.{by_key};
 ghost use Rattle.orc_board.specs.Reportable.{AreReportable};
 ghost use Rattle.orc_report.specs.Summary.{done_as, done_in, done_jobs as jobs_done, firsts, operations_of, summary_of};
-ghost use Rattle.orc_report.specs.Totals.{operation_totals, operation_key as key, line_of, total_of as total};
+ghost use Rattle.orc_report.specs.Totals.{operation_totals, key_of as key, line_of, total_of as total};
 ghost use Rattle.orc_jobs.specs.declared.line.Job.{Job};
 
 use indexmap::IndexMap;
@@ -137,7 +137,7 @@ fn note_total(
     ensures { (ops : List Job) → totals.old.entries ≡ operation_totals jobs.now (firsts ops)
         → OnOk result (totals.new.entries ≡ operation_totals jobs.now (firsts (ops ++ op ∷ []))) }
 {
-    let key = operation_key(op);
+    let key = key_of(op);
     if totals.get(&key).is_some() {
         return Ok(());
     }
@@ -164,7 +164,7 @@ fn total_of(jobs: &[(Job, u64)], op: Job) -> Total
 }
 
 // The key of an operation.
-fn operation_key(op: Job) -> u8
+fn key_of(op: Job) -> u8
     ensures { result ≡ key op }
 {
     match op {
