@@ -237,6 +237,24 @@ pub absent_id : (n : HeapNumbers) (root key : ℕ) (left first right : Option Ho
 unfolding absent_adds
 absent_id n root key left first right node slots s t is k f holds all = refl
 
+-- what a search's Looks found stays so
+module _ {n : HeapNumbers} {root key : ℕ} {left first right : Option Hold} {s t : Seat ChainNote} (f : FindsAbsent n root key left first right s t) where
+  pub sees_absent : (y : Seat ChainNote) → Puts t [] y → AllAllowed (ChainMay n) [] y.seen → SeesAbsent n key f.own y
+  sees_absent y p all =
+      let l = f.behind.leads in
+      let place = left_place (key % n.roots) left f.left_id in
+      record {
+        place = place;
+        from = l.from;
+        plain = l.plain;
+        below = below_puts (list_ordering n) t y [] p all place key l.below;
+        sees = l.sees;
+        over = l.over;
+        to = node_of right f.right_id;
+        sees_run = l.sees_run;
+        above = above_puts (list_ordering n) t y [] p all (node_of right f.right_id) key f.above;
+      }
+
 module _ {n : HeapNumbers} {root key : ℕ} {left first right : Option Hold} {s t : Seat ChainNote} (u : Seat ChainNote)
     (f : FindsAbsent n root key left first right s t) (one : IsFree s.slots 1) where
   pub give_free : IsFree t.slots 1

@@ -7,7 +7,7 @@ use Rattle.std.specs.List.{Contains}
 use Rattle.orc_heap.proofs.Calls.{Puts-stood, Puts-trans, part_allowed}
 use Rattle.orc_heap.proofs.Moved.{moves_in-append}
 use Rattle.orc_heap.proofs.OwnParts.{from_own-begun, own_is_all, own_left, own_right, quiet_not_alone}
-use Rattle.orc_heap.proofs.Pieces.{new_is, puts_released}
+use Rattle.orc_heap.proofs.Pieces.{new_is, own_moves_left, puts_released}
 use Rattle.orc_heap.proofs.Runs.{run_heap-snoc}
 use Rattle.orc_heap.proofs.SingleActs.{has_link, some_same}
 use Rattle.orc_heap.specs.Acts.{Fits}
@@ -36,10 +36,12 @@ use Rattle.orc_chain_rule.specs.Laws.Kept.{chain_keeps}
 use Rattle.orc_ordered_chains.proofs.Acts.{move_moves}
 use Rattle.orc_chain_rule.specs.Laws.Kinds.{key_linked, key_one}
 use Rattle.orc_ordered_search.specs.Searches.{AllGone, BeginsRun, HoldsIfAny, Quiet, left_place, node_of}
+use Rattle.orc_list.specs.Inserts.{SeesAbsent}
 use Rattle.orc_list.specs.Searches.{FindsPresent, InHand, NextFollows, list_reading}
 use Rattle.orc_ordered_search.specs.Ways.{IsFew}
 use Rattle.orc_ordered_search.specs.Searches.{first_or, place_at, target_at}
-use Rattle.orc_list.specs.Turns.{HasManyLinks, LeavesOff, Made, MarkStops, Marks, StopsBefore, TakesOut, Tires, TriesUnlink}
+use Rattle.orc_list.specs.Stops.{MarkStops}
+use Rattle.orc_list.specs.Turns.{HasManyLinks, LeavesOff, Made, Marks, StopsBefore, TakesOut, Tires, TriesUnlink}
 use Rattle.orc_list.proofs.Answering.{from_is, head_of, place_of_hand, reads_node, target_is}
 use Rattle.orc_ordered_search.proofs.Held.{first_held, in_hand_on, present_hand, second_held}
 use Rattle.orc_list.proofs.Making.{made_after, made_on, missed, over_on}
@@ -111,11 +113,17 @@ alone_exact s t y own ys q p w some alone =
           last,
     )
 
+-- where a link moved and the pass moved none, it wasn't alone
+pub not_alone : (s t y : Seat ChainNote) (own : List (Event ChainNote)) (q : Puts s own t) (p : Puts t [] y) (w : Puts s own y) → moves_in own ≡ 0
+    → 1 ≤ moves_in (from_own s.agent q.part) → AllOwn s.agent (from_own s.agent w.part) → ⊥
+not_alone s t y own q p w none moved alone =
+    quiet_not_alone s.agent w.part own w.own_is none (omega (arith, moved, own_moves_left s t y own [] own q p w)) alone
+
 -- a search alone, that let all go
 pub quiet_stops : (n : HeapNumbers) (key : ℕ) (s t y : Seat ChainNote) (own : List (Event ChainNote)) → Quiet (list_reading n) s own t → Puts t [] y
     → y.slots ≡ s.slots → y.fresh ≡ t.fresh
-    → MarkStops key s false y
-quiet_stops n key s t y own q p slots fresh = record {
+    → ((w : Puts s own y) → AllOwn s.agent (from_own s.agent w.part) → SeesAbsent n key own y) → MarkStops n key s false y
+quiet_stops n key s t y own q p slots fresh absent = record {
   own = own;
   puts = puts_released s t y own q.puts p;
   slots = slots;
@@ -123,6 +131,7 @@ quiet_stops n key s t y own q p slots fresh = record {
   some = q.some;
   entries_are = q.no_entries;
   moves = q.no_move;
+  absent = λ is. absent (puts_released s t y own q.puts p);
 }
 
 -- links that were made stay made
@@ -317,8 +326,9 @@ module _ {n : HeapNumbers} {root key : ℕ} {left first : Option Hold} {node : H
       p entries (omega (arith, no_give)) (omega (arith, short))) g
 
   -- a remove that stops there
-  pub mark_stops : (done : Bool) (u y : Seat ChainNote) → Marks key f.id (node_of next f.next_id) t done u → AllGone s.slots u y → MarkStops key s done y
-  mark_stops true u y m g =
+  pub mark_stops : (done : Bool) (u y : Seat ChainNote) → Marks key f.id (node_of next f.next_id) t done u → AllGone s.slots u y
+      → AllAllowed (ChainMay n) [] u.seen → MarkStops n key s done y
+  mark_stops true u y m g all =
       let q = f.behind.quiet in
       let made = made_on 0 1 s u y (f.own ++ mark ∷ []) (Removed s.agent key true ∷ []) (made_after n 0 s t u f.own (mark ∷ []) (Removed s.agent key true ∷ [])
       q few m.puts (ap (λ (a : ℕ). Removed a key true ∷ []) q.puts.agent) refl (omega arith)) g.puts in
@@ -334,11 +344,16 @@ module _ {n : HeapNumbers} {root key : ℕ} {left first : Option Hold} {node : H
           f.id,
           takes_right f.own (mark ∷ []) key f.id (inl (link_over to, marked, refl, refl)),
         );
+        absent = λ is. cc;
       }
-  mark_stops false u y m g =
+  mark_stops false u y m g all =
       let q = f.behind.quiet in
+      let from : Link = link_over to in
       let miss : Event ChainNote = event_of t (Miss (Next f.id) (link_over to) m.puts.found) None in
-      let made = made_on 0 1 s u y (f.own ++ miss ∷ []) [] (made_after n 0 s t u f.own (miss ∷ []) [] q few m.puts.puts refl refl (omega arith)) g.puts in
+      let tried = made_after n 0 s t u f.own (miss ∷ []) [] q few m.puts.puts refl refl (omega arith) in
+      let made = made_on 0 1 s u y (f.own ++ miss ∷ []) [] tried g.puts in
+      let moved = missed n s t u f.own _ (Next f.id) from q.puts q.some f.still (key_linked (heap_of n t) f.id key f.is_of.has_key) m.puts all tried.puts in
+      let still : moves_in (f.own ++ miss ∷ []) ≡ 0 = omega (arith, moves_in-append f.own (miss ∷ []), q.no_move) in
       record {
         own = f.own ++ miss ∷ [];
         puts = made.puts;
@@ -346,7 +361,8 @@ module _ {n : HeapNumbers} {root key : ℕ} {left first : Option Hold} {node : H
         fresh = g.fresh ∙ (m.fresh ∙ q.fresh);
         some = omega (arith, length-append f.own (miss ∷ []));
         entries_are = made.entries_are;
-        moves = omega (arith, moves_in-append f.own (miss ∷ []), q.no_move);
+        moves = still;
+        absent = λ is alone. absurd (not_alone s u y (f.own ++ miss ∷ []) tried.puts g.puts made.puts still moved alone);
       }
 
   -- where the pass was alone: what it saw, and that the place showed its link when the node was marked

@@ -3,6 +3,7 @@ pub mod Turns
 pub mod Answers
 pub mod Causes
 pub mod Inserts
+pub mod Stops
 pub mod ListCalls
 pub mod SetMembers
 pub mod Laws

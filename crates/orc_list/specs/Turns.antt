@@ -138,13 +138,3 @@ RemovesTurn n key IsWorn turns s (Some true) t = TakesOut n key IsWorn turns s t
 -- among the events is one Move, which takes the key out at a node
 abbrev pub MarksAlone : ℕ → List (Event ChainNote) → Type 0
 MarksAlone key es = (moves_in es ≡ 1) × (id : ℕ) × TakesKey es key id
-
--- a remove that stops before its last step: the pass holds what it held, and looked; a node was marked, by the only Move, or nothing moved
-pub record MarkStops (key : ℕ) (s : Seat ChainNote) (marked : Bool) (t : Seat ChainNote) : Type 0 where
-  pub own : List (Event ChainNote)
-  pub puts : Puts s own t
-  pub slots : t.slots ≡ s.slots
-  pub fresh : t.fresh ≡ s.fresh
-  pub some : 1 ≤ length own
-  pub entries_are : entries_of own ≡ (if marked then Removed s.agent key true ∷ [] else [])
-  pub moves : MatchBool marked (MarksAlone key own) (moves_in own ≡ 0)

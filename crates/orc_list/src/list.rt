@@ -176,6 +176,7 @@ impl<L: Links<Rule = Chain>> List<L> {
         ensures none { result ≡ false → EntersNone L.Links self.now.links p.old p.new }
         ensures marked { result ≡ true → LeavesMarked L.Links self.now.links key p.old p.new }
         ensures unmoved { result ≡ false → LooksAlone L.Links self.now.links p.old p.new }
+        ensures absent { result ≡ false → IsCallAlone L.Links self.now.links p.old p.new → FindsAbsent L.Links self.now.links key p.old p.new }
     {
         stop_a_remove(&self.links, p, root, key)
     }

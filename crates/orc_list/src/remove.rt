@@ -12,7 +12,8 @@ ghost use Rattle.orc_list.specs.Causes.{HasWorn};
 ghost use Rattle.orc_ordered_search.specs.Searches.{HasRoom, HoldsIfAny};
 ghost use Rattle.orc_list.specs.Searches.{FindsPresent, NextFollows};
 ghost use Rattle.orc_ordered_search.specs.Searches.{place_at, target_at};
-ghost use Rattle.orc_list.specs.Turns.{MarkStops, Marks, RemovesNode, RemovesTurn, TriesUnlink};
+ghost use Rattle.orc_list.specs.Stops.{MarkStops};
+ghost use Rattle.orc_list.specs.Turns.{Marks, RemovesNode, RemovesTurn, TriesUnlink};
 
 use crate::answer::enter_absent;
 use crate::search::{Searched, search};
@@ -204,7 +205,7 @@ fn mark_and_go<L: Links<Rule = Chain>>(
     ensures pass { L.belongs links.now p.new }
     ensures later { IsPrefix (L.journal p.old) (L.journal p.new) }
     ensures stopped { (s : Seat ChainNote) → FindsPresent (L.numbers links.now) root key left first node next s (L.seat links.now p.old)
-        → MarkStops key s result (L.seat links.now p.new) }
+        → MarkStops (L.numbers links.now) key s result (L.seat links.now p.new) }
 {
     let marked = mark_node(links, p, key, &node, &next);
     let_all_go(links, p, left, first, Some(node), next);
@@ -223,7 +224,7 @@ pub(crate) fn stop_a_remove<L: Links<Rule = Chain>>(
     requires room { HasRoom (L.seat links.now p.old).slots }
     ensures pass { L.belongs links.now p.new }
     ensures later { IsPrefix (L.journal p.old) (L.journal p.new) }
-    ensures stopped { MarkStops key (L.seat links.now p.old) result (L.seat links.now p.new) }
+    ensures stopped { MarkStops (L.numbers links.now) key (L.seat links.now p.old) result (L.seat links.now p.new) }
 {
     match search(links, p, root, key) {
         Searched::Over => false,

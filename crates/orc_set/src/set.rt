@@ -70,6 +70,7 @@ impl<L: Links<Rule = Chain>> Set<L> {
         ensures none { result ≡ false → EntersNone L.Links self.now.list.links p.old p.new }
         ensures marked { result ≡ true → LeavesMarked L.Links self.now.list.links key p.old p.new }
         ensures unmoved { result ≡ false → LooksAlone L.Links self.now.list.links p.old p.new }
+        ensures absent { result ≡ false → IsCallAlone L.Links self.now.list.links p.old p.new → FindsAbsent L.Links self.now.list.links key p.old p.new }
     {
         self.list.mark_and_stop(p, root_of(key, self.roots), key)
     }

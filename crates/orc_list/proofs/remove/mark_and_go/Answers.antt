@@ -21,5 +21,6 @@ returns-clause-stopped g c = λ s f.
     let e = c.mark_node-marked.ensures in
     let done = c.mark_node-marked.result in
     let m = marks_at f done u e.marked in
-    let gone = c.let_all_go.ensures.gone s.slots (marked_hand f done u m (g.met.L.Links.allowed d c.mark_node-marked.new.p e.pass)) in
-    mark_stops f done u (g.L.Links.seat d c.let_all_go.new.p) m gone
+    let all = g.met.L.Links.allowed d c.mark_node-marked.new.p e.pass in
+    let gone = c.let_all_go.ensures.gone s.slots (marked_hand f done u m all) in
+    mark_stops f done u (g.L.Links.seat d c.let_all_go.new.p) m gone all

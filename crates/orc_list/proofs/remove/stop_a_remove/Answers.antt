@@ -2,7 +2,8 @@
 use Rattle.std.proofs.Common.{[], append-nil, refl, sym}
 use Rattle.orc_heap.specs.OwnEvents.{Puts}
 use Rattle.orc_ordered_search.proofs.Held.{absent_hand}
-use Rattle.orc_list.proofs.Removing.{quiet_stops}
+use Rattle.orc_list.proofs.Adding.{sees_absent}
+use Rattle.orc_list.proofs.Removing.{not_alone, quiet_stops}
 use Rattle.orc_list.proofs.Ordered.{list_ordering}
 use Rattle.orc_heap.specs.declared.events.Place.TheVariants.{Root}
 use Rattle.orc_list.proofs.remove.stop_a_remove.Goals as goal
@@ -23,6 +24,7 @@ returns-in-Over-clause-stopped g c =
     let found = c.in-Over.ensures.found.0 in
     let none : Puts t [] t = record { part = []; is = sym (append-nil t.seen); agent = refl; own_is = refl } in
     quiet_stops (g.L.Links.numbers d) c.args.key s t t found.own found.quiet none found.slots refl
+    (λ w alone. absurd (not_alone s t t found.own found.quiet.puts none w found.quiet.no_move found.moved alone))
 
 pub returns-in-Absent-clause-stopped : goal.returns-in-Absent-clause-stopped
 returns-in-Absent-clause-stopped g c =
@@ -35,6 +37,7 @@ returns-in-Absent-clause-stopped g c =
     let gone = c.let_all_go.ensures.gone s.slots (absent_hand (list_ordering (g.L.Links.numbers d)) (Root c.args.root) c.args.key 0 spot.left spot.first s t
     spot.right found) in
     quiet_stops (g.L.Links.numbers d) c.args.key s t y found.own found.behind.quiet gone.puts gone.slots_are gone.fresh
+    (λ w alone. sees_absent found y gone.puts (g.met.L.Links.allowed d c.let_all_go.new.p c.let_all_go.ensures.pass))
 
 pub returns-in-Present-clause-stopped : goal.returns-in-Present-clause-stopped
 returns-in-Present-clause-stopped g c =

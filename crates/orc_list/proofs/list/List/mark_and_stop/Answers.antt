@@ -1,31 +1,34 @@
 -- What the call did.
 use Rattle.std.proofs.Common.{Bool, List, [], false, length, subst, sym, true, ℕ, ◌∙◌, ◌∷◌, ◌≡◌, ◌≤◌}
+use Rattle.orc_heap.specs.Heap.{HeapNumbers}
 use Rattle.orc_heap.specs.Moves.{moves_in}
 use Rattle.orc_heap.specs.Seats.{Seat}
 use Rattle.orc_heap.specs.declared.events.Event.{Event}
 use Rattle.orc_history.specs.declared.set.SetEntry.TheVariants.{Removed}
 use Rattle.orc_chain_rule.specs.ChainDiscipline.{entries_of}
 use Rattle.orc_chain_rule.specs.declared.chain.ChainNote.{ChainNote}
-use Rattle.orc_list.specs.Turns.{MarkStops, MarksAlone}
-use Rattle.orc_list.proofs.Causes.{call_adds, own_drop}
+use Rattle.orc_list.specs.Inserts.{SeesAbsent}
+use Rattle.orc_list.specs.Stops.{MarkStops}
+use Rattle.orc_list.specs.Turns.{MarksAlone}
+use Rattle.orc_list.proofs.Causes.{call_adds, own_drop, part_alone}
 use Rattle.orc_list.proofs.list.List.mark_and_stop.Goals as goal
 
 -- by the answer
-marked_entries : (key : ℕ) (s u : Seat ChainNote) (r : Bool) → r ≡ true → (k : MarkStops key s r u) → entries_of k.own ≡ Removed s.agent key true ∷ []
-marked_entries key s u true is k = k.entries_are
-marked_entries key s u false is k = cc
+marked_entries : (n : HeapNumbers) (key : ℕ) (s u : Seat ChainNote) (r : Bool) → r ≡ true → (k : MarkStops n key s r u) → entries_of k.own ≡ Removed s.agent key true ∷ []
+marked_entries n key s u true is k = k.entries_are
+marked_entries n key s u false is k = cc
 
-marked_moves : (key : ℕ) (s u : Seat ChainNote) (r : Bool) → r ≡ true → (k : MarkStops key s r u) → MarksAlone key k.own
-marked_moves key s u true is k = k.moves
-marked_moves key s u false is k = cc
+marked_moves : (n : HeapNumbers) (key : ℕ) (s u : Seat ChainNote) (r : Bool) → r ≡ true → (k : MarkStops n key s r u) → MarksAlone key k.own
+marked_moves n key s u true is k = k.moves
+marked_moves n key s u false is k = cc
 
-unmarked_entries : (key : ℕ) (s u : Seat ChainNote) (r : Bool) → r ≡ false → (k : MarkStops key s r u) → entries_of k.own ≡ []
-unmarked_entries key s u true is k = cc
-unmarked_entries key s u false is k = k.entries_are
+unmarked_entries : (n : HeapNumbers) (key : ℕ) (s u : Seat ChainNote) (r : Bool) → r ≡ false → (k : MarkStops n key s r u) → entries_of k.own ≡ []
+unmarked_entries n key s u true is k = cc
+unmarked_entries n key s u false is k = k.entries_are
 
-unmarked_moves : (key : ℕ) (s u : Seat ChainNote) (r : Bool) → r ≡ false → (k : MarkStops key s r u) → moves_in k.own ≡ 0
-unmarked_moves key s u true is k = cc
-unmarked_moves key s u false is k = k.moves
+unmarked_moves : (n : HeapNumbers) (key : ℕ) (s u : Seat ChainNote) (r : Bool) → r ≡ false → (k : MarkStops n key s r u) → moves_in k.own ≡ 0
+unmarked_moves n key s u true is k = cc
+unmarked_moves n key s u false is k = k.moves
 
 pub returns : goal.returns
 returns g c =
@@ -50,8 +53,10 @@ returns g c =
       idle = record { slots = k.slots ∙ c.requires.idle.slots; fresh = k.fresh ∙ c.requires.idle.fresh };
       later = done.later;
       agent = k.puts.agent;
-      removed = λ is. adds k.own (Removed s.agent key true ∷ []) k.puts (marked_entries key s u r is k);
-      none = λ is. adds k.own [] k.puts (unmarked_entries key s u r is k);
-      marked = λ is. subst (λ (z : List (Event ChainNote)). MarksAlone key z) own (marked_moves key s u r is k);
-      unmoved = λ is. subst (λ (z : List (Event ChainNote)). (1 ≤ length z) × (moves_in z ≡ 0)) own (k.some, unmarked_moves key s u r is k);
+      removed = λ is. adds k.own (Removed s.agent key true ∷ []) k.puts (marked_entries n key s u r is k);
+      none = λ is. adds k.own [] k.puts (unmarked_entries n key s u r is k);
+      marked = λ is. subst (λ (z : List (Event ChainNote)). MarksAlone key z) own (marked_moves n key s u r is k);
+      unmoved = λ is. subst (λ (z : List (Event ChainNote)). (1 ≤ length z) × (moves_in z ≡ 0)) own (k.some, unmarked_moves n key s u r is k);
+      absent = λ is alone. subst (λ (z : List (Event ChainNote)). SeesAbsent n key z u) own (k.absent is (part_alone n (g.L.Links.agents d) g.L.Links.agent_of
+          (g.L.Links.events d) (g.met.L.Links.steps_add d) s u j m done.later is_s is_u all below k.own k.puts alone));
     }
