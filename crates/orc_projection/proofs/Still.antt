@@ -21,7 +21,8 @@ use Rattle.orc_sound.proofs.Outs.{bare_dooms, freed, zero_one}
 use Rattle.orc_sound.proofs.Quiet.{slot_source}
 use Rattle.orc_sound.proofs.Scans.{end_parts}
 use Rattle.orc_sound.proofs.Seats.{seat_split}
-use Rattle.orc_sound.proofs.Sources.{NewHold, frees, fresh_source, gate_source, takes, write_same}
+use Rattle.orc_sound.proofs.Sources.{NewHold, fresh_source, gate_source, takes, write_same}
+use Rattle.orc_sound.specs.Lifetimes.{frees}
 use Rattle.orc_sound.proofs.World.{World, read_by, record_by, seat, step_world, write}
 use Rattle.orc_sound.specs.Doomed.{cuts_past}
 use Rattle.orc_words.specs.Bounds.{Bounds}

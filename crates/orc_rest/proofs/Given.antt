@@ -15,11 +15,11 @@ use Rattle.orc_sound.proofs.Full.{Full, full_first, full_step}
 use Rattle.orc_sound.proofs.Lives.{LivesFit, gate_change}
 use Rattle.orc_sound.proofs.Outs.{taken_out, takes_free}
 use Rattle.orc_sound.proofs.Shown.{word_shown}
-use Rattle.orc_sound.proofs.Sources.{gate_source, takes, frees}
+use Rattle.orc_sound.proofs.Sources.{gate_source, takes}
 use Rattle.orc_sound.proofs.Outs.{freed}
 use Rattle.orc_sound.proofs.Sums.{sum_add, sum_same, sum_point, sum_zero}
 use Rattle.orc_sound.proofs.World.{World, read_by, step_world, world_of}
-use Rattle.orc_sound.specs.Lifetimes.{times_freed, times_taken, is_take, is_free}
+use Rattle.orc_sound.specs.Lifetimes.{frees, is_take_of, times_freed, times_taken}
 use Rattle.orc_words.specs.Bounds.{Bounds, IsShape}
 use Rattle.orc_words.specs.Packed.{bit, gate_of}
 use Rattle.orc_words.specs.declared.place.Word.TheVariants.{Enrolled, Gate}
@@ -104,14 +104,14 @@ both e f = omega arith
 
 -- a step is counted with one row, if it takes or frees one
 taken_once : (b : Bounds) (a : ℕ) (op : Op) (d : Agent) (t : Bool) → IsWithin b (action_of a op d).word
-    → sum_below b.rows (λ r. bit (is_take op r && t)) ≡ bit (is_gate_take op && t)
+    → sum_below b.rows (λ r. bit (is_take_of op r && t)) ≡ bit (is_gate_take op && t)
 taken_once b a (GateTake q) d true h =
     sum_same b.rows (λ r. bit ((q == r) && true)) (λ r. bit (q == r)) (λ r l. ap bit (and_true (q == r))) ∙ sum_point b.rows q h
 taken_once b a (GateTake q) d false h = sum_zero b.rows (λ r. bit ((q == r) && false)) (λ r. ap bit (and_false (q == r)))
 taken_once b a op d t h = sum_zero b.rows (λ r. 0) (λ r. refl)
 
 freed_once : (b : Bounds) (a : ℕ) (op : Op) (d : Agent) → IsWithin b (action_of a op d).word
-    → sum_below b.rows (λ r. bit (is_free op r)) ≡ bit (is_free_step op)
+    → sum_below b.rows (λ r. bit (frees op r)) ≡ bit (is_free_step op)
 freed_once b a (Free q) d h = sum_point b.rows q h
 freed_once b a op d h = sum_zero b.rows (λ r. 0) (λ r. refl)
 
@@ -121,7 +121,7 @@ taken_in_all m (s ∷ ss) l =
     let within = may_within m.bounds (word_in m Enrolled) s.0 s.1 (record_at m s.0) l.0 in
     let one = taken_once m.bounds s.0 s.1 (record_at m s.0) (answer m s.0 s.1 == 1) within in
     let more = taken_in_all (step m s.0 s.1) ss l.1 in
-    sum_add m.bounds.rows (λ r. bit (is_take s.1 r && (answer m s.0 s.1 == 1))) (times_taken (step m s.0 s.1) ss) ∙ both one more
+    sum_add m.bounds.rows (λ r. bit (is_take_of s.1 r && (answer m s.0 s.1 == 1))) (times_taken (step m s.0 s.1) ss) ∙ both one more
 
 freed_in_all : (m : Machine) (steps : List (ℕ × Op)) → IsLawful m steps → sum_below m.bounds.rows (times_freed steps) ≡ reused steps
 freed_in_all m [] l = sum_zero m.bounds.rows (times_freed []) (λ r. refl)
@@ -129,7 +129,7 @@ freed_in_all m (s ∷ ss) l =
     let within = may_within m.bounds (word_in m Enrolled) s.0 s.1 (record_at m s.0) l.0 in
     let one = freed_once m.bounds s.0 s.1 (record_at m s.0) within in
     let more = freed_in_all (step m s.0 s.1) ss l.1 in
-    sum_add m.bounds.rows (λ r. bit (is_free s.1 r)) (times_freed ss) ∙ both one more
+    sum_add m.bounds.rows (λ r. bit (frees s.1 r)) (times_freed ss) ∙ both one more
 
 pub given_is_lives : (b : Bounds) (steps : List (ℕ × Op)) → IsShape b → IsLawful (new_machine b) steps
     → given (new_machine b) steps ≡ sum_below b.rows (λ r. (gate_of (word_in (run (new_machine b) steps) (Gate r))).life)

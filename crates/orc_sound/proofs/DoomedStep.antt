@@ -27,7 +27,8 @@ use Rattle.orc_sound.proofs.OnePart.{scans_some}
 use Rattle.orc_sound.proofs.Outs.{bare_dooms, cas_place, cas_place_out, linked_link, linked_root, load_place, none_linked, raiser_uses, read_out, store_cases, store_row_out, takes_free, uncut_dooms, uses_before, zero_one}
 use Rattle.orc_sound.proofs.Quiet.{counts_row}
 use Rattle.orc_sound.proofs.Seats.{both_ways, not_true, seat_split}
-use Rattle.orc_sound.proofs.Sources.{changes_link, frees, links_stay, out_stays, same_link, same_number, write_same}
+use Rattle.orc_sound.proofs.Sources.{changes_link, links_stay, out_stays, same_link, same_number, write_same}
+use Rattle.orc_sound.specs.Lifetimes.{frees}
 use Rattle.orc_sound.proofs.Sums.{sum_two, sum_zero}
 use Rattle.orc_sound.proofs.Uses.{NewUse, dec_uses, fresh_uses, held_uses, inc_uses}
 use Rattle.orc_sound.proofs.World.{World, read_by, record_by, step_world, write}

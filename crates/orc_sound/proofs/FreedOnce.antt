@@ -24,9 +24,9 @@ use Rattle.orc_sound.proofs.Lives.{LivesFit}
 use Rattle.orc_sound.proofs.Outs.{freed, freed_row, taken_out, takes_free}
 use Rattle.orc_sound.proofs.Seats.{both_ways}
 use Rattle.orc_sound.proofs.Shown.{low_bit, word_shown}
-use Rattle.orc_sound.proofs.Sources.{frees, gate_source, out_stays, takes}
+use Rattle.orc_sound.proofs.Sources.{gate_source, out_stays, takes}
 use Rattle.orc_sound.proofs.World.{World, read_by, step_world, world_of}
-use Rattle.orc_sound.specs.Lifetimes.{NoWrap, is_free, is_take, times_freed, times_taken}
+use Rattle.orc_sound.specs.Lifetimes.{NoWrap, frees, is_take_of, times_freed, times_taken}
 
 -- a row that is out, or is taken, is freed or out
 out_step : (b : Bounds) (z : World) (a : ℕ) (op : Op) (r : ℕ) → LawfulStep b z a op → LivesFit b z
@@ -70,18 +70,14 @@ won : (t : Bool) → (cond t 1 0 == 1) ≡ t
 won true = refl
 won false = refl
 
-take_core : (op : Op) (a : ℕ) (d : Agent) (v r : ℕ) → (is_take op r && (answer_of (action_of a op d).operation v == 1)) ≡ takes op d v r
+take_core : (op : Op) (a : ℕ) (d : Agent) (v r : ℕ) → (is_take_of op r && (answer_of (action_of a op d).operation v == 1)) ≡ takes op d v r
 take_core (GateTake q) a d v r = ap (λ t. (q == r) && t) (won (v == 2 * number_of d.looked))
 take_core op a d v r = refl
 
 -- a GateTake that answers 1 takes the row
 pub take_answer : (m : Machine) (a : ℕ) (op : Op) (r : ℕ) → word_read m a op ≡ read_by (world_of m) a op
-    → (is_take op r && (answer m a op == 1)) ≡ takes op (record_at m a) (read_by (world_of m) a op) r
+    → (is_take_of op r && (answer m a op == 1)) ≡ takes op (record_at m a) (read_by (world_of m) a op) r
 take_answer m a op r e = take_core op a (record_at m a) (word_read m a op) r ∙ ap (λ v. takes op (record_at m a) v r) e
-
-free_same : (op : Op) (r : ℕ) → is_free op r ≡ frees op r
-free_same (Free q) r = refl
-free_same op r = refl
 
 pub read_shown : (m : Machine) (a : ℕ) (op : Op) → is_allowed m a op ≡ true → word_read m a op ≡ read_by (world_of m) a op
 read_shown m a op h = sym (word_shown m (action_of a op (record_at m a)).word (may_within m.bounds (word_in m Enrolled) a op (record_at m a) h))
@@ -100,7 +96,6 @@ run_lives m (x ∷ xs) r h w s l =
     let i = run_lives (step m x.0 x.1) xs r h (full_step m x.0 x.1 w) n l.1 in
     let o = out_step m.bounds (world_of m) x.0 x.1 r p s.lives in
     let t = ap bit (take_answer m x.0 x.1 r (read_shown m x.0 x.1 l.0)) in
-    let f = ap bit (free_same x.1 r) in
     let a = out_bit m r h in
     let b = out_bit (step m x.0 x.1) r h in
     let c = ap (λ z. out (z.memory (Gate r))) e in

@@ -20,7 +20,8 @@ use Rattle.orc_sound.proofs.Balances.{OutPlace}
 use Rattle.orc_sound.proofs.Bits.{bit_before, raises, retired_one, scan_places}
 use Rattle.orc_sound.proofs.Facts.{Counted, Doomed, Gone, LawfulStep, linked_in, out, to_row}
 use Rattle.orc_sound.proofs.Seats.{both_ways, not_true, seat_split}
-use Rattle.orc_sound.proofs.Sources.{changes_link, frees, gate_source, links, links_source, links_stay, out_stays, puts, root_source, takes, same_link}
+use Rattle.orc_sound.proofs.Sources.{changes_link, gate_source, links, links_source, links_stay, out_stays, puts, root_source, takes, same_link}
+use Rattle.orc_sound.specs.Lifetimes.{frees}
 use Rattle.orc_sound.proofs.Sums.{sum_member}
 use Rattle.orc_sound.proofs.Uses.{NewUse, due_uses, fresh_uses, held_uses, links_held, use_source}
 use Rattle.orc_sound.proofs.World.{World, read_by, record_by, step_world, write}

@@ -18,6 +18,7 @@ use Rattle.orc_core.specs.declared.records.Agent.{Agent}
 use Rattle.orc_core.specs.declared.records.Scan.{Scan}
 use Rattle.orc_core.specs.declared.records.SlotUse.{SlotUse}
 use Rattle.orc_core.specs.declared.records.SlotUse.TheVariants.{Empty, Held, Published}
+use Rattle.orc_sound.specs.Lifetimes.{frees}
 use Rattle.orc_sound.proofs.Balances.{to_row-link}
 use Rattle.orc_sound.proofs.Bridge.{same_word-true}
 use Rattle.orc_sound.proofs.Facts.{out, to_row}
@@ -101,10 +102,6 @@ write_same m w x = cases m w x (same_word x w) refl
     cases : (m : Word → ℕ) (w x : Word) (b : Bool) → same_word x w ≡ b → cond b (m w) (m x) ≡ m x
     cases m w x true e = ap m (sym (same_word-true x w e))
     cases m w x false e = refl
-
-abbrev pub frees : Op → ℕ → Bool
-frees (Free q) r = q == r
-frees _ r = false
 
 -- the gates that are out stay out, but at Free
 pub out_stays : (m : Word → ℕ) (b : Bounds) (e a : ℕ) (op : Op) (d : Agent) (r : ℕ) → fits b e a op d ≡ true → frees op r ≡ false
