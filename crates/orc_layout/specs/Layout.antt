@@ -25,8 +25,8 @@ index b p =
     (agents_at b + (p - (1 + b.roots + words_of_rows b b.rows))))
 
 -- how many words the table has, with its gaps
-abbrev pub room : Bounds → ℕ
-room b = index b (places b)
+abbrev pub table_length : Bounds → ℕ
+table_length b = index b (places b)
 
 -- the first place stands at 0, and each other one behind that before it
 pub record IsLayout (index : ℕ → ℕ) : Type 0 where

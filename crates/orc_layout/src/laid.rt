@@ -3,7 +3,7 @@
 ghost use Rattle.std.specs.Prelude.{◌≡◌, IfOk, length};
 ghost use Rattle.orc_words.specs.Bounds.{bounds_of};
 ghost use Rattle.orc_words.specs.Places.{places};
-ghost use Rattle.orc_layout.specs.Layout.{index, lay, room};
+ghost use Rattle.orc_layout.specs.Layout.{index, lay, table_length};
 
 use crate::layout::Layout;
 use orc_fault::NoMemory;
@@ -19,7 +19,7 @@ use std::alloc::Global;
 pub fn laid_words(alloc: Global, shape: &Shape, words: &[u64]) -> Result<Vec<u64>, NoMemory>
     requires all { length words.now ≡ places (bounds_of shape.now) }
     ensures laid { IfOk result (λ laid. laid.items ≡ lay (index (bounds_of shape.now)) words.now) }
-    ensures long { IfOk result (λ laid. length laid.items ≡ room (bounds_of shape.now)) }
+    ensures long { IfOk result (λ laid. length laid.items ≡ table_length (bounds_of shape.now)) }
 {
     let layout = Layout::new(shape);
     let mut laid = vec![in alloc; 0; layout.index_at(shape, words.len())]?;

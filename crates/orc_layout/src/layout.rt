@@ -4,7 +4,7 @@ ghost use Rattle.std.specs.Prelude.{◌≡◌, ◌<◌, ◌≤◌, ◌*◌, ◌+
 ghost use Rattle.orc_words.specs.Bounds.{Bounds, bounds_of};
 ghost use Rattle.orc_words.specs.Places.{IsWithin, place, places};
 ghost use Rattle.orc_words.specs.declared.place.Word.TheVariants.{Enrolled, Root, Slot};
-ghost use Rattle.orc_layout.specs.Layout.{index, layout_of, room};
+ghost use Rattle.orc_layout.specs.Layout.{index, layout_of, table_length};
 
 use orc_words::{Shape, Word};
 
@@ -22,7 +22,7 @@ impl Layout {
     ghost use Rattle.std.specs.Prelude.{◌≡◌, ◌<◌, ◌≤◌};
     ghost use Rattle.orc_words.specs.Bounds.{bounds_of};
     ghost use Rattle.orc_words.specs.Places.{IsWithin, place, places};
-    ghost use Rattle.orc_layout.specs.Layout.{index, layout_of, room};
+    ghost use Rattle.orc_layout.specs.Layout.{index, layout_of, table_length};
 
     /// The layout of tables of this shape.
     pub fn new(shape: &Shape) -> Layout
@@ -38,11 +38,11 @@ impl Layout {
 
     /// The index of a word in a table of this layout, from 0.
     #[inline(always)]
-    pub fn index_of(&self, shape: &Shape, word: Word) -> usize
+    pub fn word_index(&self, shape: &Shape, word: Word) -> usize
         requires laid { self.now ≡ layout_of (bounds_of shape.now) }
         requires within { IsWithin (bounds_of shape.now) word }
         ensures index { result ≡ index (bounds_of shape.now) (place (bounds_of shape.now) word) }
-        ensures inside { result < room (bounds_of shape.now) }
+        ensures inside { result < table_length (bounds_of shape.now) }
     {
         match word {
             Word::Enrolled => 0,
@@ -82,7 +82,7 @@ impl Layout {
 /// each root and the first slot of each agent begin a line.
 pub fn different_places_have_different_indices()
     ensures apart { (b : Bounds) (p q : ℕ) → index b p ≡ index b q → p ≡ q }
-    ensures inside { (b : Bounds) (p : ℕ) → p < places b → index b p < room b }
+    ensures inside { (b : Bounds) (p : ℕ) → p < places b → index b p < table_length b }
     ensures enrolled { (b : Bounds) → index b (place b Enrolled) % 8 ≡ 0 }
     ensures roots { (b : Bounds) (i : ℕ) → i < b.roots → index b (place b (Root i)) % 8 ≡ 0 }
     ensures agents { (b : Bounds) (a : ℕ) → a < b.agents → index b (place b (Slot a 0)) % 8 ≡ 0 }

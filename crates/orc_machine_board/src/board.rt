@@ -1,7 +1,7 @@
 //! The board and its passes.
 
 ghost use Rattle.std.specs.Prelude.{◌≡◌};
-ghost use Rattle.orc_layout.specs.Layout.{room};
+ghost use Rattle.orc_layout.specs.Layout.{table_length};
 ghost use Rattle.orc_words.specs.Bounds.{bounds_of};
 
 use crate::machine::Reclaiming;
@@ -12,7 +12,7 @@ use orc_shared_words::{Machine, SharedPass, SharedWords};
 #[derive(Drop)]
 pub struct MachineBoard<D: Discipline> {
     pub(crate) words: SharedWords<Reclaiming, D>,
-    ghost sized: { words.table.shared.table_id.words ≡ room (bounds_of words.shape.shape) },
+    ghost sized: { words.table.shared.table_id.words ≡ table_length (bounds_of words.shape.shape) },
 }
 
 /// An agent's pass to a board, with its record.

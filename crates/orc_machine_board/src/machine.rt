@@ -84,7 +84,7 @@ impl<N: Copy> Machine<N> for Reclaiming {
     ) -> PlacedOperation {
         let action = action_of(agent, &op.op, own);
         PlacedOperation {
-            index: shape.layout.index_of(&shape.shape, action.word),
+            index: shape.layout.word_index(&shape.shape, action.word),
             operation: action.operation,
         }
     }

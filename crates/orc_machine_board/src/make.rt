@@ -5,7 +5,7 @@ ghost use Rattle.orc_core.specs.Runs.{run};
 ghost use Rattle.orc_core.specs.Machine.{new_machine};
 ghost use Rattle.orc_words.specs.Bounds.{Bounds, bounds_of};
 ghost use Rattle.orc_heap.specs.Seeds.{HasRoots, SeedAllowed};
-ghost use Rattle.orc_layout.specs.Layout.{index, lay, room};
+ghost use Rattle.orc_layout.specs.Layout.{index, lay, table_length};
 ghost use Rattle.orc_machine_board.specs.Passes.{HasNothing};
 ghost use Rattle.orc_machine_board.specs.Rules.{enrolments, machine_opening, run_of, seeding};
 ghost use Rattle.orc_machine_board.specs.Views.{Belongs, board_bounds, board_seed, shows};
@@ -174,7 +174,7 @@ fn opened<N>(
 ) -> Result<(Vec<u64>, Vec<Agent>), NoMemory>
     requires { HasRoots (numbers_of (bounds_of shape.now)) seed.now }
     ensures words { let b = bounds_of shape.now in IfOk result (λ made. made.0.items ≡ lay (index b) (run_of b (machine_opening b.agents seed.now)).words) }
-    ensures long { IfOk result (λ made. length made.0.items ≡ room (bounds_of shape.now)) }
+    ensures long { IfOk result (λ made. length made.0.items ≡ table_length (bounds_of shape.now)) }
     ensures agents { let b = bounds_of shape.now in IfOk result (λ made. made.1.items ≡ (run_of b (machine_opening b.agents seed.now)).agents) }
 {
     let mut state = State::new(alloc, shape)?;

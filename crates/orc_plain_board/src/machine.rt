@@ -125,7 +125,7 @@ impl<N: Copy> Machine<N> for Plain {
 
     #[inline(always)]
     fn operation(shape: &PlainShape<N>, agent: u32, op: &PlainOp, own: &()) -> PlacedOperation {
-        let index = shape.layout.index_of(&shape.shape, word_of(op));
+        let index = shape.layout.word_index(&shape.shape, word_of(op));
         let operation = match *op {
             PlainOp::GateLook { row: _ } => Operation::Load,
             PlainOp::GateTake { row: _ } => Operation::CompareExchange(0, OUT),

@@ -2,7 +2,7 @@
 
 ghost use Rattle.std.specs.Prelude.{◌≡◌, ◌<◌, [], All, IfOk, None, length};
 ghost use Rattle.orc_words.specs.Bounds.{bounds_of};
-ghost use Rattle.orc_layout.specs.Layout.{index, lay, room};
+ghost use Rattle.orc_layout.specs.Layout.{index, lay, table_length};
 ghost use Rattle.orc_words.specs.Places.{places};
 ghost use Rattle.orc_shared_words.specs.Lists.{EachAt, EachFrom};
 ghost use Rattle.orc_plain_board.specs.Machine.{numbers, run};
@@ -79,7 +79,7 @@ fn plain_passes<D: Discipline>(
 fn opening_words<N>(alloc: Global, shape: &Shape, seed: &Seed<N>) -> Result<Vec<u64>, NoMemory>
     requires roots { HasRoots (numbers (bounds_of shape.now)) seed.now }
     ensures words { IfOk result (λ words. words.items ≡ lay (index (bounds_of shape.now)) (run (bounds_of shape.now) (opening_steps seed.now)).words) }
-    ensures long { IfOk result (λ words. length words.items ≡ room (bounds_of shape.now)) }
+    ensures long { IfOk result (λ words. length words.items ≡ table_length (bounds_of shape.now)) }
 {
     let words = words_by_place(alloc, shape, seed)?;
     laid_words(alloc, shape, words.as_slice())

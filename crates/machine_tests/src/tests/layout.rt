@@ -26,7 +26,7 @@ fn a_small_table_by_hand()
 fn its_words_are_laid_by_hand(rt: HostRuntime) -> Result<(), Fail> {
     let shape = Shape::new(2, 2, 2, 9)?;
     let layout = Layout::new(&shape);
-    assert_eq!(rt; layout.index_of(&shape, Word::Slot(1, 1)), 57);
+    assert_eq!(rt; layout.word_index(&shape, Word::Slot(1, 1)), 57);
     let words: Vec<u64> = (1..46).collect(rt.alloc())?;
     assert!(rt; words.len() == 45 && shape.words() == 45);
     let laid = laid_words(rt.alloc(), &shape, words.as_slice())?;

@@ -1,7 +1,7 @@
 use Rattle.std.proofs.Common.{ap, arith, length, refl, subst, sym, ◌<◌, ◌∙◌, ◌≡◌}
 use Rattle.std.specs.Prelude.{slice_index_or}
-use Rattle.orc_layout.proofs.Indices.{room_some}
-use Rattle.orc_layout.specs.Layout.{room}
+use Rattle.orc_layout.proofs.Indices.{table_has_words}
+use Rattle.orc_layout.specs.Layout.{table_length}
 use Rattle.orc_machine_board.proofs.Opening.{new_keeps, opening_nothing, opens, seed_roots}
 use Rattle.orc_machine_board.specs.Laws.Steps.{in_range, long_run}
 use Rattle.orc_machine_board.specs.Passes.{HasNothing}
@@ -14,8 +14,8 @@ use Rattle.orc_machine_board.proofs.board.MachineBoard.make.Goals as goal
 pub make-requires-clause-some : goal.make-requires-clause-some
 make-requires-clause-some g c =
     let b = bounds_of c.args.shape.now in
-    let e : length c.as_slice.result.now ≡ room b = ap length c.as_slice.ensures.value ∙ c.in_ok-words.ensures.long in
-    subst (λ n. 0 < n) (sym e) (room_some b)
+    let e : length c.as_slice.result.now ≡ table_length b = ap length c.as_slice.ensures.value ∙ c.in_ok-words.ensures.long in
+    subst (λ n. 0 < n) (sym e) (table_has_words b)
 
 pub make-requires-clause-agents : goal.make-requires-clause-agents
 make-requires-clause-agents g c =
@@ -31,8 +31,8 @@ make-requires-clause-opening g c = opens g.D.Discipline (record { shape = c.args
 pub invariant_of-result : goal.invariant_of-result
 invariant_of-result g c =
     let b = bounds_of c.args.shape.now in
-    let e : length c.as_slice.result.now ≡ room b = ap length c.as_slice.ensures.value ∙ c.in_ok-words.ensures.long in
-    record { sized = c.in_ok-words-2.ensures.words ∙ (e ∙ ap (λ q. room (bounds_in q)) (sym c.in_ok-words-2.ensures.shape)) }
+    let e : length c.as_slice.result.now ≡ table_length b = ap length c.as_slice.ensures.value ∙ c.in_ok-words.ensures.long in
+    record { sized = c.in_ok-words-2.ensures.words ∙ (e ∙ ap (λ q. table_length (bounds_in q)) (sym c.in_ok-words-2.ensures.shape)) }
 
 pub returns-clause-agents : goal.returns-clause-agents
 returns-clause-agents g c = λ i p lt.

@@ -16,8 +16,8 @@ action_of-action-requires g c =
     let q = c.requires.allowed in
     same_packable op q.0 c.args.own.now q.1 (may_packable (bounds_of s) 0 c.args.agent op q.0 q.2.may s.few_rows s.low_limit)
 
-pub index_of-requires : goal.index_of-requires
-index_of-requires g c =
+pub word_index-requires : goal.word_index-requires
+word_index-requires g c =
     let b = bounds_of c.args.shape.now.shape in
     let op = c.args.op.now.op in
     let q = c.requires.allowed in
@@ -31,7 +31,7 @@ index_of-requires g c =
 pub returns-clause-index : goal.returns-clause-index
 returns-clause-index g c = λ d tie allowed.
     let b = bounds_of c.args.shape.now.shape in
-    c.index_of.ensures.index ∙ ap (λ (z : Action). index b (place b z.word))
+    c.word_index.ensures.index ∙ ap (λ (z : Action). index b (place b z.word))
     (c.action_of-action.ensures ∙ sym (same_action c.args.agent c.args.op.now.op d c.args.own.now tie))
 
 pub returns-clause-written : goal.returns-clause-written

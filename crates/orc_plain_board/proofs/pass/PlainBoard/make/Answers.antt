@@ -1,7 +1,7 @@
 use Rattle.std.proofs.Common.{◌≡◌, slice_index_or, ◌<◌, length, sym, ap, subst, ◌∙◌, arith}
 use Rattle.orc_words.specs.Bounds.{bounds_of}
-use Rattle.orc_layout.proofs.Indices.{room_some}
-use Rattle.orc_layout.specs.Layout.{room}
+use Rattle.orc_layout.proofs.Indices.{table_has_words}
+use Rattle.orc_layout.specs.Layout.{table_length}
 use Rattle.orc_plain_board.specs.Machine.{numbers, project}
 use Rattle.orc_plain_board.proofs.Making.{new_keeps}
 use Rattle.orc_plain_board.proofs.Opening.{has_roots, opened_events, opens}
@@ -14,15 +14,16 @@ pub make-requires-clause-opening : goal.make-requires-clause-opening
 make-requires-clause-opening g c = opens g.D.Discipline c.args.shape.now c.new.result c.make-arg-1.given.0 c.args.seed c.requires.holds c.requires.seed
 
 pub make-requires-clause-some : goal.make-requires-clause-some
-make-requires-clause-some g c = let e : length c.as_slice.result.now ≡ room (bounds_of c.args.shape.now) = ap length c.as_slice.ensures.value
-    ∙ c.in_ok-words.ensures.long in subst (λ n. 0 < n) (sym e) (room_some (bounds_of c.args.shape.now))
+make-requires-clause-some g c = let e : length c.as_slice.result.now ≡ table_length (bounds_of c.args.shape.now) = ap length c.as_slice.ensures.value
+    ∙ c.in_ok-words.ensures.long in subst (λ n. 0 < n) (sym e) (table_has_words (bounds_of c.args.shape.now))
 
 pub invariant_of-result : goal.invariant_of-result
 invariant_of-result g c =
     record {
       sized =
           c.in_ok-words-2.ensures.words
-          ∙ (ap length c.as_slice.ensures.value ∙ (c.in_ok-words.ensures.long ∙ ap (λ q. room (bounds_of q.shape)) (sym c.in_ok-words-2.ensures.shape)));
+          ∙ (ap length c.as_slice.ensures.value
+          ∙ (c.in_ok-words.ensures.long ∙ ap (λ q. table_length (bounds_of q.shape)) (sym c.in_ok-words-2.ensures.shape)));
     }
 
 pub returns-clause-agents : goal.returns-clause-agents
