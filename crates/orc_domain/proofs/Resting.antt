@@ -3,7 +3,7 @@ use Rattle.std.proofs.Common.{List, [], arith, drop, length, subst, sym, ℕ, �
 use Rattle.std.proofs.lemmas.List.Elements.{recursion_from_All}
 use Rattle.std.specs.List.{AllByRecursion}
 use Rattle.orc_machine_rest.proofs.TakingIn.{takes_more, takes_none, covers, first_number, nothing_new}
-use Rattle.orc_machine_rest.specs.Ends.{TakesIn}
+use Rattle.orc_machine_rest.specs.Ends.{TakesInSteps}
 use Rattle.orc_core.specs.declared.records.Agent.{Agent}
 use Rattle.orc_heap.specs.declared.discipline.Discipline as discipline
 use Rattle.orc_machine_board.specs.Passes.{AbsorbsSteps, TookInAll}
@@ -35,7 +35,7 @@ module _ {D N : Type 0} {d : discipline.Ghosts D N} {m : machine.Ghosts Reclaimi
         (all rest : List (OrcPass D N (MachineShape N) Request (Step N) Agent Agent d m)) : Type 0 where
       pub belongs : Belongs domain.board q
       pub others : AllByRecursion (λ w. IsPassOf domain w) rest
-      pub to_go : (u : MachineView N) → TakesIn view (shows q) u rest → TakesIn view (shows p) u all
+      pub to_go : (u : MachineView N) → TakesInSteps view (shows q) u rest → TakesInSteps view (shows p) u all
 
     pub taking_all : (p : MachineBoardPass D N (MachineShape N) Request (Step N) Agent Agent d m)
         (all : List (OrcPass D N (MachineShape N) Request (Step N) Agent Agent d m)) → Belongs domain.board p
@@ -61,7 +61,7 @@ module _ {D N : Type 0} {d : discipline.Ghosts D N} {m : machine.Ghosts Reclaimi
 
     pub taking_done : (p q : MachineBoardPass D N (MachineShape N) Request (Step N) Agent Agent d m)
         (all rest : List (OrcPass D N (MachineShape N) Request (Step N) Agent Agent d m)) → Taking p q all rest → rest ≡ []
-        → TakesIn view (shows p) (shows q) all
+        → TakesInSteps view (shows p) (shows q) all
     taking_done p q all rest t is = t.to_go (shows q) (takes_none view (shows q) rest is)
 
     pub some_passes : (ps : List (OrcPass D N (MachineShape N) Request (Step N) Agent Agent d m)) → AreAll domain ps → 0 < length ps
@@ -80,9 +80,9 @@ module _ {D N : Type 0} {d : discipline.Ghosts D N} {m : machine.Ghosts Reclaimi
 
       -- the first has taken in all others
       module _ (q : MachineBoardPass D N (MachineShape N) Request (Step N) Agent Agent d m) (x : Belongs domain.board q)
-          (left : List (OrcPass D N (MachineShape N) Request (Step N) Agent Agent d m)) (e : left ≡ ws) (t : TakesIn view (view w) (shows q) left) where
-        taken : TakesIn view (view w) (shows q) ws
-        taken = subst (TakesIn view (view w) (shows q)) e t
+          (left : List (OrcPass D N (MachineShape N) Request (Step N) Agent Agent d m)) (e : left ≡ ws) (t : TakesInSteps view (view w) (shows q) left) where
+        taken : TakesInSteps view (view w) (shows q) ws
+        taken = subst (TakesInSteps view (view w) (shows q)) e t
 
         pub covered : TookInAll (domain_bounds domain) (shows q)
         covered = covers view (domain_bounds domain) ps w ws is all.many all.order (shows q) taken

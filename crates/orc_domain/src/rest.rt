@@ -2,7 +2,7 @@
 
 ghost use Rattle.std.specs.Prelude.{◌≡◌, ◌+◌, ◌++◌};
 ghost use Rattle.std.specs.List.{AllByRecursion};
-ghost use Rattle.orc_machine_rest.specs.Ends.{CountsOf, TakesIn};
+ghost use Rattle.orc_machine_rest.specs.Ends.{CountsOf, TakesInSteps};
 ghost use Rattle.orc_machine_rest.specs.Looks.{gate_looks};
 ghost use Rattle.orc_core.specs.Machine.{new_machine};
 ghost use Rattle.orc_layout.specs.Layout.{index, lay};
@@ -108,17 +108,17 @@ impl<D: Discipline> OrcDomain<D> {
         let mut others = passes;
         let first = others.remove(0);
         let OrcPass { mut pass, next: _ } = first;
-        self.take_in_all(&mut pass, others);
+        self.take_in_steps(&mut pass, others);
         let counts = count_rows(&self.board, &mut pass);
         (pass, counts)
     }
 
-    // Takes in the passes, one after another.
-    fn take_in_all(&self, into: &mut MachineBoardPass<D>, others: Vec<OrcPass<D>>)
+    // Takes in the passes, one after another. What is told of them is the steps that they have seen.
+    fn take_in_steps(&self, into: &mut MachineBoardPass<D>, others: Vec<OrcPass<D>>)
         requires into { Belongs self.now.board into.old }
         requires others { AllByRecursion (λ p. IsPassOf self.now p) others.items }
         ensures into { Belongs self.now.board into.new }
-        ensures taken { TakesIn (λ p. shows p.pass) (shows into.old) (shows into.new) others.items }
+        ensures taken { TakesInSteps (λ p. shows p.pass) (shows into.old) (shows into.new) others.items }
     {
         let mut rest = others;
         while !rest.is_empty() {

@@ -4,7 +4,7 @@ use Rattle.std.proofs.lemmas.List.{append_cancel_left}
 use Rattle.std.proofs.lemmas.List.Elements.{All-from_recursion}
 use Rattle.std.specs.Prelude.{slice_index_or}
 use mathlib.Core.List.{IsPrefix}
-use Rattle.orc_machine_rest.specs.Ends.{FirstSawAll, HasOwnSteps, TakesIn, first_journal}
+use Rattle.orc_machine_rest.specs.Ends.{FirstSawAll, HasOwnSteps, TakesInSteps, first_journal}
 use Rattle.orc_heap.proofs.Pieces.{goes_on}
 use Rattle.orc_machine_board.specs.Passes.{AbsorbsSteps, TookInAll, steps_of}
 use Rattle.orc_machine_board.specs.Views.{MachineView}
@@ -21,8 +21,8 @@ first_more xs ys zs (inl l) = prefix_same xs zs l.1
 first_more xs ys zs (inr l) = subst (IsPrefix xs) (sym l.1) l.0
 
 module _ {N W : Type 0} (view : W → MachineView N) where
-  pub takes_none : (s : MachineView N) (all : List W) → all ≡ [] → TakesIn view s s all
-  takes_none s all e = subst (TakesIn view s s) (sym e) (record {
+  pub takes_none : (s : MachineView N) (all : List W) → all ≡ [] → TakesInSteps view s s all
+  takes_none s all e = subst (TakesInSteps view s s) (sym e) (record {
     agent = refl;
     record_is = refl;
     more = prefix_same s.journal s.journal refl;
@@ -31,14 +31,14 @@ module _ {N W : Type 0} (view : W → MachineView N) where
     taken = tt;
   })
 
-  pub takes_more : (s t u : MachineView N) (w : W) (ws all : List W) → all ≡ w ∷ ws → AbsorbsSteps s (view w) t → TakesIn view t u ws
-      → TakesIn view s u all
+  pub takes_more : (s t u : MachineView N) (w : W) (ws all : List W) → all ≡ w ∷ ws → AbsorbsSteps s (view w) t → TakesInSteps view t u ws
+      → TakesInSteps view s u all
   takes_more s t u w ws all e a r =
       let kept : (b : ℕ) → Among b s.absorbed → Among b t.absorbed =
       λ b h. subst (Among b) (sym a.absorbed) (inr (among_behind b (view w).absorbed s.absorbed h)) in
       let mine : Among (view w).agent t.absorbed = subst (Among (view w).agent) (sym a.absorbed) (inl refl) in
       let last = r.before (view w).agent mine in
-      subst (TakesIn view s u) (sym e) (record {
+      subst (TakesInSteps view s u) (sym e) (record {
         agent = r.agent ∙ a.agent;
         record_is = r.record_is ∙ a.record_is;
         more = goes_on s.journal t.journal u.journal (first_more s.journal (view w).journal t.journal a.longer) r.more;
@@ -49,7 +49,7 @@ module _ {N W : Type 0} (view : W → MachineView N) where
 
   -- all passes are these, in order of agent
   module _ (b : Bounds) (ps : List W) (w : W) (ws : List W) (is : ps ≡ w ∷ ws) (many : length ps ≡ b.agents) (order : EachAt (λ i p. (view p).agent ≡ i) ps)
-      (t : MachineView N) (k : TakesIn view (view w) t ws)
+      (t : MachineView N) (k : TakesInSteps view (view w) t ws)
     where
       long : length ws + 1 ≡ b.agents
       long = let e = ap (λ (xs : List W). length xs) is in omega arith

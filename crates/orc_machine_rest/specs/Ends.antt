@@ -37,7 +37,7 @@ module _ {N : Type 0} where
 
     -- a pass, which was s and is t, has taken in these passes; of their agents, of its own and of those that it had taken in before,
     -- it has seen no more steps than their passes had
-    pub record TakesIn (s t : MachineView N) (ws : List W) : Type 0 where
+    pub record TakesInSteps (s t : MachineView N) (ws : List W) : Type 0 where
       pub agent : t.agent ≡ s.agent
       pub record_is : t.record_is ≡ s.record_is
       pub more : IsPrefix s.journal t.journal

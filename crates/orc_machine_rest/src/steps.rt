@@ -156,8 +156,8 @@ pub(crate) fn take_in<D: Discipline>(
     let _ = board.take_in(p, k);
 }
 
-// Tries the bit of a row that is due.
-pub(crate) fn try_due<D: Discipline>(
+// Tries the bit of a row that is due, in the course of a settling.
+pub(crate) fn settle_due<D: Discipline>(
     board: &MachineBoard<D>,
     p: &mut MachineBoardPass<D>,
     agent: u32,
@@ -203,12 +203,12 @@ pub(crate) fn unretire_scanned<D: Discipline>(
 {
     settle_step(board, p, agent, Op::Arm { row });
     let word = settle_step(board, p, agent, Op::Unretire { row });
-    try_due(board, p, agent, due_by(row, word.wrapping_sub(RETIRED)));
+    settle_due(board, p, agent, due_by(row, word.wrapping_sub(RETIRED)));
     leave_slot_zero(board, p, agent);
 }
 
 // Takes the link that was taken out from its target's count.
-pub(crate) fn finish_decrement<D: Discipline>(
+pub(crate) fn settle_decrement<D: Discipline>(
     board: &MachineBoard<D>,
     p: &mut MachineBoardPass<D>,
     agent: u32,
@@ -229,7 +229,7 @@ pub(crate) fn finish_decrement<D: Discipline>(
     if let Some(row) = target {
         settle_step(board, p, agent, Op::Arm { row });
         let word = settle_step(board, p, agent, Op::Dec { row });
-        try_due(board, p, agent, due_by(row, word.wrapping_add(DECREMENT)));
+        settle_due(board, p, agent, due_by(row, word.wrapping_add(DECREMENT)));
         leave_slot_zero(board, p, agent);
     }
 }
@@ -255,7 +255,7 @@ pub(crate) fn take_links_out<D: Discipline>(
     let links = board.shape().links();
     for number in 0..links {
         let target = take_link_out(board, p, agent, row, number);
-        finish_decrement(board, p, agent, target);
+        settle_decrement(board, p, agent, target);
     }
 }
 

@@ -27,7 +27,7 @@ use Rattle.orc_plain_domain.specs.Ends.{AreAll, HasOwn, first_seen}
 use Rattle.orc_heap.specs.Moves.{gives_in}
 use Rattle.orc_heap.proofs.Pieces.{goes_on}
 use Rattle.orc_heap.proofs.Prefixes.{prefix_same}
-use Rattle.orc_plain_domain.specs.Rest.{CoversAll, TakesIn}
+use Rattle.orc_plain_domain.specs.Rest.{CoversAll, TakesInEvents}
 use Rattle.orc_plain_domain.proofs.Counting.{bit_free, bit_out, nodes_given, out_bit, outs, outs_all, outs_low}
 use Rattle.orc_plain_domain.proofs.Growing.{still_adds, still_of, tie}
 use Rattle.orc_plain_domain.proofs.Learning.{first_more, grow_seen}
@@ -44,8 +44,8 @@ first_removed [] x e l = absurd (omega (arith, l))
 first_removed (y ∷ xs) x e l = ap (λ z. z ∷ xs) (sym e)
 
 module _ {N : Type 0} {W : Type 0} (view : W → PlainView N) where
-  pub takes_none : (s : PlainView N) (all : List W) → all ≡ [] → TakesIn view s s all
-  takes_none s all e = subst (TakesIn view s s) (sym e) record {
+  pub takes_none : (s : PlainView N) (all : List W) → all ≡ [] → TakesInEvents view s s all
+  takes_none s all e = subst (TakesInEvents view s s) (sym e) record {
     agent = refl;
     more = prefix_same s.events s.events refl;
     own = refl;
@@ -54,13 +54,14 @@ module _ {N : Type 0} {W : Type 0} (view : W → PlainView N) where
     taken = tt;
   }
 
-  pub takes_more : (s t u : PlainView N) (w : W) (ws all : List W) → all ≡ w ∷ ws → Absorbs s (view w) t → TakesIn view t u ws → TakesIn view s u all
+  pub takes_more : (s t u : PlainView N) (w : W) (ws all : List W) → all ≡ w ∷ ws → Absorbs s (view w) t → TakesInEvents view t u ws
+      → TakesInEvents view s u all
   takes_more s t u w ws all e a r =
       let kept : (b : ℕ) → Among b s.absorbed → Among b t.absorbed =
       λ b h. subst (Among b) (sym a.absorbed) (inr (among_behind b (view w).absorbed s.absorbed h)) in
       let mine : Among (view w).agent t.absorbed = subst (Among (view w).agent) (sym a.absorbed) (inl refl) in
       let last = r.before (view w).agent mine in
-      subst (TakesIn view s u) (sym e) record {
+      subst (TakesInEvents view s u) (sym e) record {
         agent = r.agent ∙ a.agent;
         more = goes_on s.events t.events u.events (first_more s (view w) t a.longer) r.more;
         own = subst (λ z. events_by z u.events ≡ events_by z t.events) a.agent r.own ∙ a.own;
@@ -88,7 +89,7 @@ module _ {D N : Type 0} {d : discipline.Ghosts D N} {m : machine.Ghosts Plain N 
         (all rest : List (PlainPass D N (PlainShape N) PlainOp (PlainStep N) (Unit {0}) (Unit {0}) d m)) : Type 0 where
       pub pass : IsPassOf domain q
       pub others : AllByRecursion (λ w. IsPassOf domain w) rest
-      pub to_go : (u : PlainView N) → TakesIn view (view q) u rest → TakesIn view (view p) u all
+      pub to_go : (u : PlainView N) → TakesInEvents view (view q) u rest → TakesInEvents view (view p) u all
 
     pub taking_all : (p : PlainPass D N (PlainShape N) PlainOp (PlainStep N) (Unit {0}) (Unit {0}) d m)
         (all : List (PlainPass D N (PlainShape N) PlainOp (PlainStep N) (Unit {0}) (Unit {0}) d m)) → IsPassOf domain p
@@ -115,7 +116,7 @@ module _ {D N : Type 0} {d : discipline.Ghosts D N} {m : machine.Ghosts Plain N 
 
     pub taking_done : (p q : PlainPass D N (PlainShape N) PlainOp (PlainStep N) (Unit {0}) (Unit {0}) d m)
         (all rest : List (PlainPass D N (PlainShape N) PlainOp (PlainStep N) (Unit {0}) (Unit {0}) d m)) → Taking p q all rest → rest ≡ []
-        → TakesIn view (view p) (view q) all
+        → TakesInEvents view (view p) (view q) all
     taking_done p q all rest t is = t.to_go (view q) (takes_none view (view q) rest is)
 
     pub some_passes : (ps : List (PlainPass D N (PlainShape N) PlainOp (PlainStep N) (Unit {0}) (Unit {0}) d m)) → AreAll domain ps → 0 < length ps
@@ -123,13 +124,13 @@ module _ {D N : Type 0} {d : discipline.Ghosts D N} {m : machine.Ghosts Plain N 
 
     pub taken_of : (p q : PlainPass D N (PlainShape N) PlainOp (PlainStep N) (Unit {0}) (Unit {0}) d m)
         (ws left : List (PlainPass D N (PlainShape N) PlainOp (PlainStep N) (Unit {0}) (Unit {0}) d m)) → left ≡ ws
-        → TakesIn view (view p) (view q) left → TakesIn view (view p) (view q) ws
-    taken_of p q ws left e t = subst (TakesIn view (view p) (view q)) e t
+        → TakesInEvents view (view p) (view q) left → TakesInEvents view (view p) (view q) ws
+    taken_of p q ws left e t = subst (TakesInEvents view (view p) (view q)) e t
 
     module _ (ps : List (PlainPass D N (PlainShape N) PlainOp (PlainStep N) (Unit {0}) (Unit {0}) d m))
         (w : PlainPass D N (PlainShape N) PlainOp (PlainStep N) (Unit {0}) (Unit {0}) d m)
         (ws : List (PlainPass D N (PlainShape N) PlainOp (PlainStep N) (Unit {0}) (Unit {0}) d m)) (is : ps ≡ w ∷ ws) (all : AreAll domain ps)
-        (q : PlainPass D N (PlainShape N) PlainOp (PlainStep N) (Unit {0}) (Unit {0}) d m) (x : IsPassOf domain q) (t : TakesIn view (view w) (view q) ws)
+        (q : PlainPass D N (PlainShape N) PlainOp (PlainStep N) (Unit {0}) (Unit {0}) d m) (x : IsPassOf domain q) (t : TakesInEvents view (view w) (view q) ws)
       where
         same_all : AreAll domain (w ∷ ws)
         same_all = subst (AreAll domain) is all

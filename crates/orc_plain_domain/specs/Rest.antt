@@ -23,7 +23,7 @@ module _ {N : Type 0} where
 
   -- a pass, which was s and is t, has taken in these passes; of their agents, of its own and of those that it had taken in before,
   -- it has seen no more than their passes had
-  pub record TakesIn {W : Type 0} (view : W → PlainView N) (s t : PlainView N) (ws : List W) : Type 0 where
+  pub record TakesInEvents {W : Type 0} (view : W → PlainView N) (s t : PlainView N) (ws : List W) : Type 0 where
     pub agent : t.agent ≡ s.agent
     pub more : IsPrefix s.events t.events
     pub own : events_by s.agent t.events ≡ events_by s.agent s.events

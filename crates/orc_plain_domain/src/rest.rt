@@ -7,7 +7,7 @@ ghost use Rattle.orc_plain_board.specs.Views.{shows};
 ghost use Rattle.orc_plain_domain.specs.Ends.{AreAll, FirstSawAll, first_seen};
 ghost use Rattle.orc_heap.specs.Moves.{gives_in};
 ghost use Rattle.orc_plain_domain.specs.Passes.{IsPassOf, domain_bounds, seat_of};
-ghost use Rattle.orc_plain_domain.specs.Rest.{CoversAll, IsShown, TakesIn, rest_domain, rest_journal};
+ghost use Rattle.orc_plain_domain.specs.Rest.{CoversAll, IsShown, TakesInEvents, rest_domain, rest_journal};
 
 use crate::domain::{PlainDomain, PlainPass, PlainRest};
 use orc_heap::Discipline;
@@ -47,7 +47,7 @@ impl<D: Discipline> PlainDomain<D> {
     {
         let mut others = passes;
         let mut first = others.remove(0);
-        self.take_in_all(&mut first, others);
+        self.take_in_events(&mut first, others);
         let given = self.count_given(&mut first);
         PlainRest {
             domain: self,
@@ -56,12 +56,13 @@ impl<D: Discipline> PlainDomain<D> {
         }
     }
 
-    // Takes in the passes, one after another.
-    fn take_in_all(&self, into: &mut PlainPass<D>, others: Vec<PlainPass<D>>)
+    // Takes in the passes, one after another. What is told of them is the events that they have seen.
+    fn take_in_events(&self, into: &mut PlainPass<D>, others: Vec<PlainPass<D>>)
         requires into { IsPassOf self.now into.old }
         requires others { AllByRecursion (λ p. IsPassOf self.now p) others.items }
         ensures into { IsPassOf self.now into.new }
-        ensures taken { TakesIn (λ p. shows self.now.board p.pass) (shows self.now.board into.old.pass) (shows self.now.board into.new.pass) others.items }
+        ensures taken { TakesInEvents (λ p. shows self.now.board p.pass) (shows self.now.board into.old.pass) (shows self.now.board into.new.pass)
+            others.items }
     {
         let mut rest = others;
         while !rest.is_empty() {

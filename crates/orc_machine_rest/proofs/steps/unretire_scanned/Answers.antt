@@ -24,8 +24,8 @@ settle_step-word-requires-clause-allowed g c =
     c.requires.pass.reached c.requires.pass.low c.requires.still c.requires.scans
     c.requires.linked c.settle_step.ensures.goes.went.bounds c.settle_step.ensures.after
 
-pub try_due-requires-clause-due : goal.try_due-requires-clause-due
-try_due-requires-clause-due g c =
+pub settle_due-requires-clause-due : goal.settle_due-requires-clause-due
+settle_due-requires-clause-due g c =
     due_unretired (state_of c.args.board.now c.args.p.now) (state_of c.args.board.now c.settle_step.new.p)
     (state_of c.args.board.now c.settle_step-word.new.p) c.args.agent
     c.args.row c.requires.pass.reached c.requires.still c.requires.scans c.settle_step.ensures.goes.went.bounds
@@ -38,25 +38,25 @@ returns-clause-opens g c =
     let s = shows c.args.p.now in
     let t = shows c.settle_step.new.p in
     let u = shows c.settle_step-word.new.p in
-    let v = shows c.try_due.new.p in
+    let v = shows c.settle_due.new.p in
     let w = shows c.leave_slot_zero.new.p in
     let d = record_of c.args.board.now a c.settle_step.new.p in
     let one : bit (is_some d.scan) ≡ 1 = scan_some d.scan c.args.row (ap (λ (e : Agent). scans e.scan c.args.row) c.settle_step.ensures.after.is
     ∙ c.requires.scans) in
     opens_then b a 0 1 s t w (c.settle_step.ensures.opens tt)
     (goes_then b a 1 0 t u w (goes_is b a (bit (is_some d.scan)) 1 t u one c.settle_step-word.ensures.goes)
-    (goes_then b a 0 0 u v w c.try_due.ensures.goes c.leave_slot_zero.ensures.goes))
+    (goes_then b a 0 0 u v w c.settle_due.ensures.goes c.leave_slot_zero.ensures.goes))
 
 pub returns-clause-few : goal.returns-clause-few
 returns-clause-few g c =
     let one = c.settle_step.ensures.few in
     let two = c.settle_step-word.ensures.few in
-    let three = c.try_due.ensures.few in
+    let three = c.settle_due.ensures.few in
     let four = c.leave_slot_zero.ensures.few in
     omega (arith, one, two, three, four)
 
-pub try_due-requires-clause-pending : goal.try_due-requires-clause-pending
-try_due-requires-clause-pending g c =
+pub settle_due-requires-clause-pending : goal.settle_due-requires-clause-pending
+settle_due-requires-clause-pending g c =
     let before = record_of c.args.board.now c.args.agent c.settle_step.new.p in
     let row = c.args.row in
     let word = c.settle_step-word.result in

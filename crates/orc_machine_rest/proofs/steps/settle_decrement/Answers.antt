@@ -8,7 +8,7 @@ use Rattle.orc_machine_rest.proofs.Joins.{goes_none, goes_then}
 use Rattle.orc_machine_rest.specs.Passes.{record_of, state_of}
 use Rattle.orc_machine_board.specs.Views.{board_bounds, shows}
 use Rattle.orc_rest.proofs.Calls.{arm_dec, dec_armed, due_decremented}
-use Rattle.orc_machine_rest.proofs.steps.finish_decrement.Goals as goal
+use Rattle.orc_machine_rest.proofs.steps.settle_decrement.Goals as goal
 
 pub settle_step-requires-clause-allowed : goal.settle_step-requires-clause-allowed
 settle_step-requires-clause-allowed g c =
@@ -23,8 +23,8 @@ settle_step-word-requires-clause-allowed g c =
     (c.requires.pending ∙ c.in-Some.is)
     c.settle_step.ensures.goes.went.bounds c.settle_step.ensures.after
 
-pub try_due-requires-clause-due : goal.try_due-requires-clause-due
-try_due-requires-clause-due g c =
+pub settle_due-requires-clause-due : goal.settle_due-requires-clause-due
+settle_due-requires-clause-due g c =
     due_decremented (state_of c.args.board.now c.args.p.now) (state_of c.args.board.now c.settle_step.new.p)
     (state_of c.args.board.now c.settle_step-word.new.p)
     c.args.agent c.in-Some.row c.requires.pass.reached c.requires.due
@@ -38,10 +38,10 @@ returns-in-Some-clause-goes g c =
     let s = shows c.args.p.now in
     let t = shows c.settle_step.new.p in
     let u = shows c.settle_step-word.new.p in
-    let v = shows c.try_due.new.p in
+    let v = shows c.settle_due.new.p in
     let w = shows c.leave_slot_zero.new.p in
     goes_then b a 0 0 s t w c.settle_step.ensures.goes
-    (goes_then b a 0 0 t u w c.settle_step-word.ensures.goes (goes_then b a 0 0 u v w c.try_due.ensures.goes c.leave_slot_zero.ensures.goes))
+    (goes_then b a 0 0 t u w c.settle_step-word.ensures.goes (goes_then b a 0 0 u v w c.settle_due.ensures.goes c.leave_slot_zero.ensures.goes))
 
 pub returns-in_default-clause-goes : goal.returns-in_default-clause-goes
 returns-in_default-clause-goes g c =
@@ -51,15 +51,15 @@ pub returns-in-Some-clause-few : goal.returns-in-Some-clause-few
 returns-in-Some-clause-few g c =
     let one = c.settle_step.ensures.few in
     let two = c.settle_step-word.ensures.few in
-    let three = c.try_due.ensures.few in
+    let three = c.settle_due.ensures.few in
     let four = c.leave_slot_zero.ensures.few in
     omega (arith, one, two, three, four)
 
 pub returns-in_default-clause-few : goal.returns-in_default-clause-few
 returns-in_default-clause-few g c = omega arith
 
-pub try_due-requires-clause-pending : goal.try_due-requires-clause-pending
-try_due-requires-clause-pending g c =
+pub settle_due-requires-clause-pending : goal.settle_due-requires-clause-pending
+settle_due-requires-clause-pending g c =
     let before = record_of c.args.board.now c.args.agent c.settle_step.new.p in
     let word = c.settle_step-word.result in
     let none : before.due ≡ None = ap (λ (e : Agent). e.due) c.settle_step.ensures.after.is ∙ c.requires.due in

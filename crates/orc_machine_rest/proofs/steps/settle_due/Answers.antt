@@ -3,7 +3,7 @@ use Rattle.orc_machine_rest.proofs.Joins.{goes_none}
 use Rattle.orc_machine_rest.specs.Passes.{state_of}
 use Rattle.orc_machine_board.specs.Views.{board_bounds, shows}
 use Rattle.orc_rest.proofs.Stages.{due_allowed}
-use Rattle.orc_machine_rest.proofs.steps.try_due.Goals as goal
+use Rattle.orc_machine_rest.proofs.steps.settle_due.Goals as goal
 
 pub settle_step-requires-clause-allowed : goal.settle_step-requires-clause-allowed
 settle_step-requires-clause-allowed g c =
