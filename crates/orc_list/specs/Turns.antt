@@ -1,6 +1,6 @@
 -- What the turns of a call do. After Harris 2001.
 use Rattle.std.specs.List.{Contains}
-use Rattle.std.specs.Prelude.{Bool, List, MatchBool, None, Option, Some, [], false, if◌then◌else◌, length, true, ℕ, ◌*◌, ◌++◌, ◌+◌, ◌∷◌, ◌≡◌, ◌≤◌, ◌⊎◌}
+use Rattle.std.specs.Prelude.{Bool, List, MatchBool, None, Option, Some, [], false, length, true, ℕ, ◌*◌, ◌++◌, ◌+◌, ◌∷◌, ◌≡◌, ◌≤◌, ◌⊎◌}
 use Rattle.orc_heap.specs.Allowed.{HasLink}
 use Rattle.orc_heap.specs.Calls.{Misses, event_of, links_made}
 use Rattle.orc_heap.specs.Heap.{Heap, HeapNumbers, link_to}
