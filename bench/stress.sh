@@ -68,14 +68,21 @@ def modelled(words):
     return statistics.median(float(subprocess.run([MODEL, *words.split()], check=True, capture_output=True, text=True).stdout)
                              for _ in range(ROUNDS))
 
-print('One agent works over the reclaiming domain, against the same atomic steps in C++; million calls a second')
-row('Calls', 'Agents', 'Steps of a call', 'Speed', 'C++', 'C++ to this', 'C++ with all steps', 'That to this')
-for agents in (1, 4, 16):
-    [(mine, _)] = speeds('--whole --container queue --domain reclaiming --threads 1 --calls 500000 --agents %d' % agents)
-    bare, more = modelled('queue %d 500000' % agents), modelled('queue %d 500000 all' % agents)
-    row('enqueue, dequeue', agents, '10 + 13, %d + 14' % (14 + 8 * agents), million(mine), million(bare), '%.2f' % (bare / mine),
-        million(more), '%.2f' % (more / mine))
-[(mine, _)] = speeds('--whole --container list --domain reclaiming --threads 1 --calls 100000 --keys 256')
-bare, more = modelled('list 128 100000'), modelled('list 128 100000 all')
-row('list of 128 keys', 1, '5 + 3 n + 4 + n', million(mine), million(bare), '%.2f' % (bare / mine), million(more), '%.2f' % (more / mine))
+print('The reclaiming domain against the same atomic steps in C++; million calls a second')
+row('Calls', 'Agents', 'Threads', 'Steps of a call', 'Speed', 'C++', 'C++ to this', 'C++ with all steps', 'That to this')
+
+def against(calls, agents, threads, steps, words, bare_words):
+    # a container's speed and that of the same steps in C++; of one thread also with all steps
+    [(mine, _)] = speeds('--whole --domain reclaiming --threads %d --agents %d %s' % (threads, agents, words))
+    bare = modelled(bare_words if threads == 1 else '%s %d' % (bare_words, threads))
+    more = modelled(bare_words + ' all') if threads == 1 else None
+    row(calls, agents, threads, steps, million(mine), million(bare), '%.2f' % (bare / mine), million(more) if more else '',
+        '%.2f' % (more / mine) if more else '')
+
+for agents, threads in ((1, 1), (2, 2), (4, 1), (16, 1)):
+    against('enqueue, dequeue', agents, threads, '10 + 13, %d + 14' % (14 + 8 * agents),
+        '--container queue --calls %d' % (500000 // threads), 'queue %d %d' % (agents, 500000 // threads))
+for threads in (1, 2):
+    against('list of 128 keys', threads, threads, '5 + 3 n + 4 + n', '--container list --calls %d --keys 256' % (100000 // threads),
+        'list 128 %d' % (100000 // threads))
 PY
