@@ -1,10 +1,16 @@
 //! Sets and queues are called, call by call, and their answers held to those that are wanted.
 
-ghost use Rattle.std.specs.Prelude.{◌≡◌, ◌<◌, ℕ, All, length, slice_index_or};
+ghost use Rattle.std.specs.Prelude.{◌≡◌, ◌<◌, ◌≤◌, ◌^◌, ℕ, All, length, slice_index_or};
+ghost use Rattle.orc_words.specs.Bounds.{bounds_of};
 
-use crate::{next_list_pass, next_pass};
-use orc_fault::Again;
+use crate::passes::{next_list_pass, next_pass};
+use orc_chain_rule::Chain;
+use orc_containers::{Domain, queue_over, set_over};
+use orc_fault::{Again, NoMemory};
+use orc_fifo_rule::Fifo;
 use orc_history::{ListRefused, QueueRefused, SharedQueue, SharedSet};
+use orc_words::Shape;
+use std::alloc::Global;
 
 /// A call of a set with this key, and the answer that is wanted.
 #[derive(Clone, Copy, Drop)]
@@ -14,8 +20,13 @@ pub enum SetCase {
     Contains(u64, Result<bool, Again>),
 }
 
-/// Whether the call, with so many turns, is answered so.
-pub fn set_answers<S: SharedSet>(set: &S, p: &mut S::Pass, turns: u64, case: &SetCase) -> bool
+// Whether the call, with so many turns, is answered so.
+pub(crate) fn set_answers<S: SharedSet>(
+    set: &S,
+    p: &mut S::Pass,
+    turns: u64,
+    case: &SetCase,
+) -> bool
     requires { S.usable set.now p.old }
     ensures { S.usable set.now p.new }
 {
@@ -26,8 +37,8 @@ pub fn set_answers<S: SharedSet>(set: &S, p: &mut S::Pass, turns: u64, case: &Se
     }
 }
 
-/// The place of the first call that isn't answered so, where the last of the agents makes each with so many turns.
-pub fn first_other_answer<S: SharedSet>(
+// The place of the first call that isn't answered so, where the last of the agents makes each with so many turns.
+fn other_answer_of<S: SharedSet>(
     set: &S,
     mut passes: Vec<S::Pass>,
     cases: &[(u64, SetCase)],
@@ -47,6 +58,24 @@ pub fn first_other_answer<S: SharedSet>(
     None
 }
 
+/// In an empty set over a domain of this shape, the place of the first call that isn't answered so, where the last of the agents
+/// makes each with so many turns.
+///
+/// # Errors
+///
+/// `NoMemory` where memory is refused.
+pub fn first_other_answer<L: Domain<Rule = Chain> + Drop>(
+    alloc: Global,
+    shape: &Shape,
+    cases: &[(u64, SetCase)],
+) -> Result<Option<usize>, NoMemory> {
+    let (set, passes) = set_over::<L>(alloc, shape)?;
+    set.members();
+    let place = other_answer_of(&set, passes, cases);
+    let _domain = set.into_links();
+    Ok(place)
+}
+
 /// A put of this job, or a take, and the answer that is wanted.
 #[derive(Clone, Copy, Drop)]
 pub enum QueueCase {
@@ -54,8 +83,8 @@ pub enum QueueCase {
     Take(Result<Option<(u64, u64)>, Again>),
 }
 
-/// Whether the call, with so many turns, is answered so.
-pub fn queue_answers<Q: SharedQueue>(
+// Whether the call, with so many turns, is answered so.
+pub(crate) fn queue_answers<Q: SharedQueue>(
     queue: &Q,
     p: &mut Q::Pass,
     turns: u64,
@@ -70,8 +99,8 @@ pub fn queue_answers<Q: SharedQueue>(
     }
 }
 
-/// The place of the first call that isn't answered so, where the last of the agents makes each with so many turns.
-pub fn first_other_reply<Q: SharedQueue>(
+// The place of the first call that isn't answered so, where the last of the agents makes each with so many turns.
+fn other_reply_of<Q: SharedQueue>(
     queue: &Q,
     mut passes: Vec<Q::Pass>,
     cases: &[(u64, QueueCase)],
@@ -89,4 +118,24 @@ pub fn first_other_reply<Q: SharedQueue>(
         }
     }
     None
+}
+
+/// In an empty queue over a domain of this shape, whose first job gets the position `first`, the place of the first call that isn't
+/// answered so, where the last of the agents makes each with so many turns.
+///
+/// # Errors
+///
+/// `NoMemory` where memory is refused.
+pub fn first_other_reply<L: Domain<Rule = Fifo> + Drop>(
+    alloc: Global,
+    shape: &Shape,
+    first: u64,
+    cases: &[(u64, QueueCase)],
+) -> Result<Option<usize>, NoMemory>
+    requires roots { 2 ≤ (bounds_of shape.now).roots }
+    requires first { first ≤ 2 ^ 62 }
+{
+    let (queue, passes) = queue_over::<L>(alloc, shape, first)?;
+    queue.members();
+    Ok(other_reply_of(&queue, passes, cases))
 }

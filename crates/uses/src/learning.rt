@@ -2,11 +2,25 @@
 
 ghost use Rattle.std.specs.Prelude.{◌≡◌, ◌<◌, ℕ, All, length, slice_index_or};
 
-use crate::{two_list_passes, two_passes};
+use crate::passes::{two_list_passes, two_passes};
+use orc_chain_rule::Chain;
+use orc_containers::{Domain, Unmade, new_list, new_queue};
+use orc_fifo_rule::Fifo;
 use orc_history::{LearnQueue, LearnSet};
+use std::alloc::Global;
 
-/// Whether, in a new queue from position 0 on, each of two agents took what the other had put, once it had learned from it.
-pub fn each_takes_the_others<Q: LearnQueue>(queue: &Q, passes: Vec<Q::Pass>) -> bool
+/// Whether, in a new queue, each of two agents took what the other had put, once it had learned from it.
+///
+/// # Errors
+///
+/// `NoMemory` where memory is refused.
+pub fn each_takes_the_others<L: Domain<Rule = Fifo> + Drop>(alloc: Global) -> Result<bool, Unmade> {
+    let (queue, passes) = new_queue::<L>(alloc, 8, 2)?;
+    Ok(take_each_others(&queue, passes))
+}
+
+// Whether each of two agents of a queue from position 0 on takes what the other has put.
+fn take_each_others<Q: LearnQueue>(queue: &Q, passes: Vec<Q::Pass>) -> bool
     requires usable { All (λ p. Q.usable queue.now p) passes.items }
     requires agents { (i : ℕ) (p : Q.Pass) → i < length passes.items → Q.agent_of queue.now (slice_index_or passes.items i p) ≡ i }
 {
@@ -25,8 +39,18 @@ pub fn each_takes_the_others<Q: LearnQueue>(queue: &Q, passes: Vec<Q::Pass>) -> 
         && first_took == Ok(Some((4, 1)))
 }
 
-/// Whether, in an empty set, each of two agents saw what the other had added or taken out, once it had learned from it.
-pub fn each_sees_the_others<S: LearnSet>(set: &S, passes: Vec<S::Pass>) -> bool
+/// Whether, in an empty list, each of two agents saw what the other had added or taken out, once it had learned from it.
+///
+/// # Errors
+///
+/// `NoMemory` where memory is refused.
+pub fn each_sees_the_others<L: Domain<Rule = Chain> + Drop>(alloc: Global) -> Result<bool, Unmade> {
+    let (list, passes) = new_list::<L>(alloc, 8, 2)?;
+    Ok(see_each_others(&list, passes))
+}
+
+// Whether each of two agents of an empty set sees what the other adds and takes out.
+fn see_each_others<S: LearnSet>(set: &S, passes: Vec<S::Pass>) -> bool
     requires usable { All (λ p. S.usable set.now p) passes.items }
     requires agents { (i : ℕ) (p : S.Pass) → i < length passes.items → S.agent_of set.now (slice_index_or passes.items i p) ≡ i }
 {

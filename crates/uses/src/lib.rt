@@ -1,21 +1,24 @@
-//! The containers in their smallest uses, over a plain domain: each public call once, as a program makes it.
+//! The containers in their smallest uses, over any domain: each public call, as a program makes it. What is answered is asserted by the
+//! crate of tests above.
 #![tactic(auto)]
 
 mod asking;
+mod crew;
 mod doubling;
+mod hold_in_queue;
 mod learning;
 mod many_threads;
+mod mark_in_list;
+mod on_threads;
 mod passes;
 mod stopping;
+mod wearing;
 
-pub use asking::{
-    QueueCase, SetCase, first_other_answer, first_other_reply, queue_answers, set_answers,
-};
+pub use asking::{QueueCase, SetCase, first_other_answer, first_other_reply};
 pub use doubling::{Doubling, doubles_and_rests};
+pub use hold_in_queue::{HeldQueue, calls_beside_a_held_dummy};
 pub use learning::{each_sees_the_others, each_takes_the_others};
-pub use many_threads::{QueueSums, SetSums, add_and_take_out_by_all, present, put_and_take_by_all};
-pub use passes::{next_list_pass, next_pass, two_list_passes, two_passes};
+pub use mark_in_list::{HeldList, calls_beside_a_held_node};
+pub use on_threads::{QueueWork, SetWork, queue_on_threads, set_on_threads};
 pub use stopping::{goes_past_marked_nodes, helps_a_lagging_tail_on};
-
-#[cfg(test)]
-mod tests;
+pub use wearing::{serves_to_the_last_position, wears_a_row_out};

@@ -6,17 +6,17 @@ use orc_history::{SharedQueue, SharedSet};
 use std::sync::atomic::{AtomicU64, Ordering};
 use std::thread::{Threads, for_each_mut};
 
-/// What the calls of a queue by all agents came to, added up.
+// What the calls of a queue by all agents came to, added up.
 #[derive(Drop)]
-pub struct QueueSums {
+pub(crate) struct QueueSums {
     put: AtomicU64,
     taken: AtomicU64,
     answered: AtomicU64,
 }
 
 impl QueueSums {
-    /// No call was made yet.
-    pub fn new() -> QueueSums {
+    // No call was made yet.
+    pub(crate) fn new() -> QueueSums {
         QueueSums {
             put: AtomicU64::new(0),
             taken: AtomicU64::new(0),
@@ -24,18 +24,18 @@ impl QueueSums {
         }
     }
 
-    /// How many jobs were put.
-    pub fn put(&self) -> u64 {
+    // How many jobs were put.
+    pub(crate) fn put(&self) -> u64 {
         self.put.load(Ordering::SeqCst)
     }
 
-    /// How many jobs were taken.
-    pub fn taken(&self) -> u64 {
+    // How many jobs were taken.
+    pub(crate) fn taken(&self) -> u64 {
         self.taken.load(Ordering::SeqCst)
     }
 
-    /// How many calls were answered.
-    pub fn answered(&self) -> u64 {
+    // How many calls were answered.
+    pub(crate) fn answered(&self) -> u64 {
         self.answered.load(Ordering::SeqCst)
     }
 }
@@ -58,8 +58,8 @@ fn put_and_take<Q: SharedQueue>(queue: &Q, p: &mut Q::Pass, rounds: u64, sums: &
     }
 }
 
-/// Each agent puts and takes in turn, in so many rounds, in a thread of its own.
-pub fn put_and_take_by_all<R: Threads + Sync, Q: SharedQueue + Sync>(
+// Each agent puts and takes in turn, in so many rounds, in a thread of its own.
+pub(crate) fn put_and_take_by_all<R: Threads + Sync, Q: SharedQueue + Sync>(
     rt: &R,
     queue: &Q,
     passes: &mut [Q::Pass],
@@ -79,17 +79,17 @@ where
     for_each_mut(rt, passes, 16, &calls);
 }
 
-/// What the calls of a set by all agents came to, added up.
+// What the calls of a set by all agents came to, added up.
 #[derive(Drop)]
-pub struct SetSums {
+pub(crate) struct SetSums {
     added: AtomicU64,
     answered: AtomicU64,
     balance: AtomicU64,
 }
 
 impl SetSums {
-    /// No call was made yet.
-    pub fn new() -> SetSums {
+    // No call was made yet.
+    pub(crate) fn new() -> SetSums {
         SetSums {
             added: AtomicU64::new(0),
             answered: AtomicU64::new(0),
@@ -97,18 +97,18 @@ impl SetSums {
         }
     }
 
-    /// How many keys were added.
-    pub fn added(&self) -> u64 {
+    // How many keys were added.
+    pub(crate) fn added(&self) -> u64 {
         self.added.load(Ordering::SeqCst)
     }
 
-    /// How many calls were answered.
-    pub fn answered(&self) -> u64 {
+    // How many calls were answered.
+    pub(crate) fn answered(&self) -> u64 {
         self.answered.load(Ordering::SeqCst)
     }
 
-    /// The bits of the keys that were added, less those of the keys that were taken out.
-    pub fn balance(&self) -> u64 {
+    // The bits of the keys that were added, less those of the keys that were taken out.
+    pub(crate) fn balance(&self) -> u64 {
         self.balance.load(Ordering::SeqCst)
     }
 }
@@ -156,8 +156,8 @@ fn call_in_turn<S: SharedSet>(
     }
 }
 
-/// Each agent inserts, removes and asks in turn, in so many calls over so many keys, in a thread of its own.
-pub fn add_and_take_out_by_all<R: Threads + Sync, S: SharedSet + Sync>(
+// Each agent inserts, removes and asks in turn, in so many calls over so many keys, in a thread of its own.
+pub(crate) fn add_and_take_out_by_all<R: Threads + Sync, S: SharedSet + Sync>(
     rt: &R,
     set: &S,
     passes: &mut [S::Pass],
@@ -196,9 +196,9 @@ fn bits_present<S: SharedSet>(set: &S, p: &mut S::Pass) -> u64
     bits
 }
 
-/// The bits of the keys below 64 that are present, as the first agent finds them while no other calls. None where there is no
-/// pass.
-pub fn present<S: SharedSet>(set: &S, passes: &mut [S::Pass]) -> Option<u64>
+// The bits of the keys below 64 that are present, as the first agent finds them while no other calls. None where there is no
+// pass.
+pub(crate) fn present<S: SharedSet>(set: &S, passes: &mut [S::Pass]) -> Option<u64>
     requires usable { All (λ p. S.usable set.now p) passes.old }
     ensures usable { All (λ p. S.usable set.now p) passes.new }
     ensures many { length passes.new ≡ length passes.old }

@@ -4,8 +4,8 @@ ghost use Rattle.std.specs.Prelude.{◌≡◌, ◌≢◌, ◌+◌, ◌<◌, ℕ,
 
 use orc_history::{SharedQueue, SharedSet};
 
-/// The pass of the last agent that is left.
-pub fn next_pass<Q: SharedQueue>(queue: &Q, passes: &mut Vec<Q::Pass>) -> Option<Q::Pass>
+// The pass of the last agent that is left.
+pub(crate) fn next_pass<Q: SharedQueue>(queue: &Q, passes: &mut Vec<Q::Pass>) -> Option<Q::Pass>
     requires usable { All (λ p. Q.usable queue.now p) passes.old.items }
     requires agents { (i : ℕ) (p : Q.Pass) → i < length passes.old.items → Q.agent_of queue.now (slice_index_or passes.old.items i p) ≡ i }
     ensures usable { All (λ p. Q.usable queue.now p) passes.new.items }
@@ -17,8 +17,11 @@ pub fn next_pass<Q: SharedQueue>(queue: &Q, passes: &mut Vec<Q::Pass>) -> Option
     passes.pop()
 }
 
-/// The passes of the last two agents that are left, the one of the lower agent first.
-pub fn two_passes<Q: SharedQueue>(queue: &Q, mut passes: Vec<Q::Pass>) -> Option<(Q::Pass, Q::Pass)>
+// The passes of the last two agents that are left, the one of the lower agent first.
+pub(crate) fn two_passes<Q: SharedQueue>(
+    queue: &Q,
+    mut passes: Vec<Q::Pass>,
+) -> Option<(Q::Pass, Q::Pass)>
     requires usable { All (λ p. Q.usable queue.now p) passes.items }
     requires agents { (i : ℕ) (p : Q.Pass) → i < length passes.items → Q.agent_of queue.now (slice_index_or passes.items i p) ≡ i }
     ensures first { IfSome result (λ both. Q.usable queue.now both.0) }
@@ -30,8 +33,8 @@ pub fn two_passes<Q: SharedQueue>(queue: &Q, mut passes: Vec<Q::Pass>) -> Option
     Some((first, second))
 }
 
-/// The pass of the last agent that is left.
-pub fn next_list_pass<S: SharedSet>(set: &S, passes: &mut Vec<S::Pass>) -> Option<S::Pass>
+// The pass of the last agent that is left.
+pub(crate) fn next_list_pass<S: SharedSet>(set: &S, passes: &mut Vec<S::Pass>) -> Option<S::Pass>
     requires usable { All (λ p. S.usable set.now p) passes.old.items }
     requires agents { (i : ℕ) (p : S.Pass) → i < length passes.old.items → S.agent_of set.now (slice_index_or passes.old.items i p) ≡ i }
     ensures usable { All (λ p. S.usable set.now p) passes.new.items }
@@ -43,8 +46,8 @@ pub fn next_list_pass<S: SharedSet>(set: &S, passes: &mut Vec<S::Pass>) -> Optio
     passes.pop()
 }
 
-/// The passes of the last two agents that are left, the one of the lower agent first.
-pub fn two_list_passes<S: SharedSet>(
+// The passes of the last two agents that are left, the one of the lower agent first.
+pub(crate) fn two_list_passes<S: SharedSet>(
     set: &S,
     mut passes: Vec<S::Pass>,
 ) -> Option<(S::Pass, S::Pass)>

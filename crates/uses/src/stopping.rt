@@ -2,20 +2,35 @@
 
 ghost use Rattle.std.specs.Prelude.{◌≡◌, ◌<◌, ℕ, All, length, slice_index_or};
 
-use crate::{two_list_passes, two_passes};
+use crate::passes::{two_list_passes, two_passes};
 use orc_chain_rule::Chain;
+use orc_containers::{Domain, Unmade, new_list, queue_over};
 use orc_fifo_rule::Fifo;
 use orc_heap::Links;
 use orc_history::{QueueRefused, SharedQueue, SharedSet};
 use orc_queue::Queue;
 use orc_set::Set;
+use orc_words::{HIGHEST_LIMIT, Shape};
+use std::alloc::Global;
 
-/// Whether, in a new queue from position 0 on, a put that found the tail behind helped it on, in a turn of its own: with one
-/// turn it used that up, and with two it put its job behind the one that had been left.
-pub fn helps_a_lagging_tail_on<L: Links<Rule = Fifo>>(
-    queue: &Queue<L>,
-    passes: Vec<L::Pass>,
-) -> bool
+/// Whether, in a new queue whose rows have so many links, a put that found the tail behind helped it on, in a turn of its own: with
+/// one turn it used that up, and with two it put its job behind the one that had been left.
+///
+/// # Errors
+///
+/// * `Shape` where rows can't have so many links.
+/// * `NoMemory` where memory is refused.
+pub fn helps_a_lagging_tail_on<L: Domain<Rule = Fifo> + Drop>(
+    alloc: Global,
+    links: u32,
+) -> Result<bool, Unmade> {
+    let shape = Shape::with_links(8, 2, 2, HIGHEST_LIMIT, links)?;
+    let (queue, passes) = queue_over::<L>(alloc, &shape, 0)?;
+    Ok(helps_the_tail_on(&queue, passes))
+}
+
+// Whether a put into a queue from position 0 on does so.
+fn helps_the_tail_on<L: Links<Rule = Fifo>>(queue: &Queue<L>, passes: Vec<L::Pass>) -> bool
     requires usable { All (λ p. ⟦<Queue<L> as SharedQueue>⟧.usable queue.now p) passes.items }
     requires agents { (i : ℕ) (p : L.Pass) → i < length passes.items
         → ⟦<Queue<L> as SharedQueue>⟧.agent_of queue.now (slice_index_or passes.items i p) ≡ i }
@@ -38,7 +53,19 @@ pub fn helps_a_lagging_tail_on<L: Links<Rule = Fifo>>(
 }
 
 /// Whether, in an empty list, an insert went past two nodes that were marked and still linked, in one turn.
-pub fn goes_past_marked_nodes<L: Links<Rule = Chain>>(list: &Set<L>, passes: Vec<L::Pass>) -> bool
+///
+/// # Errors
+///
+/// `NoMemory` where memory is refused.
+pub fn goes_past_marked_nodes<L: Domain<Rule = Chain> + Drop>(
+    alloc: Global,
+) -> Result<bool, Unmade> {
+    let (list, passes) = new_list::<L>(alloc, 8, 2)?;
+    Ok(goes_past_two_marked(&list, passes))
+}
+
+// Whether an insert into an empty list does so.
+fn goes_past_two_marked<L: Links<Rule = Chain>>(list: &Set<L>, passes: Vec<L::Pass>) -> bool
     requires usable { All (λ p. ⟦<Set<L> as SharedSet>⟧.usable list.now p) passes.items }
     requires agents { (i : ℕ) (p : L.Pass) → i < length passes.items
         → ⟦<Set<L> as SharedSet>⟧.agent_of list.now (slice_index_or passes.items i p) ≡ i }

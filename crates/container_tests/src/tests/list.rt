@@ -1,4 +1,4 @@
-//! Lists cross threads where their domains do. The calls are run over each domain by the crates `uses` and `reclaiming_uses`.
+//! Lists cross threads where their domains do. The calls are run over each domain by the crate `use_tests`.
 
 use orc_chain_rule::Chain;
 use orc_heap::Links;

@@ -1,3 +1,3 @@
-//! The queue. Its calls are run over each domain by the crates `uses` and `reclaiming_uses`.
+//! The queue. Its calls are run over each domain by the crate `use_tests`.
 
 mod examples;

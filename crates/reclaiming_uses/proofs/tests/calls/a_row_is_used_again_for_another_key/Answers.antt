@@ -1,7 +1,0 @@
-use Rattle.reclaiming_uses.proofs.tests.calls.a_row_is_used_again_for_another_key.Goals as goal
-
-pub first_other_answer-requires-clause-usable : goal.first_other_answer-requires-clause-usable
-first_other_answer-requires-clause-usable g c = c.in-Ok.ensures.usable
-
-pub first_other_answer-requires-clause-agents : goal.first_other_answer-requires-clause-agents
-first_other_answer-requires-clause-agents g c = c.in-Ok.ensures.agents

@@ -1,4 +1,0 @@
-use Rattle.reclaiming_uses.proofs.tests.calls.use_up_and_reuse.Given as goal
-
-abbrev pub invariant-loop-round : goal.invariant-loop-round
-invariant-loop-round g l = g.Q.SharedQueue.usable l.queue l.p

@@ -1,0 +1,5 @@
+//! The uses of the containers, run.
+#![tactic(auto)]
+
+#[cfg(test)]
+mod tests;
