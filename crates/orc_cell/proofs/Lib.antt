@@ -11,7 +11,6 @@ pub mod Swinging
 pub mod Publishing
 pub mod Roots
 pub mod Answering
-pub mod Parting
 pub mod Journals
 pub mod Settled
 pub mod Learned

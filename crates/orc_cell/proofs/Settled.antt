@@ -1,6 +1,6 @@
 -- A call and the settling after it, by the call's answer.
 use Rattle.std.proofs.Common.{Err, List, None, Ok, Option, Result, [], append-nil, arith, subst, ℕ, ◌<◌, ◌∙◌, ◌∷◌, ◌≡◌}
-use Rattle.std.specs.Prelude.{IfErr, IfOk}
+use Rattle.std.specs.Prelude.{IfErr, IfOk, Some, length}
 use Rattle.orc_fault.specs.declared.Again.{Again as AgainFault}
 use Rattle.orc_heap.specs.Allowed.{AllAllowed}
 use Rattle.orc_heap.specs.Heap.{HeapNumbers, null, shown}
@@ -10,7 +10,6 @@ use Rattle.orc_heap.specs.declared.events.Event.{Event}
 use Rattle.orc_heap.specs.declared.events.Place.TheVariants.{Root}
 use Rattle.orc_history.specs.Journals.{Adds}
 use Rattle.orc_history.specs.Parts.{part_begin}
-use Rattle.std.specs.Prelude.{length, Some}
 use Rattle.orc_pairs_rule.specs.declared.entry.CellEntry.{CellEntry}
 use Rattle.orc_pairs_rule.specs.declared.entry.CellEntry.TheVariants.{Published, Seen}
 use Rattle.orc_pairs_rule.specs.declared.pairs.PairsNote.{PairsNote}

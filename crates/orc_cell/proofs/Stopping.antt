@@ -1,5 +1,5 @@
 -- A staged part that is let go unpublished.
-use Rattle.std.proofs.Common.{List, Some, [], ap, append-nil, arith, inl, inr, refl, subst, sym, ℕ, ◌*◌, ◌+◌, ◌++◌, ◌∙◌, ◌≡◌, ◌≢◌}
+use Rattle.std.proofs.Common.{List, Some, [], append-nil, arith, inl, inr, refl, subst, sym, ℕ, ◌*◌, ◌+◌, ◌∙◌, ◌≡◌, ◌≢◌}
 use Rattle.orc_heap.proofs.Calls.{Puts-trans}
 use Rattle.orc_heap.specs.Allowed.{AllAllowed}
 use Rattle.orc_heap.specs.Heap.{HeapNumbers, null, shown}

@@ -12,7 +12,8 @@ use Rattle.orc_pairs_rule.specs.declared.entry.CellEntry.{CellEntry}
 use Rattle.orc_pairs_rule.specs.declared.pairs.PairsNote.{PairsNote}
 use Rattle.orc_pairs_rule.specs.CellHistory.{agent_of_entry}
 use Rattle.orc_pairs_rule.specs.PairsDiscipline.{IsStaging, entries_in}
-use Rattle.orc_cell.specs.Causes.{UsesTurns, WithinPart}
+use Rattle.orc_cell.specs.Causes.{UsesTurns}
+use Rattle.orc_history.specs.Parts.{WithinPart}
 
 module _ {L D P S : Type 0} (members : LinksOf L D P S PairsNote) (links : L) where
   -- the staging roots of the pass's agent are null, as far as it has seen

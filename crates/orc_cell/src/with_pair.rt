@@ -1,18 +1,16 @@
 //! A publish whose parts are staged: the new pair is given, published and let go.
 
-ghost use Rattle.std.specs.Prelude.{◌≡◌, ℕ, Err, length};
+ghost use Rattle.std.specs.Prelude.{Err, None, Some, [], false, length, ℕ, ◌<◌, ◌≡◌};
 ghost use mathlib.Core.List.{IsPrefix};
 ghost use Rattle.orc_fault.specs.declared.Spent.{Spent as SpentRow};
 ghost use Rattle.orc_heap.specs.Slots.{IsFree};
 ghost use Rattle.orc_heap.specs.OwnEvents.{Only};
 ghost use Rattle.orc_history.specs.Journals.{Within};
-ghost use Rattle.orc_history.specs.Parts.{part_begin};
-ghost use Rattle.std.specs.Prelude.{None, Some, [], false, ◌<◌};
+ghost use Rattle.orc_history.specs.Parts.{WithinPart, part_begin};
 ghost use Rattle.orc_heap.specs.Heap.{null, shown};
 ghost use Rattle.orc_heap.specs.Seats.{IsIdle, heap_of};
 ghost use Rattle.orc_heap.specs.declared.events.Place.{Place};
 ghost use Rattle.orc_cell.specs.Answers.{PublishAnswers};
-ghost use Rattle.orc_cell.specs.Causes.{WithinPart};
 ghost use Rattle.orc_cell.specs.Publishes.{IsPublished, SideHeld, given_of, staging_root};
 ghost use Rattle.orc_cell.specs.Turns.{FindsOnly, IsCellDomain};
 ghost use Rattle.orc_cell.specs.declared.publish.Half.{Half};

@@ -10,6 +10,7 @@ pub mod Moments
 pub mod Moved
 pub mod OwnEntries
 pub mod OwnParts
+pub mod Parting
 pub mod Pieces
 pub mod Prefixes
 pub mod Calls

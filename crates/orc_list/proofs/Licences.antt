@@ -11,14 +11,13 @@ use Rattle.orc_heap.specs.Heap.{HeapNumbers}
 use Rattle.orc_heap.specs.Seats.{Seat}
 use Rattle.orc_heap.specs.declared.events.Event.{Event}
 use Rattle.orc_history.specs.Journals.{LearnsEntries, Within, own_of}
-use Rattle.orc_history.specs.Parts.{InPart, part_begin}
+use Rattle.orc_history.specs.Parts.{InPart, WithinPart, part_begin}
 use Rattle.orc_history.specs.SetHistory.{agent_of_set_entry}
 use Rattle.orc_history.specs.declared.set.ListRefused.{ListRefused}
 use Rattle.orc_history.specs.declared.set.ListRefused.TheVariants.{Again, NoNode, Spent}
 use Rattle.orc_chain_rule.proofs.OwnEntries.{entries_own}
 use Rattle.orc_chain_rule.specs.ChainDiscipline.{ChainMay, entries_in, entries_of}
 use Rattle.orc_chain_rule.specs.declared.chain.ChainNote.{ChainNote}
-use Rattle.orc_ordered_search.specs.Causes.{WithinPart}
 use Rattle.orc_list.specs.Causes.{Cause, UsesTurns}
 
 -- the licence of a refusal, from the clauses of a call

@@ -10,11 +10,12 @@ ghost use Rattle.orc_list.specs.Searches.{FindsAbsent, FindsPresent};
 ghost use Rattle.orc_list.specs.Turns.{AsksTurn, Enters, IsAbsence, IsPresence};
 
 use crate::search::{Searched, search};
-use crate::spot::{Spot, let_all_go, link_of, link_to, place_of};
+use crate::spot::{Spot, let_all_go};
 use orc_chain_rule::{Chain, ChainNote};
 use orc_fault::Again;
 use orc_heap::{At, Held, Links};
 use orc_history::SetEntry;
+use orc_ordered_search::{link_of, link_to, place_of};
 
 // Enters an answer that rests on the key's absence, if the left place still shows its link.
 pub(crate) fn enter_absent<L: Links<Rule = Chain>>(

@@ -11,20 +11,20 @@ ghost use Rattle.orc_ordered_chains.specs.Chains.{IsRun, link_over};
 ghost use Rattle.orc_chain_rule.specs.ChainDiscipline.{FollowsOn, IsAbove};
 ghost use Rattle.orc_chain_rule.specs.declared.chain.ChainNote.{ChainNote};
 ghost use Rattle.orc_list.specs.Answers.{InsertAnswers, InsertsTurns};
-ghost use Rattle.orc_ordered_search.specs.Causes.{WithinPart};
+ghost use Rattle.orc_history.specs.Parts.{WithinPart};
 ghost use Rattle.orc_ordered_search.specs.Inserts.{HasRoomFor};
 ghost use Rattle.orc_list.specs.Inserts.{AddsAt, AddsNode, HoldsKey, Inserts, KeepsNode, LinksTo};
-ghost use Rattle.orc_ordered_search.specs.Searches.{HoldsIfAny};
+ghost use Rattle.orc_ordered_search.specs.Searches.{HoldsIfAny, first_or, place_at, target_at};
 ghost use Rattle.orc_list.specs.Searches.{FindsAbsent};
-ghost use Rattle.orc_ordered_search.specs.Searches.{first_or, place_at, target_at};
 
 use crate::answer::enter_present;
 use crate::search::{Searched, search};
-use crate::spot::{Spot, let_all_go, let_go, link_of, place_of};
+use crate::spot::{Spot, let_all_go};
 use orc_chain_rule::{Chain, ChainNote};
 use orc_fault::Spent;
 use orc_heap::{Held, Links, Want};
 use orc_history::{ListRefused, SetEntry};
+use orc_ordered_search::{let_go, link_of, place_of};
 
 /// How a turn of an insert ended.
 #[derive(Clone, Copy, Debug, PartialEq, Eq)]

@@ -9,19 +9,18 @@ ghost use Rattle.orc_chain_rule.specs.ChainDiscipline.{HasKey, IsChainPlace};
 ghost use Rattle.orc_chain_rule.specs.declared.chain.ChainNote.{ChainNote};
 ghost use Rattle.orc_list.specs.Answers.{RemovesTurns};
 ghost use Rattle.orc_list.specs.Causes.{HasWorn};
-ghost use Rattle.orc_ordered_search.specs.Searches.{HasRoom, HoldsIfAny};
+ghost use Rattle.orc_ordered_search.specs.Searches.{HasRoom, HoldsIfAny, place_at, target_at};
 ghost use Rattle.orc_list.specs.Searches.{FindsPresent, NextFollows};
-ghost use Rattle.orc_ordered_search.specs.Searches.{place_at, target_at};
-ghost use Rattle.orc_list.specs.Stops.{MarkStops};
-ghost use Rattle.orc_list.specs.Turns.{Marks, RemovesNode, RemovesTurn, TriesUnlink};
+ghost use Rattle.orc_list.specs.Turns.{MarkStops, Marks, RemovesNode, RemovesTurn, TriesUnlink};
 
 use crate::answer::enter_absent;
 use crate::search::{Searched, search};
-use crate::spot::{Spot, let_all_go, link_to, node_or, place_of};
+use crate::spot::{Spot, let_all_go};
 use orc_chain_rule::{Chain, ChainNote};
 use orc_fault::Again;
 use orc_heap::{At, Held, Links, Want};
 use orc_history::SetEntry;
+use orc_ordered_search::{link_to, node_or, place_of};
 
 // Marks the link of the node with the key. A swing that changes the mark alone is never refused.
 fn mark_node<L: Links<Rule = Chain>>(

@@ -7,9 +7,10 @@ ghost use Rattle.orc_chain_rule.specs.declared.chain.ChainNote.{ChainNote};
 ghost use Rattle.orc_ordered_search.specs.Searches.{HasRoom};
 ghost use Rattle.orc_list.specs.Searches.{Finds, FindsMoved, LooksBy, LooksOn, Passed, StepsTo, Stops, Walks};
 
-use crate::spot::{Spot, keep_first, let_all_go, let_go, slot_of, spare_slot};
+use crate::spot::{Spot, let_all_go};
 use orc_chain_rule::Chain;
 use orc_heap::{At, Held, Links, Looked, LookedOn};
+use orc_ordered_search::{keep_first, let_go, slot_of, spare_slot};
 
 /// How far a search has come: the left place, the first of the marked nodes behind it, if there is one, and the node
 /// to which these lead, with its key.

@@ -1,16 +1,13 @@
 //! Where a key belongs on its chain, and the nodes that a call has in hand.
 
-ghost use Rattle.std.specs.Prelude.{◌≡◌, ◌≢◌, ◌≤◌, ◌<◌, ℕ, None, Some, false};
 ghost use mathlib.Core.List.{IsPrefix};
-ghost use Rattle.orc_heap.specs.Heap.{HeapNumbers};
-ghost use Rattle.orc_heap.specs.Slots.{Holds, Slots};
-ghost use Rattle.orc_heap.specs.Seats.{HoldsPlace, HoldsWant, link_in, place_in};
-ghost use Rattle.orc_ordered_search.specs.Searches.{first_or, place_at, target_at};
-ghost use Rattle.orc_ordered_search.specs.Searches.{AllGone, HoldsIfAny, KeepsFirst, LetsGo, slot_in};
+ghost use Rattle.orc_heap.specs.Slots.{Slots};
 ghost use Rattle.orc_list.specs.Searches.{InHand};
+ghost use Rattle.orc_ordered_search.specs.Searches.{AllGone};
 
 use orc_chain_rule::Chain;
-use orc_heap::{At, Held, Links, Want};
+use orc_heap::{Held, Links};
+use orc_ordered_search::let_go;
 
 /// The place where a key belongs: the left place, a root or the link of a held node, whose unmarked link leads over
 /// marked nodes, of which this is the first, to the right node or to null.
@@ -18,19 +15,6 @@ pub struct Spot {
     pub left: Option<Held>,
     pub first: Option<Held>,
     pub right: Option<Held>,
-}
-
-// Lets a node go, if there is one.
-pub(crate) fn let_go<L: Links<Rule = Chain>>(links: &L, p: &mut L::Pass, node: Option<Held>)
-    requires pass { L.belongs links.now p.old }
-    requires held { HoldsIfAny (L.seat links.now p.old).slots node }
-    ensures pass { L.belongs links.now p.new }
-    ensures later { IsPrefix (L.journal p.old) (L.journal p.new) }
-    ensures let_go { LetsGo node (L.seat links.now p.old) (L.seat links.now p.new) }
-{
-    if let Some(node) = node {
-        links.release(p, node);
-    }
 }
 
 // Lets four nodes go, as far as there are so many.
@@ -53,97 +37,4 @@ pub(crate) fn let_all_go<L: Links<Rule = Chain>>(
     let_go(links, p, first);
     let_go(links, p, at);
     let_go(links, p, next);
-}
-
-// The first of the marked nodes: this one, or the other, where there is none yet. The other is let go if it isn't.
-pub(crate) fn keep_first<L: Links<Rule = Chain>>(
-    links: &L,
-    p: &mut L::Pass,
-    first: Option<Held>,
-    at: Held,
-) -> Held
-    requires pass { L.belongs links.now p.old }
-    requires held { Holds (L.seat links.now p.old).slots at }
-    ensures pass { L.belongs links.now p.new }
-    ensures later { IsPrefix (L.journal p.old) (L.journal p.new) }
-    ensures kept { KeepsFirst first at result (L.seat links.now p.old) (L.seat links.now p.new) }
-{
-    match first {
-        Some(first) => {
-            links.release(p, at);
-            first
-        }
-        None => at,
-    }
-}
-
-// The slot of a node, or 8 where there is none.
-pub(crate) fn slot_of(node: &Option<Held>) -> u32
-    ensures { result ≡ slot_in node.now }
-{
-    match node {
-        Some(node) => node.slot(),
-        None => 8,
-    }
-}
-
-// A slot from 2 to 5 other than these three.
-pub(crate) fn spare_slot(left: u32, first: u32, at: u32) -> u32
-    ensures range { (2 ≤ result) × (result < 6) }
-    ensures left { result ≢ left }
-    ensures first { result ≢ first }
-    ensures at { result ≢ at }
-{
-    if left != 2 && first != 2 && at != 2 {
-        2
-    } else if left != 3 && first != 3 && at != 3 {
-        3
-    } else if left != 4 && first != 4 && at != 4 {
-        4
-    } else {
-        5
-    }
-}
-
-// The left place.
-pub(crate) fn place_of<'a>(root: u32, left: &'a Option<Held>) -> At<'a>
-    ensures place { (slots : Slots) → place_in slots result ≡ place_at slots root left.now }
-    ensures held { (n : HeapNumbers) (slots : Slots) → root < n.roots → HoldsIfAny slots left.now → HoldsPlace n slots result }
-{
-    match left {
-        Some(node) => At::Node(node),
-        None => At::Root(root),
-    }
-}
-
-// A link to this node, or to none.
-pub(crate) fn link_to<'a>(node: &'a Option<Held>, mark: bool) -> Want<'a>
-    ensures link { (slots : Slots) → link_in slots result ≡ record { to = target_at slots node.now; mark = mark } }
-    ensures held { (slots : Slots) → HoldsIfAny slots node.now → HoldsWant slots result }
-{
-    match node {
-        Some(node) => Want::Node(node, mark),
-        None => Want::Null(mark),
-    }
-}
-
-// The unmarked link that leads to the first of the marked nodes, or else to the right node.
-pub(crate) fn link_of<'a>(first: &'a Option<Held>, right: &'a Option<Held>) -> Want<'a>
-    ensures link { (slots : Slots) → link_in slots result ≡ record { to = target_at slots (first_or first.now right.now); mark = false } }
-    ensures held { (slots : Slots) → HoldsIfAny slots first.now → HoldsIfAny slots right.now → HoldsWant slots result }
-{
-    match first {
-        Some(node) => Want::Node(node, false),
-        None => link_to(right, false),
-    }
-}
-
-// The first of the marked nodes, or else the node behind them.
-pub(crate) fn node_or<'a>(first: &'a Option<Held>, node: &'a Held) -> &'a Held
-    ensures { Some result.now ≡ first_or first.now (Some node.now) }
-{
-    match first {
-        Some(first) => first,
-        None => node,
-    }
 }

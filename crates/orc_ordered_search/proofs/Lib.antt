@@ -15,7 +15,6 @@ pub mod Removing
 pub mod Linking
 pub mod Adding
 pub mod Inserting
-pub mod Parting
 pub mod Parts
 pub mod Settling
 pub mod Causes

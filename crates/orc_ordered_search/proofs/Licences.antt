@@ -10,13 +10,13 @@ use Rattle.orc_heap.specs.Allowed.{AllAllowed, events_by}
 use Rattle.orc_heap.specs.Seats.{Seat}
 use Rattle.orc_heap.specs.declared.events.Event.{Event}
 use Rattle.orc_history.specs.Journals.{LearnsEntries, Within, own_of}
-use Rattle.orc_history.specs.Parts.{InPart, part_begin}
+use Rattle.orc_history.specs.Parts.{InPart, WithinPart, part_begin}
 use Rattle.orc_history.specs.SetHistory.{agent_of_set_entry}
 use Rattle.orc_history.specs.declared.set.ListRefused.{ListRefused}
 use Rattle.orc_history.specs.declared.set.ListRefused.TheVariants.{Again, NoNode, Spent}
 use Rattle.orc_heap.specs.Journals.{noted_entries}
 use Rattle.orc_ordered_search.specs.Reading.{Ordering}
-use Rattle.orc_ordered_search.specs.Causes.{Cause, UsesTurns, WithinPart}
+use Rattle.orc_ordered_search.specs.Causes.{Cause, UsesTurns}
 
 -- the licence of a refusal, from the clauses of a call
 module _ {N S : Type 0} (agent_of : S → ℕ) (events : List S → List (Event N)) (agent turns : ℕ) (j m : List S)

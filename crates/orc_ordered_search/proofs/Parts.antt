@@ -7,8 +7,8 @@ use Rattle.orc_heap.specs.Allowed.{events_by}
 use Rattle.orc_heap.specs.Moves.{AllOwn, from_own, move_with, moves_in}
 use Rattle.orc_heap.proofs.OwnParts.{own_is_all}
 use Rattle.orc_heap.specs.declared.events.Event.{Event}
-use Rattle.orc_history.specs.Parts.{first_step, part_begin}
-use Rattle.orc_ordered_search.specs.Causes.{WithinPart, others_moves}
+use Rattle.orc_history.specs.Parts.{WithinPart, first_step, part_begin}
+use Rattle.orc_ordered_search.specs.Causes.{others_moves}
 
 -- the agent's first step stays the first
 first_stays : {S : Type 0} (agent_of : S → ℕ) (agent place : ℕ) (ss more : List S) → first_step agent_of agent place ss < place + length ss

@@ -1,11 +1,9 @@
 -- Why a call of a set is refused: facts of a journal and two places in it.
 use Rattle.std.specs.List.{list_all}
-use Rattle.std.specs.Prelude.{List, drop, if◌then◌else◌, length, take, true, ℕ, [], ◌∷◌, ◌+◌, ◌<◌, ◌==◌, ◌≡◌, ◌≢◌, ◌≤◌}
+use Rattle.std.specs.Prelude.{List, drop, if◌then◌else◌, length, take, true, ℕ, [], ◌∷◌, ◌+◌, ◌==◌, ◌≡◌, ◌≢◌, ◌≤◌}
 use Rattle.orc_fault.specs.declared.Spent.{Spent as SpentRow}
 use Rattle.orc_heap.specs.Moves.{move_with}
 use Rattle.orc_heap.specs.declared.events.Event.{Event}
-use Rattle.orc_history.specs.Journals.{Within}
-use Rattle.orc_history.specs.Parts.{part_begin}
 use Rattle.orc_history.specs.declared.set.ListRefused.{ListRefused}
 use Rattle.orc_history.specs.declared.set.ListRefused.TheVariants.{Again, NoNode, Spent}
 
@@ -21,11 +19,6 @@ pub record UsesTurns {N S : Type 0} (agent_of : S → ℕ) (events : List S → 
   pub in_journal : to ≤ length journal
   pub moves : others_moves agent (events (take from journal)) + turns ≤ others_moves agent (events (take to journal))
   pub not_alone : 1 ≤ turns → list_all (λ s. agent_of s == agent) (drop from (take to journal)) ≡ true → ⊥
-
--- a fact of two places of the call's part of the journal, which its agent's first step begins
-pub record WithinPart {S : Type 0} (agent_of : S → ℕ) (agent : ℕ) (before after : List S) (Fact : ℕ → ℕ → Type 0) : Type 0 where
-  pub begun : part_begin agent_of agent before after < length after
-  pub within : Within (part_begin agent_of agent before after) (length after) Fact
 
 -- the cause of each refusal, where `Lacks` says that no row could be given, and `Worn` that a row was worn
 abbrev pub Cause : {N S : Type 0} → (S → ℕ) → (List S → List (Event N)) → Type 0 → (SpentRow → Type 0) → ℕ → ℕ → ListRefused → List S → ℕ → ℕ → Type 0

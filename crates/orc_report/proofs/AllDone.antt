@@ -1,6 +1,5 @@
 -- Runs of lines that post numbered jobs: no reply is Busy; without takers none is Void; and where none is refused, every job is done.
-use Rattle.std.proofs.Common.{◌≡◌, ◌≢◌, ◌∙◌, ◌≤◌, ◌<◌, ◌++◌, ◌∷◌, ◌==◌, ◌⊎◌, Bool, List, [], ℕ, zero, suc, true, false, cond, filter, length, map, ap}
-use Rattle.std.proofs.Common.{arith, inl, inr, refl, subst, sym, take, slice_get, Some, flat_map, get_or, append-nil}
+use Rattle.std.proofs.Common.{Bool, List, Some, [], ap, append-nil, arith, cond, false, filter, flat_map, get_or, inl, inr, length, map, refl, slice_get, subst, suc, sym, take, true, zero, ℕ, ◌++◌, ◌<◌, ◌==◌, ◌∙◌, ◌∷◌, ◌≡◌, ◌≢◌, ◌≤◌, ◌⊎◌}
 use Rattle.std.specs.List.{AllByRecursion, IsDistinct, list_any, range_with_len}
 use Rattle.std.specs.List.Sorted.{IsPermutation}
 use Rattle.std.proofs.Math.Seq.{take-length, take-suc}
@@ -33,8 +32,7 @@ use Rattle.orc_board.specs.Table.{HasValue, IsWordOf, JobPart, JobRow, answer_of
 use Rattle.orc_board.specs.Follows.{Pointwise, TookRow, by_key, taker_agent}
 use Rattle.orc_board.specs.Reportable.{IsClaim, claim_of, is_side, posted_by, posted_of, takes_with}
 use Rattle.orc_board.specs.Runs.{Ran}
-use Rattle.orc_board.proofs.ListFacts.{AllByRecursion-append, AllByRecursion-filter, AllByRecursion-left, AllByRecursion-map, AllByRecursion-right, eq-false}
-use Rattle.orc_board.proofs.ListFacts.{eq-no, eq-true, filter-none}
+use Rattle.orc_board.proofs.ListFacts.{AllByRecursion-append, AllByRecursion-filter, AllByRecursion-left, AllByRecursion-map, AllByRecursion-right, eq-false, eq-no, eq-true, filter-none}
 use Rattle.orc_board.proofs.Orders.{each_line, same}
 use Rattle.orc_report.specs.AllDone.{AreJobsOf, PostTheirNumbers, IsJobOf, NoneRefused, NoneVoid}
 use Rattle.orc_report.specs.Summary.{done_as, done_in, done_jobs}

@@ -1,6 +1,5 @@
 -- The entries of a set's history that the replies of a run stand for.
-use Rattle.std.proofs.Common.{◌≡◌, ◌≢◌, ◌∙◌, ◌+◌, ◌≤◌, ◌<◌, ◌++◌, ◌∷◌, ◌==◌, List, [], ℕ, suc, Bool, true, false, cond, filter, ap, arith, inl, inr, refl}
-use Rattle.std.proofs.Common.{subst, sym}
+use Rattle.std.proofs.Common.{Bool, List, [], ap, arith, cond, false, filter, inl, inr, refl, subst, suc, sym, true, ℕ, ◌++◌, ◌+◌, ◌<◌, ◌==◌, ◌∙◌, ◌∷◌, ◌≡◌, ◌≢◌, ◌≤◌}
 use Rattle.std.specs.List.{AllByRecursion}
 use Rattle.orc_history.specs.declared.queue.QueueEntry.{QueueEntry}
 use Rattle.orc_history.specs.declared.queue.QueueRefused.{QueueRefused}
@@ -19,8 +18,7 @@ use Rattle.orc_board.specs.Stretches.{MayStand, Row, Share, Stretch, View, all_b
 use Rattle.orc_board.specs.Table.{IsJob, IsWordOf, JobPart, JobRow, PostRow, answer_of}
 use Rattle.orc_board.specs.Follows.{IsWorker, Pointwise, PosterRow, TookRow, WorkersFollow, posts_of, taker_agent, takes_of}
 use Rattle.orc_board.proofs.Keyed.{by_key_below}
-use Rattle.orc_board.proofs.ListFacts.{AllByRecursion-append, AllByRecursion-filter, AllByRecursion-left, AllByRecursion-map, AllByRecursion-right, eq-yes}
-use Rattle.orc_board.proofs.ListFacts.{zero_or}
+use Rattle.orc_board.proofs.ListFacts.{AllByRecursion-append, AllByRecursion-filter, AllByRecursion-left, AllByRecursion-map, AllByRecursion-right, eq-yes, zero_or}
 use Rattle.orc_board.proofs.Orders.{above_zero, no_posts, posters_in_range}
 use Rattle.orc_board.proofs.Wholes.{Works-set, set_of_rows}
 use Rattle.orc_board.proofs.WorkerCases.{worker_cases}

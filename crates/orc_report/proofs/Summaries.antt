@@ -1,6 +1,5 @@
 -- Summaries: one more operation, and its total.
-use Rattle.std.proofs.Common.{◌≡◌, ◌∙◌, ◌++◌, ◌||◌, Bool, true, false, cond, not, nat_eq, List, [], ◌∷◌, ℕ, Some, None, inl, inr, refl, sym, ap, filter}
-use Rattle.std.proofs.Common.{is_some, append-nil, Option, Bor, option_copied, ◌+◌, zero, suc, add-one, slice_get, take, flat_map}
+use Rattle.std.proofs.Common.{Bool, Bor, List, None, Option, Some, [], add-one, ap, append-nil, cond, false, filter, flat_map, inl, inr, is_some, nat_eq, not, option_copied, refl, slice_get, suc, sym, take, true, zero, ℕ, ◌++◌, ◌+◌, ◌||◌, ◌∙◌, ◌∷◌, ◌≡◌}
 use Rattle.std.specs.List.{list_any}
 use Rattle.std.specs.Map.{lookup}
 use Rattle.std.proofs.lemmas.Bool.{cases_Bool}

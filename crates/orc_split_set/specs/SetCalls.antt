@@ -8,11 +8,11 @@ use Rattle.orc_heap.specs.Moves.{gives_in}
 use Rattle.orc_heap.specs.Seats.{IsIdle}
 use Rattle.orc_heap.specs.declared.events.Event.{Event}
 use Rattle.orc_heap.specs.declared.links.Links.{Ghosts as LinksOf}
-use Rattle.orc_history.specs.Parts.{part_begin}
+use Rattle.orc_history.specs.Parts.{WithinPart, part_begin}
 use Rattle.orc_history.specs.SetHistory.{agent_of_set_entry}
 use Rattle.orc_history.specs.declared.set.ListRefused.{ListRefused}
 use Rattle.orc_history.specs.declared.set.SetEntry.{SetEntry}
-use Rattle.orc_ordered_search.specs.Causes.{Cause, UsesTurns, WithinPart}
+use Rattle.orc_ordered_search.specs.Causes.{Cause, UsesTurns}
 use Rattle.orc_split_rule.specs.SplitDiscipline.{IsSize, entries_in, entries_of, greatest, size_of}
 use Rattle.orc_split_rule.specs.SplitOrder.{bucket_of, key_place}
 use Rattle.orc_split_rule.specs.declared.split.SplitNote.{SplitNote}

@@ -17,10 +17,11 @@ ghost use Rattle.orc_split_set.specs.SplitSearches.{BeginsAt, IsAbsence, IsPrese
 use crate::begin::{Begun, begin};
 use crate::node::NewNode;
 use crate::search::{Searched, search_for};
-use crate::spot::{let_all_go, link_of, link_to, place_from};
+use crate::spot::let_all_go;
 use orc_fault::Again;
 use orc_heap::{At, Held, Links};
 use orc_history::SetEntry;
+use orc_ordered_search::{link_of, link_to, place_of};
 use orc_split_rule::{Split, SplitNote};
 
 // Enters an answer that rests on the key's absence, if the left place still shows its link.
@@ -47,7 +48,7 @@ pub(crate) fn enter_absent<L: Links<Rule = Split>>(
 {
     let entered = links.same(
         p,
-        &place_from(&left),
+        &place_of(0, &left),
         &link_of(&first, &right),
         Some(SplitNote::Entry(entry)),
     );

@@ -8,7 +8,7 @@ ghost use Rattle.orc_heap.specs.Slots.{Holds, id_in};
 ghost use Rattle.orc_heap.specs.declared.events.Event.{Event};
 ghost use Rattle.orc_heap.specs.declared.events.Place.{Place};
 ghost use Rattle.orc_history.specs.Journals.{Within};
-ghost use Rattle.orc_ordered_search.specs.Causes.{WithinPart};
+ghost use Rattle.orc_history.specs.Parts.{WithinPart};
 ghost use Rattle.orc_ordered_search.specs.Inserts.{HasRoomFor};
 ghost use Rattle.orc_ordered_search.specs.Searches.{FindsAbsent, FindsPresent, Quiet};
 ghost use Rattle.orc_split_rule.specs.SplitDiscipline.{IsDummy, IsSize, greatest};

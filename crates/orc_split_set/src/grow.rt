@@ -6,7 +6,7 @@ ghost use Rattle.orc_fault.specs.declared.Spent.{Spent};
 ghost use Rattle.orc_heap.specs.Seats.{IsIdle, heap_of};
 ghost use Rattle.orc_heap.specs.Slots.{IsFree, id_in};
 ghost use Rattle.orc_history.specs.Journals.{Within};
-ghost use Rattle.orc_ordered_search.specs.Causes.{WithinPart};
+ghost use Rattle.orc_history.specs.Parts.{WithinPart};
 ghost use Rattle.orc_ordered_search.specs.Searches.{HoldsIfAny, target_at};
 ghost use Rattle.orc_split_rule.specs.SplitDiscipline.{greatest};
 ghost use Rattle.orc_split_rule.specs.Watches.{StandsFor};
@@ -14,10 +14,9 @@ ghost use Rattle.orc_split_set.specs.declared.bucket.Rooted.{Rooted};
 ghost use Rattle.orc_split_set.specs.Growths.{Doubles, DoublesAndGoes, GrowsAfter, HasSizeNode, HoldsSize, IsCrowded, ShowsSize, SwingsSize, grown_by};
 
 use crate::bucket::Rooted;
-use crate::spot::{let_go, link_to};
 use orc_fault::Spent;
 use orc_heap::{At, Held, Links, Looked, Want};
-use orc_ordered_search::InsertTurn;
+use orc_ordered_search::{InsertTurn, let_go, link_to};
 use orc_split_rule::{Split, SplitNote};
 
 // What came of a try to double, by what came of its one swing.

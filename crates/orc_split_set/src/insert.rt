@@ -9,7 +9,7 @@ ghost use Rattle.orc_heap.specs.declared.events.Place.{Place};
 ghost use Rattle.orc_history.specs.Journals.{Within};
 ghost use Rattle.orc_history.specs.declared.set.SetEntry.{SetEntry};
 ghost use Rattle.orc_ordered_chains.specs.Chains.{FollowsOn, IsAbove, IsRun, link_over};
-ghost use Rattle.orc_ordered_search.specs.Causes.{WithinPart};
+ghost use Rattle.orc_history.specs.Parts.{WithinPart};
 ghost use Rattle.orc_ordered_search.specs.Inserts.{AddsAt, AddsNode, HasRoomFor, HoldsNode, InsertAnswers, Inserts, InsertsTurns, KeepsNode, LinksTo, turn_by};
 ghost use Rattle.orc_ordered_search.specs.Searches.{FindsAbsent, HoldsIfAny, first_or, place_at, target_at};
 ghost use Rattle.orc_ordered_search.specs.declared.turn.InsertTurn.{InsertTurn};
@@ -26,11 +26,11 @@ use crate::answer::enter_present;
 use crate::begin::{Begun, begin};
 use crate::node::NewNode;
 use crate::search::{Searched, search_for};
-use crate::spot::{let_all_go, let_go, link_of, place_from};
+use crate::spot::let_all_go;
 use orc_fault::Spent;
 use orc_heap::{Held, Links, Want};
 use orc_history::{ListRefused, SetEntry};
-use orc_ordered_search::InsertTurn;
+use orc_ordered_search::{InsertTurn, let_go, link_of, place_of};
 use orc_split_rule::Split;
 
 // The node, if there is one.
@@ -97,7 +97,7 @@ fn link_node<L: Links<Rule = Split>>(
     let note = new.note(agent);
     links.swing(
         p,
-        &place_from(left),
+        &place_of(0, left),
         &link_of(first, right),
         &Want::Node(node, false),
         Some(note),

@@ -18,10 +18,11 @@ use crate::answer::enter_absent;
 use crate::begin::{Begun, begin};
 use crate::node::NewNode;
 use crate::search::{Searched, search_for};
-use crate::spot::{let_all_go, link_to, node_or, place_from};
+use crate::spot::let_all_go;
 use orc_fault::Again;
 use orc_heap::{At, Held, Links, Want};
 use orc_history::SetEntry;
+use orc_ordered_search::{link_to, node_or, place_of};
 use orc_split_rule::{Split, SplitNote};
 
 // Marks the link of the node with the key. A swing that changes the mark alone is never refused.
@@ -82,7 +83,7 @@ fn unlink_run<L: Links<Rule = Split>>(
 {
     let _tried = links.swing(
         p,
-        &place_from(left),
+        &place_of(0, left),
         &Want::Node(first, false),
         &link_to(next, false),
         Some(SplitNote::Unlink),

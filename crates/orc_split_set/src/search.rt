@@ -11,8 +11,9 @@ ghost use Rattle.orc_split_set.specs.SplitSearches.{BeginsAt, Finds, StepsTo, ra
 
 use crate::node::NewNode;
 use crate::order::SplitPlace;
-use crate::spot::{keep_first, let_all_go, let_go, place_from, slot_of, spare_slot};
+use crate::spot::let_all_go;
 use orc_heap::{At, Held, Links, Looked, LookedOn};
+use orc_ordered_search::{keep_first, let_go, place_of, slot_of, spare_slot};
 use orc_split_rule::Split;
 
 /// How far a search has come: the left place, the first of the marked nodes behind it, if there is one, and the node
@@ -439,7 +440,7 @@ fn start<L: Links<Rule = Split>>(
         → StepsTo (L.numbers links.now) place (rank_of wanted) 0 s result (L.seat links.now p.new) }
 {
     let slot = spare_slot(slot_of(&left), 8, 8);
-    match links.look(p, &place_from(&left), slot) {
+    match links.look(p, &place_of(0, &left), slot) {
         Looked::Stable(_, next) => go_on(links, p, left, None, next, 0),
         Looked::Moved => {
             let_go(links, p, left);

@@ -6,7 +6,7 @@ ghost use Rattle.orc_fault.specs.declared.Spent.{Spent};
 ghost use Rattle.orc_heap.specs.Seats.{IsIdle, Seat};
 ghost use Rattle.orc_heap.specs.declared.events.Place.{Place};
 ghost use Rattle.orc_history.specs.Journals.{Within};
-ghost use Rattle.orc_ordered_search.specs.Causes.{WithinPart};
+ghost use Rattle.orc_history.specs.Parts.{WithinPart};
 ghost use Rattle.orc_ordered_search.specs.Inserts.{HasRoomFor};
 ghost use Rattle.orc_ordered_search.specs.Searches.{FindsAbsent};
 ghost use Rattle.orc_ordered_search.specs.declared.turn.InsertTurn.{InsertTurn};

@@ -3,10 +3,9 @@ use Rattle.std.proofs.Common.{◌≡◌, ◌≤◌, ◌==◌, ℕ, suc, List, []
 use mathlib.Core.List.{IsPrefix}
 use Rattle.orc_board.specs.Stretches.{Stretch, View}
 use Rattle.orc_board.proofs.Shares.{Stretch-trans}
-use Rattle.orc_cell.specs.Causes.{WithinPart}
+use Rattle.orc_history.specs.Parts.{WithinPart, first_step}
 use Rattle.orc_cell.specs.declared.refused.CellRefused.{CellRefused}
 use Rattle.orc_history.specs.Journals.{Adds, Within}
-use Rattle.orc_history.specs.Parts.{first_step}
 use Rattle.orc_pairs_rule.specs.CellHistory.{agent_of_entry}
 use Rattle.orc_pairs_rule.specs.declared.entry.CellEntry.{CellEntry}
 use Rattle.orc_watch_run.specs.CellView.{of_cell}

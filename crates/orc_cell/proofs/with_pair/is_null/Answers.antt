@@ -6,7 +6,7 @@ use Rattle.orc_heap.specs.declared.events.Act.TheVariants.{Look}
 use Rattle.orc_heap.specs.declared.events.Place.TheVariants.{Root}
 use Rattle.orc_pairs_rule.proofs.Coming.{unnoted_later}
 use Rattle.orc_cell.proofs.Answering.{null_missed, tests_only, tests_puts}
-use Rattle.orc_cell.proofs.Parting.{part_begun_seats}
+use Rattle.orc_heap.proofs.Parting.{part_begun_seats}
 use Rattle.orc_cell.proofs.with_pair.is_null.Goals as goal
 
 pub same-requires-clause-place : goal.same-requires-clause-place

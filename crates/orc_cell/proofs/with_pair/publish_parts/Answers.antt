@@ -3,7 +3,7 @@ use Rattle.std.proofs.Common.{[], ap, arith, inl, inr, length, slice_get, subst,
 use Rattle.orc_heap.specs.Slots.{Slots}
 use Rattle.orc_history.specs.Journals.{Within}
 use Rattle.orc_cell.proofs.Answering.{answers_after, answers_none, only_none}
-use Rattle.orc_cell.proofs.Parting.{part_of_piece}
+use Rattle.orc_heap.proofs.Parting.{part_of_piece}
 use Rattle.orc_cell.proofs.Staging.{finds_staging}
 use Rattle.orc_cell.proofs.with_pair.publish_parts.Goals as goal
 

@@ -6,7 +6,7 @@ use Rattle.orc_list.specs.declared.insert.InsertTurn.{InsertTurn}
 use Rattle.orc_list.specs.declared.insert.InsertTurn.TheVariants.{Answered, NoNode, Over as TurnOver, Spent as TurnSpent}
 use Rattle.orc_list.proofs.Inserting.{ends_held, insert_absent, insert_call, insert_tires, spent_same}
 use Rattle.orc_ordered_search.proofs.Inserting.{idle_room}
-use Rattle.orc_ordered_search.proofs.Parting.{part_goes_on}
+use Rattle.orc_heap.proofs.Parting.{part_goes_on}
 use Rattle.orc_list.proofs.Passing.{leaves_on}
 use Rattle.orc_list.proofs.insert.insert_key.Given.{Over}
 use Rattle.orc_list.proofs.insert.insert_key.Goals.{After-insert_turns-turn}

@@ -5,7 +5,7 @@ use Rattle.orc_list.specs.Turns.{Enters}
 use Rattle.orc_list.proofs.Adding.{keeps_answer, keeps_on}
 use Rattle.orc_ordered_search.proofs.Inserting.{has_room}
 use Rattle.orc_list.proofs.Making.{found_over}
-use Rattle.orc_ordered_search.proofs.Parting.{part_of_later}
+use Rattle.orc_heap.proofs.Parting.{part_of_later}
 use Rattle.orc_list.specs.Searches.{list_reading}
 use Rattle.orc_list.proofs.insert.insert_turn.Goals as goal
 

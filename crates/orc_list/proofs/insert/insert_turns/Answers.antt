@@ -4,7 +4,7 @@ use Rattle.orc_heap.proofs.Pieces.{goes_on}
 use Rattle.orc_list.specs.Inserts.{Inserts, InsertsOn}
 use Rattle.orc_list.specs.declared.insert.InsertTurn.{InsertTurn}
 use Rattle.orc_list.proofs.Inserting.{inserts_done, inserts_next, inserts_none}
-use Rattle.orc_ordered_search.proofs.Parting.{part_of_next}
+use Rattle.orc_heap.proofs.Parting.{part_of_next}
 use Rattle.orc_list.proofs.insert.insert_turns.Goals as goal
 
 pub loop-init : goal.loop-init

@@ -18,7 +18,7 @@ same-entered-requires-clause-place g c =
     let t = g.L.Links.seat d c.args.p.now in
     let a = c.args in
     let (start, passed, s, f) = c.requires.absent in
-    c.place_from.ensures.held n t.slots c.requires.roots (first_held s.slots t.slots a.left f.left_id _ f.hands)
+    c.place_of.ensures.held n t.slots c.requires.roots (first_held s.slots t.slots a.left f.left_id _ f.hands)
 
 pub same-entered-requires-clause-link : goal.same-entered-requires-clause-link
 same-entered-requires-clause-link g c =
@@ -37,7 +37,7 @@ same-entered-requires-clause-allowed g c =
     let a = c.args in
     let (start, passed, s, f) = c.requires.absent in
     absent_allowed n start a.key passed a.left a.first a.right s t f _ _ a.entry
-    (c.place_from.ensures.place t.slots ∙ left_is n start a.key passed a.left a.first a.right s t f)
+    (c.place_of.ensures.place t.slots ∙ left_is n start a.key passed a.left a.first a.right s t f)
     (c.link_of.ensures.link t.slots ∙ left_link n start a.key passed a.left a.first a.right s t f) c.requires.entry
     (g.met.L.Links.obeys d a.p.now c.requires.pass)
 
@@ -68,7 +68,7 @@ returns-clause-entered g c = λ start passed s f.
     let l = f.behind.leads in
     entered_at (split_ordering n) s t u y f.own (left_place 0 a.left f.left_id) l.from (Entry a.entry) a.entry _ _ c.same-entered.result f.behind.quiet refl l.still
     (left_place_linked (split_ordering n) t (left_place 0 a.left f.left_id) (key_place a.key) l.below)
-    (c.place_from.ensures.place t.slots ∙ left_is n start a.key passed a.left a.first a.right s t f)
+    (c.place_of.ensures.place t.slots ∙ left_is n start a.key passed a.left a.first a.right s t f)
     (c.link_of.ensures.link t.slots ∙ left_link n start a.key passed a.left a.first a.right s t f) e.tested
     (c.let_all_go.ensures.gone s.slots (tested_hand (split_ordering n) s.slots a.left a.first a.right None _ _ _ _ t u e.tested all
     (absent_hand (split_ordering n) start (key_place a.key) passed a.left a.first s t a.right f))) all

@@ -1,6 +1,6 @@
 -- The read of the size, and then the bucket's root.
 use Rattle.std.proofs.Common.{arith, subst, sym, ◌%◌, ◌<◌, ◌∙◌, ℕ}
-use Rattle.orc_ordered_search.proofs.Parting.{part_of_next}
+use Rattle.orc_heap.proofs.Parting.{part_of_next}
 use Rattle.orc_split_rule.specs.SplitDiscipline.{greatest}
 use Rattle.orc_heap.specs.Seats.{heap_of}
 use Rattle.orc_split_set.specs.Looks.{HasStart, LoadsFew, root_loads}

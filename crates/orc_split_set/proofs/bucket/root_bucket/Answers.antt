@@ -1,7 +1,7 @@
 -- By what the look of the bucket's root found.
 use Rattle.std.proofs.Common.{arith, refl, ◌≤◌}
 use Rattle.orc_ordered_search.proofs.Held.{release_goes}
-use Rattle.orc_ordered_search.proofs.Parting.{part_of_next}
+use Rattle.orc_heap.proofs.Parting.{part_of_next}
 use Rattle.orc_split_set.specs.Looks.{root_loads}
 use Rattle.orc_split_set.proofs.Crowding.{own_not_moved, own_sooner, seen_grows}
 use Rattle.orc_split_set.proofs.Looking.{few_none, few_then, look_agent, look_grows, root_few, start_shown}

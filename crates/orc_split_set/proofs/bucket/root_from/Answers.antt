@@ -1,5 +1,5 @@
 -- By what the search found.
-use Rattle.orc_ordered_search.proofs.Parting.{part_of_later}
+use Rattle.orc_heap.proofs.Parting.{part_of_later}
 use Rattle.orc_split_set.proofs.Asking.{puts_since}
 use Rattle.orc_split_set.proofs.Rooting.{moved_roots}
 use Rattle.orc_split_set.proofs.bucket.root_from.Goals as goal

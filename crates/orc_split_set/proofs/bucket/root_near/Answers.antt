@@ -1,10 +1,10 @@
 -- Where the search for the dummy begins, and what it found.
 use Rattle.std.proofs.Common.{refl, subst, sym, ℕ, ◌∙◌}
 use Rattle.orc_heap.specs.Slots.{Slots}
-use Rattle.orc_ordered_search.specs.Causes.{WithinPart}
+use Rattle.orc_history.specs.Parts.{WithinPart}
 use Rattle.orc_ordered_search.specs.Searches.{HasRoom}
 use Rattle.orc_ordered_search.proofs.Inserting.{idle_room}
-use Rattle.orc_ordered_search.proofs.Parting.{part_of_part}
+use Rattle.orc_heap.proofs.Parting.{part_of_part}
 use Rattle.orc_split_set.specs.Beginnings.{seat_before}
 use Rattle.orc_split_set.proofs.Rooting.{moved_roots, roots_after}
 use Rattle.orc_split_set.proofs.bucket.root_near.Goals as goal

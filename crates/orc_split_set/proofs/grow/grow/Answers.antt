@@ -6,7 +6,7 @@ use Rattle.orc_heap.specs.Slots.{IsFree, Slots, id_in}
 use Rattle.orc_heap.specs.declared.events.Place.TheVariants.{Root}
 use Rattle.orc_heap.specs.declared.holds.Looked.TheVariants.{Stable}
 use Rattle.orc_ordered_search.proofs.Inserting.{idle_room}
-use Rattle.orc_ordered_search.proofs.Parting.{part_of_later}
+use Rattle.orc_heap.proofs.Parting.{part_of_later}
 use Rattle.orc_split_rule.specs.SplitDiscipline.{greatest}
 use Rattle.orc_split_set.specs.Beginnings.{Held}
 use Rattle.orc_split_set.specs.Growths.{ShowsSize}

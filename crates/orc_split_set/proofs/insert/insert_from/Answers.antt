@@ -4,7 +4,7 @@ use Rattle.orc_history.specs.declared.set.SetEntry.TheVariants.{Added}
 use Rattle.orc_ordered_search.specs.Turns.{Enters}
 use Rattle.orc_ordered_search.proofs.Inserting.{has_room, keeps_answer, keeps_on, seen_holds}
 use Rattle.orc_ordered_search.proofs.Making.{found_over}
-use Rattle.orc_ordered_search.proofs.Parting.{part_of_later}
+use Rattle.orc_heap.proofs.Parting.{part_of_later}
 use Rattle.orc_split_set.specs.Crowds.{CountsFrom}
 use Rattle.orc_split_set.specs.SplitSearches.{split_reading}
 use Rattle.orc_split_set.proofs.Asking.{puts_since}

@@ -3,7 +3,7 @@ use Rattle.std.proofs.Common.{refl}
 use Rattle.orc_history.specs.declared.set.SetEntry.TheVariants.{Added}
 use Rattle.orc_ordered_search.proofs.Inserting.{has_room, keeps_on}
 use Rattle.orc_ordered_search.proofs.Making.{found_over}
-use Rattle.orc_ordered_search.proofs.Parting.{part_of_next}
+use Rattle.orc_heap.proofs.Parting.{part_of_next}
 use Rattle.orc_ordered_search.proofs.Preceding.{inserts_after, keeps_after}
 use Rattle.orc_split_rule.specs.SplitDiscipline.{size_of}
 use Rattle.orc_split_rule.specs.SplitOrder.{bucket_of}

@@ -5,7 +5,7 @@ use Rattle.orc_history.specs.declared.set.SetEntry.TheVariants.{Added}
 use Rattle.orc_ordered_search.specs.Inserts.{Inserts, InsertsOn}
 use Rattle.orc_ordered_search.specs.declared.turn.InsertTurn.{InsertTurn}
 use Rattle.orc_ordered_search.proofs.Inserting.{inserts_done, inserts_next, inserts_none}
-use Rattle.orc_ordered_search.proofs.Parting.{part_of_next}
+use Rattle.orc_heap.proofs.Parting.{part_of_next}
 use Rattle.orc_split_set.specs.SplitSearches.{split_reading}
 use Rattle.orc_split_set.proofs.Crowding.{seen_grows, turns_count}
 use Rattle.orc_split_set.proofs.insert.insert_turns.Goals as goal

@@ -46,7 +46,7 @@ pub swing-requires-clause-place : goal.swing-requires-clause-place
 swing-requires-clause-place g c =
     let d = c.args.links.now in
     let t = g.L.Links.seat d c.aim.new.p in
-    c.place_from.ensures.held _ t.slots c.requires.roots (subst (λ (z : Slots). HoldsIfAny z c.args.left.now) (sym c.in_ok-aim.ensures.aimed.slots)
+    c.place_of.ensures.held _ t.slots c.requires.roots (subst (λ (z : Slots). HoldsIfAny z c.args.left.now) (sym c.in_ok-aim.ensures.aimed.slots)
     c.requires.held.0)
 
 pub swing-requires-clause-links : goal.swing-requires-clause-links
@@ -74,7 +74,7 @@ swing-requires-clause-allowed g c =
     let id_is = (holds_of s.slots a.node.now id k.held).1 in
     let aims = subst (λ (o : Option ℕ). Only (event_of s (Aim (id_in s.slots a.node.now) o) None ∷ []) s t) (c.node_in.ensures.target s.slots) e.aimed in
     let only = subst (λ (i : ℕ). Only (event_of s (Aim i to) None ∷ []) s t) id_is aims in
-    let place_is = c.place_from.ensures.place t.slots ∙ ap (λ (z : Slots). place_at z 0 a.left.now) only.slots in
+    let place_is = c.place_of.ensures.place t.slots ∙ ap (λ (z : Slots). place_at z 0 a.left.now) only.slots in
     let from_is = c.link_of.ensures.link t.slots ∙ ap (λ (z : Slots). link_over (target_at z (first_or a.first.now a.right.now))) only.slots in
     let apart : to ≢ Some id = λ is. above_not_fresh (split_ordering n) s to (place_for a.new) c.requires.above (λ i h. g.met.L.Links.fresh_is d a.p.now i c.requires.pass h) id is
     k.fresh in
@@ -97,7 +97,7 @@ returns-clause-linked g c = λ id k.
     let id_is = (holds_of s.slots a.node.now id k.held).1 in
     let aims = subst (λ (o : Option ℕ). Only (event_of s (Aim (id_in s.slots a.node.now) o) None ∷ []) s t) (c.node_in.ensures.target s.slots) e.aimed in
     let only = subst (λ (i : ℕ). Only (event_of s (Aim i to) None ∷ []) s t) id_is aims in
-    let place_is = c.place_from.ensures.place t.slots ∙ ap (λ (z : Slots). place_at z 0 a.left.now) only.slots in
+    let place_is = c.place_of.ensures.place t.slots ∙ ap (λ (z : Slots). place_at z 0 a.left.now) only.slots in
     let from_is = c.link_of.ensures.link t.slots ∙ ap (λ (z : Slots). link_over (target_at z (first_or a.first.now a.right.now))) only.slots in
     let apart : to ≢ Some id = λ is. above_not_fresh (split_ordering n) s to (place_for a.new) c.requires.above (λ i h. g.met.L.Links.fresh_is d a.p.now i c.requires.pass h) id is
     k.fresh in

@@ -10,13 +10,13 @@ use Rattle.orc_split_set.proofs.remove.unlink_run.Goals as goal
 pub swing-tried-requires-clause-place : goal.swing-tried-requires-clause-place
 swing-tried-requires-clause-place g c =
     let s = g.L.Links.seat c.args.links.now c.args.p.now in
-    c.place_from.ensures.held _ s.slots c.requires.roots c.requires.held.0
+    c.place_of.ensures.held _ s.slots c.requires.roots c.requires.held.0
 
 pub swing-tried-requires-clause-linked : goal.swing-tried-requires-clause-linked
 swing-tried-requires-clause-linked g c =
     let d = c.args.links.now in
     let s = g.L.Links.seat d c.args.p.now in
-    not_fresh_at (split_ordering (g.L.Links.numbers d)) s c.place_from.result (place_at s.slots 0 c.args.left.now) (c.place_from.ensures.place s.slots)
+    not_fresh_at (split_ordering (g.L.Links.numbers d)) s c.place_of.result (place_at s.slots 0 c.args.left.now) (c.place_of.ensures.place s.slots)
     c.requires.left (λ i e. g.met.L.Links.fresh_is d c.args.p.now i c.requires.pass e)
 
 pub swing-tried-requires-clause-links : goal.swing-tried-requires-clause-links
@@ -29,7 +29,7 @@ swing-tried-requires-clause-allowed g c =
     let d = c.args.links.now in
     let s = g.L.Links.seat d c.args.p.now in
     try_allowed (g.L.Links.numbers d) s (place_at s.slots 0 c.args.left.now) _ (id_in s.slots c.args.first.now) c.requires.run.0
-    (target_at s.slots c.args.next.now) _ (c.place_from.ensures.place s.slots) (c.link_to.ensures.link s.slots)
+    (target_at s.slots c.args.next.now) _ (c.place_of.ensures.place s.slots) (c.link_to.ensures.link s.slots)
     (g.met.L.Links.obeys d c.args.p.now c.requires.pass) c.requires.left c.requires.run.1
 
 pub returns-clause-tried : goal.returns-clause-tried

@@ -27,7 +27,7 @@ passed g c = λ place s room b.
     start_looks (split_ordering n) place (rank_of a.wanted) a.left s t u b.begins holds (never_marked n place (rank_of a.wanted) a.left s t holds b)
     (g.met.L.Links.allowed d c.look.new.p e.pass) c.spare_slot-slot.result _ c.in-Stable.next room k.range.0 k.range.1
     (λ e. k.left (e ∙ sym c.slot_of.ensures))
-    (looks_from _ place c.spare_slot-slot.result _ t u (c.place_from.ensures.place t.slots ∙ start_place n place (rank_of a.wanted) a.left s t b) e.looked)
+    (looks_from _ place c.spare_slot-slot.result _ t u (c.place_of.ensures.place t.slots ∙ start_place n place (rank_of a.wanted) a.left s t b) e.looked)
 
 pub look-requires-clause-place : goal.look-requires-clause-place
 look-requires-clause-place g c =
@@ -35,7 +35,7 @@ look-requires-clause-place g c =
     let n = g.L.Links.numbers d in
     let t = g.L.Links.seat d c.args.p.now in
     let (place, s, room, b) = c.requires.begins in
-    c.place_from.ensures.held n t.slots c.requires.roots (start_held n place (rank_of c.args.wanted) c.args.left s t b)
+    c.place_of.ensures.held n t.slots c.requires.roots (start_held n place (rank_of c.args.wanted) c.args.left s t b)
 
 pub go_on-requires-clause-passed : goal.go_on-requires-clause-passed
 go_on-requires-clause-passed g c =
@@ -56,6 +56,6 @@ returns-in-Moved-clause-stepped g c = λ place s room b.
     let v = g.L.Links.seat d c.let_go.new.p in
     let e = c.in-Moved.ensures in
     start_moved (split_ordering n) place (rank_of a.wanted) c.spare_slot-slot.result a.left s t u v b.begins
-    (looks_from _ place c.spare_slot-slot.result _ t u (c.place_from.ensures.place t.slots ∙ start_place n place (rank_of a.wanted) a.left s t b) e.looked)
+    (looks_from _ place c.spare_slot-slot.result _ t u (c.place_of.ensures.place t.slots ∙ start_place n place (rank_of a.wanted) a.left s t b) e.looked)
     (g.met.L.Links.allowed d c.look.new.p e.pass) c.let_go.ensures.let_go (λ i h. g.met.L.Links.fresh_is d c.look.new.p i e.pass h)
     (g.met.L.Links.allowed d c.let_go.new.p c.let_go.ensures.pass)

@@ -2,7 +2,7 @@
 use Rattle.orc_heap.specs.declared.events.Place.TheVariants.{Root}
 use Rattle.orc_ordered_search.proofs.Held.{present_hand}
 use Rattle.orc_ordered_search.proofs.Inserting.{idle_room}
-use Rattle.orc_ordered_search.proofs.Parting.{part_of_later}
+use Rattle.orc_heap.proofs.Parting.{part_of_later}
 use Rattle.orc_ordered_search.specs.Searches.{FindsAbsent, FindsPresent}
 use Rattle.orc_split_rule.specs.SplitOrder.{dummy_place}
 use Rattle.orc_split_set.specs.SplitSearches.{split_reading}

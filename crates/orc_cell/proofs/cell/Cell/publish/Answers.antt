@@ -6,7 +6,7 @@ use Rattle.orc_heap.proofs.Steps.{alone_later}
 use Rattle.orc_history.specs.Parts.{IsAlone}
 use Rattle.orc_cell.proofs.Answering.{any_answered}
 use Rattle.orc_cell.proofs.Journals.{call_seen, gave_at_most, no_event}
-use Rattle.orc_cell.proofs.Parting.{part_goes_on}
+use Rattle.orc_heap.proofs.Parting.{part_goes_on}
 use Rattle.orc_cell.proofs.Settled.{idle_after, publish_again, publish_err, publish_ok, publish_settled, staging_after}
 use Rattle.orc_cell.proofs.cell.Cell.publish.Goals as goal
 

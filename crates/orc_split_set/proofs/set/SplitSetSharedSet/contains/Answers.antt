@@ -5,12 +5,11 @@ use Rattle.orc_fault.specs.declared.Again.{Again as AgainFault}
 use Rattle.orc_heap.proofs.Pieces.{goes_on}
 use Rattle.orc_heap.proofs.Steps.{alone_later}
 use Rattle.orc_heap.specs.Seats.{IsIdle}
-use Rattle.orc_history.specs.Parts.{IsAlone}
+use Rattle.orc_history.specs.Parts.{IsAlone, WithinPart}
 use Rattle.orc_history.specs.declared.set.SetEntry.{SetEntry}
 use Rattle.orc_history.specs.declared.set.SetEntry.TheVariants.{Asked}
 use Rattle.orc_ordered_search.proofs.Causes.{did_enter, did_give, did_not_enter, did_nothing, if_err, turns_used}
 use Rattle.orc_ordered_search.proofs.Licences.{again_licence}
-use Rattle.orc_ordered_search.specs.Causes.{WithinPart}
 use Rattle.orc_ordered_search.proofs.Parts.{within_goes_on}
 use Rattle.orc_ordered_search.proofs.Settling.{answers_did, answers_keeps, idle_settled}
 use Rattle.orc_ordered_search.specs.Turns.{AnswersTurns}

@@ -3,7 +3,7 @@ use Rattle.std.proofs.Common.{Bool, Err, Ok, Result, arith, subst, sym, true, â„
 use Rattle.orc_heap.proofs.Pieces.{goes_on}
 use Rattle.orc_heap.proofs.Steps.{alone_later}
 use Rattle.orc_heap.specs.Seats.{IsIdle}
-use Rattle.orc_history.specs.Parts.{IsAlone}
+use Rattle.orc_history.specs.Parts.{IsAlone, WithinPart}
 use Rattle.orc_fault.specs.declared.Spent.{Spent as SpentRow}
 use Rattle.orc_history.specs.declared.set.ListRefused.TheVariants.{Again, NoNode, Spent}
 use Rattle.orc_history.specs.declared.set.ListRefused.{ListRefused}
@@ -13,9 +13,8 @@ use Rattle.orc_ordered_search.proofs.Causes.{did_enter, did_give, did_not_enter,
 use Rattle.orc_ordered_search.proofs.Licences.{insert_licence}
 use Rattle.orc_ordered_search.proofs.Parts.{within_goes_on}
 use Rattle.orc_ordered_search.proofs.Settling.{Did, idle_settled, insert_keeps}
-use Rattle.orc_ordered_search.specs.Causes.{WithinPart}
 use Rattle.orc_ordered_search.specs.Inserts.{InsertAnswers}
-use Rattle.orc_ordered_search.proofs.Parting.{part_of_part}
+use Rattle.orc_heap.proofs.Parting.{part_of_part}
 use Rattle.orc_split_set.proofs.Calling.{did_after, if_ok, insert_after, roots_call}
 use Rattle.orc_split_rule.specs.SplitDiscipline.{IsSize, greatest}
 use Rattle.orc_split_set.proofs.Crowded.{grows_call}

@@ -11,8 +11,7 @@ use Rattle.orc_heap.specs.Seats.{Seat}
 use Rattle.orc_heap.specs.declared.events.Event.{Event}
 use Rattle.orc_heap.specs.declared.links.Links.{Ghosts as LinksOf}
 use Rattle.orc_history.specs.Journals.{Within, own_of}
-use Rattle.orc_history.specs.Parts.{first_step, part_begin}
-use Rattle.orc_ordered_search.specs.Causes.{WithinPart}
+use Rattle.orc_history.specs.Parts.{WithinPart, first_step, part_begin}
 
 module _ {S : Type 0} (agent_of : S → ℕ) (agent : ℕ) where
   -- the first step of these is no earlier than their place, and no later than their end
