@@ -6,7 +6,7 @@ use orc_board::{OpenGate, PostList, PostReply, PostWord};
 use orc_fault::NoMemory;
 use orc_history::PlainQueue;
 use orc_jobs::Lines;
-use orc_stages::{OutList, StageList, move_rest, post_items, run_stage, take_outs};
+use orc_stages::{OutList, StageList, StageReply, move_rest, post_items, run_stage, take_outs};
 use orc_workers::count_jobs;
 use std::alloc::Global;
 use std::sync::Wait;
@@ -20,6 +20,15 @@ struct TwoStages {
     first: StageList,
     second: StageList,
     outs: OutList,
+}
+
+// What is wanted of it.
+#[derive(Clone, Copy)]
+struct Wanted<'a> {
+    posts: &'a [PostReply],
+    first: &'a [StageReply],
+    second: &'a [StageReply],
+    outs: &'a [u64],
 }
 
 // What a poster, two stages and the caller do with these lines, where the middle queue has room for so many jobs.
@@ -74,83 +83,91 @@ fn two_stages<R: Wait>(
     })
 }
 
+// Which lists of a run of this file are those that are wanted.
+fn agree<R: Wait>(
+    rt: &R,
+    alloc: Global,
+    text: &[u8],
+    middle: u32,
+    wanted: Wanted,
+) -> Result<[bool; 4], NoMemory> {
+    let lines = lines_of(alloc, text)?;
+    let done = two_stages(rt, alloc, &lines, middle)?;
+    Ok([
+        done.posts.items() == wanted.posts,
+        done.first.items() == wanted.first,
+        done.second.items() == wanted.second,
+        done.outs.items() == wanted.outs,
+    ])
+}
+
 #[test]
 fn two_posts_go_through_two_stages(rt: HostRuntime) -> Result<(), Fail> {
-    let lines = lines_of(rt.alloc(), b"post,3,bytes,abc\npost,3,words,a b\n")?;
-    let done = two_stages(&rt, rt.alloc(), &lines, 8)?;
-    assert_eq!(rt; done.posts.len(), 2);
-    assert_eq!(rt; done.posts.items().first(), Some(&posted(0, 0)));
-    assert_eq!(rt; done.posts.items().last(), Some(&posted(1, 1)));
-    assert_eq!(rt; done.first.len(), 2);
-    assert_eq!(rt; done.first.items().first(), Some(&moved(1, 0, Some(3))));
-    assert_eq!(rt; done.first.items().last(), Some(&moved(1, 1, Some(2))));
-    assert_eq!(rt; done.second.len(), 2);
-    assert_eq!(rt; done.second.items().first(), Some(&moved(2, 0, Some(6))));
-    assert_eq!(rt; done.second.items().last(), Some(&moved(2, 1, Some(4))));
-    assert_eq!(rt; done.outs.len(), 2);
-    assert_eq!(rt; done.outs.items().first(), Some(&0));
-    assert_eq!(rt; done.outs.items().last(), Some(&1));
+    let wanted = Wanted {
+        posts: &[posted(0, 0), posted(1, 1)],
+        first: &[moved(1, 0, Some(3)), moved(1, 1, Some(2))],
+        second: &[moved(2, 0, Some(6)), moved(2, 1, Some(4))],
+        outs: &[0, 1],
+    };
+    let text = b"post,3,bytes,abc\npost,3,words,a b\n";
+    assert_eq!(rt; agree(&rt, rt.alloc(), text, 8, wanted)?, [true; 4]);
     Ok(())
 }
 
 #[test]
 fn a_drop_is_skipped(rt: HostRuntime) -> Result<(), Fail> {
-    let lines = lines_of(rt.alloc(), b"drop,3\n")?;
-    let done = two_stages(&rt, rt.alloc(), &lines, 8)?;
     let skipped = PostReply {
         poster: 1,
         line: 0,
         what: PostWord::Skipped,
     };
-    assert_eq!(rt; done.posts.len(), 1);
-    assert_eq!(rt; done.posts.items().first(), Some(&skipped));
-    assert!(rt; done.first.is_empty());
-    assert!(rt; done.second.is_empty());
-    assert!(rt; done.outs.is_empty());
+    let wanted = Wanted {
+        posts: &[skipped],
+        first: &[],
+        second: &[],
+        outs: &[],
+    };
+    assert_eq!(rt; agree(&rt, rt.alloc(), b"drop,3\n", 8, wanted)?, [true; 4]);
     Ok(())
 }
 
 #[test]
 fn later_stages_go_on_where_a_job_finds_no_place(rt: HostRuntime) -> Result<(), Fail> {
-    let lines = lines_of(
-        rt.alloc(),
-        b"post,1,bytes,a\nrush,2,bytes,bb\npost,3,bytes,ccc\n",
-    )?;
-    let done = two_stages(&rt, rt.alloc(), &lines, 1)?;
-    let values = [Some(1), None, None];
-    assert_eq!(rt; done.first.len(), 3);
-    for (line, (reply, value)) in (0..).zip(done.first.items().iter().zip(values)) {
-        assert_eq!(rt; *reply, moved(1, line, value));
-    }
-    assert_eq!(rt; done.second.len(), 1);
-    assert_eq!(rt; done.second.items().first(), Some(&moved(2, 0, Some(2))));
-    assert_eq!(rt; done.outs.len(), 1);
-    assert_eq!(rt; done.outs.items().first(), Some(&0));
+    let wanted = Wanted {
+        posts: &[posted(0, 0), posted(1, 1), posted(2, 2)],
+        first: &[moved(1, 0, Some(1)), moved(1, 1, None), moved(1, 2, None)],
+        second: &[moved(2, 0, Some(2))],
+        outs: &[0],
+    };
+    let text = b"post,1,bytes,a\nrush,2,bytes,bb\npost,3,bytes,ccc\n";
+    assert_eq!(rt; agree(&rt, rt.alloc(), text, 1, wanted)?, [true; 4]);
     Ok(())
 }
 
-// What the caller moves of these lines, where no stage worked.
-fn moved_by_the_caller<R: Wait>(rt: &R, alloc: Global, lines: &Lines) -> Result<StageList, NoMemory>
-    requires { AreGood lines.now }
-{
+// Whether the caller moves so of this file, where no stage worked.
+fn moved_by_the_caller<R: Wait>(
+    rt: &R,
+    alloc: Global,
+    text: &[u8],
+    wanted: &[StageReply],
+) -> Result<bool, NoMemory> {
+    let lines = lines_of(alloc, text)?;
     let (queue0, mut pass0) = PlainQueue::new(alloc, 8, 0)?.pass();
     let (queue1, mut pass1) = PlainQueue::new(alloc, 8, 0)?.pass();
     let mut posts = PostList::new(alloc, lines.len())?;
     let mut moves = StageList::new(alloc, lines.len())?;
     pass0.act_as(1);
-    post_items(rt, &queue0, &mut pass0, 1, 1, lines, &OpenGate, &mut posts);
+    post_items(rt, &queue0, &mut pass0, 1, 1, &lines, &OpenGate, &mut posts);
     pass0.act_as(0);
     move_rest(
-        rt, &queue0, &queue1, &mut pass0, &mut pass1, 1, lines, &mut moves,
+        rt, &queue0, &queue1, &mut pass0, &mut pass1, 1, &lines, &mut moves,
     );
-    Ok(moves)
+    Ok(moves.items() == wanted)
 }
 
 #[test]
 fn the_caller_moves_what_is_left(rt: HostRuntime) -> Result<(), Fail> {
-    let lines = lines_of(rt.alloc(), b"post,3,bytes,abc\n")?;
-    let moves = moved_by_the_caller(&rt, rt.alloc(), &lines)?;
-    assert_eq!(rt; moves.len(), 1);
-    assert_eq!(rt; moves.items().first(), Some(&moved(1, 0, Some(3))));
+    let wanted = [moved(1, 0, Some(3))];
+    assert!(rt; moved_by_the_caller(&rt, rt.alloc(), b"post,3,bytes,abc\n", &wanted)?);
     Ok(())
 }

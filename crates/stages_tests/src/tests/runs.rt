@@ -1,12 +1,52 @@
 //! Whole runs on threads, over reclaiming domains.
+ghost use Rattle.std.specs.Prelude.{◌≤◌};
+
 use super::{lines_of, moved, posted};
 use orc_board::{Gate, OpenGate, PostList, PostReply, PostWord};
 use orc_fault::NoMemory;
-use orc_stages::OutList;
+use orc_stages::{OutList, StageList, StageReply};
 use orc_stages_run::run_pipeline;
 use std::alloc::Global;
+use std::sync::Wait;
 use std::sync::atomic::{AtomicU64, Ordering};
 use std::test::Fail;
+use std::thread::Threads;
+
+// What a run leaves: the replies of posters and stages, the jobs that came out, and how many domains came to rest.
+#[derive(Drop)]
+struct Outcome {
+    posts: PostList,
+    moves: StageList,
+    outs: OutList,
+    queues: usize,
+}
+
+// What a run of this file by so many posters and stages leaves. All tests call here, so that the call's contract is looked at in one
+// proof.
+fn outcome_of<R: Threads + Wait + Sync, G: Gate + Sync>(
+    rt: &R,
+    alloc: Global,
+    text: &[u8],
+    posters: u32,
+    stages: u32,
+    rows: u32,
+    gate: &G,
+) -> Result<Outcome, NoMemory>
+    requires posters { (1 ≤ posters) × (posters ≤ 8) }
+    requires stages { (1 ≤ stages) × (stages ≤ 6) }
+    requires rows { (2 ≤ rows) × (rows ≤ 65535) }
+{
+    let lines = lines_of(alloc, text)?;
+    let finished = run_pipeline(rt, alloc, &lines, posters, stages, rows, gate)?;
+    let queues = finished.queues.len();
+    let done = finished.done;
+    Ok(Outcome {
+        posts: done.posts,
+        moves: done.moves,
+        outs: done.outs,
+        queues,
+    })
+}
 
 // For how many looks a worker is held at most.
 const LOOKS: u64 = 1 << 30;
@@ -33,17 +73,14 @@ fn posts(alloc: Global, count: u32) -> Result<String, NoMemory> {
 
 #[test]
 fn a_drop_is_skipped(rt: HostRuntime) -> Result<(), Fail> {
-    let lines = lines_of(rt.alloc(), b"drop,3\n")?;
-    let finished = run_pipeline(&rt, rt.alloc(), &lines, 1, 2, 8, &OpenGate)?;
+    let got = outcome_of(&rt, rt.alloc(), b"drop,3\n", 1, 2, 8, &OpenGate)?;
     let skipped = PostReply {
         poster: 1,
         line: 0,
         what: PostWord::Skipped,
     };
-    assert_eq!(rt; finished.done.posts.items().first(), Some(&skipped));
-    assert!(rt; finished.done.moves.is_empty());
-    assert!(rt; finished.done.outs.is_empty());
-    assert_eq!(rt; finished.queues.len(), 3);
+    assert_eq!(rt; got.posts.items(), [skipped].as_slice());
+    assert_eq!(rt; (got.moves.len(), got.outs.len(), got.queues), (0, 0, 3));
     Ok(())
 }
 
@@ -63,13 +100,11 @@ fn in_file_order(outs: &OutList, ends: [u64; 3]) -> bool {
 #[test]
 fn a_thousand_posts_come_out_in_file_order(rt: HostRuntime) -> Result<(), Fail> {
     let alloc = rt.alloc();
-    let lines = lines_of(alloc, posts(alloc, 1000)?.as_bytes())?;
-    let finished = run_pipeline(&rt, alloc, &lines, 3, 6, 2000, &OpenGate)?;
-    assert_eq!(rt; finished.done.posts.len(), 1000);
-    assert_eq!(rt; finished.done.moves.len(), 6000);
-    assert_eq!(rt; finished.done.outs.len(), 1000);
-    assert!(rt; in_file_order(&finished.done.outs, [1002, 1000, 1001]));
-    assert_eq!(rt; finished.queues.len(), 7);
+    let text = posts(alloc, 1000)?;
+    let got = outcome_of(&rt, alloc, text.as_bytes(), 3, 6, 2000, &OpenGate)?;
+    assert_eq!(rt; (got.posts.len(), got.moves.len()), (1000, 6000));
+    assert_eq!(rt; (got.outs.len(), got.queues), (1000, 7));
+    assert!(rt; in_file_order(&got.outs, [1002, 1000, 1001]));
     Ok(())
 }
 
@@ -104,29 +139,54 @@ impl Gate for SecondStageWaits {
     }
 }
 
+// Whether the first seven jobs went through both stages and came out in their order, and the next eight found no place behind the
+// first stage.
+fn seven_come_out(got: &Outcome) -> bool {
+    let mut all = true;
+    for (line, reply) in (0..).zip(got.moves.items().iter().take(15)) {
+        let value = if line < 7 { Some(1) } else { None };
+        all &= *reply == moved(1, line, value);
+    }
+    for (line, reply) in (0..).zip(got.moves.items().iter().skip(16).take(7)) {
+        all &= *reply == moved(2, line, Some(2));
+    }
+    for (line, job) in (0..).zip(got.outs.items().iter().take(7)) {
+        all &= *job == line;
+    }
+    all
+}
+
+// How many jobs found a place behind this stage.
+fn placed_by(moves: &[StageReply], stage: u32) -> usize {
+    let mut count: usize = 0;
+    for reply in moves {
+        if reply.stage == stage && reply.value.is_some() {
+            count = count.wrapping_add(1);
+        }
+    }
+    count
+}
+
+// What the first stage gave a place is moved by the second, and what that gave a place comes out. The last job finds one behind the
+// first stage where the second has taken a job before, and may then find none behind the second.
 #[test]
 fn later_stages_go_on_where_jobs_find_no_place(rt: HostRuntime) -> Result<(), Fail> {
     let alloc = rt.alloc();
-    let lines = lines_of(alloc, posts(alloc, 16)?.as_bytes())?;
+    let text = posts(alloc, 16)?;
     let gate = SecondStageWaits {
         posted: AtomicU64::new(0),
         tried: AtomicU64::new(0),
     };
-    let finished = run_pipeline(&rt, alloc, &lines, 1, 2, 8, &gate)?;
-    let done = finished.done;
-    assert_eq!(rt; done.posts.items().last(), Some(&posted(15, 15)));
-    for (line, reply) in (0..).zip(done.moves.items().iter().take(15)) {
-        let value = if line < 7 { Some(1) } else { None };
-        assert_eq!(rt; *reply, moved(1, line, value));
-    }
-    for (line, reply) in (0..).zip(done.moves.items().iter().skip(16).take(7)) {
-        assert_eq!(rt; *reply, moved(2, line, Some(2)));
-    }
-    for (line, job) in (0..).zip(done.outs.items().iter().take(7)) {
-        assert_eq!(rt; *job, line);
-    }
-    assert!(rt; done.outs.len() >= 7);
-    assert_eq!(rt; done.moves.len(), 16 + done.outs.len());
+    let got = outcome_of(&rt, alloc, text.as_bytes(), 1, 2, 8, &gate)?;
+    assert_eq!(rt; got.posts.items().last(), Some(&posted(15, 15)));
+    assert!(rt; seven_come_out(&got));
+    let moves = got.moves.items();
+    let (by_first, by_second) = (placed_by(moves, 1), placed_by(moves, 2));
+    assert!(rt; by_second >= 7);
+    assert_eq!(rt;
+        (moves.len(), got.outs.len()),
+        (by_first.wrapping_add(16), by_second)
+    );
     Ok(())
 }
 
@@ -152,13 +212,12 @@ impl Gate for StagesMeet {
 #[test]
 fn each_stage_has_a_worker_of_its_own(rt: HostRuntime) -> Result<(), Fail> {
     let alloc = rt.alloc();
-    let lines = lines_of(alloc, posts(alloc, 3)?.as_bytes())?;
+    let text = posts(alloc, 3)?;
     let gate = StagesMeet {
         came: AtomicU64::new(0),
         met: AtomicU64::new(0),
     };
-    let finished = run_pipeline(&rt, alloc, &lines, 1, 3, 8, &gate)?;
-    assert_eq!(rt; gate.met.load(Ordering::SeqCst), 3);
-    assert_eq!(rt; finished.done.outs.len(), 3);
+    let got = outcome_of(&rt, alloc, text.as_bytes(), 1, 3, 8, &gate)?;
+    assert_eq!(rt; (gate.met.load(Ordering::SeqCst), got.outs.len()), (3, 3));
     Ok(())
 }
