@@ -1,6 +1,6 @@
 //! What each domain offers from its making to its rest.
 
-ghost use Rattle.std.specs.Prelude.{◌≡◌, ◌+◌, ℕ, [], All, IfOk};
+ghost use Rattle.std.specs.Prelude.{◌≡◌, ◌+◌, ℕ, [], All, IfOk, List};
 ghost use Rattle.orc_any_domain.specs.Domains.{AreAllIdle, heap_numbers};
 ghost use Rattle.orc_heap.specs.Seeds.{SeedAllowed, opening_events};
 ghost use Rattle.orc_words.specs.Bounds.{Bounds, bounds_of};
@@ -26,8 +26,8 @@ pub trait Domain: Links {
     // the sizes that the domain was made with
     ghost bounds: { Self → Bounds };
 
-    // this is what is left of the domain at rest
-    ghost rests: { Self → Self.Rest → Type 0 };
+    // this is what is left of the domain at rest, which had these passes
+    ghost rests: { Self → List Self.Pass → Self.Rest → Type 0 };
 
     /// A domain of this shape, and one pass an agent, in order. Its journal begins with the seed's events, of agent 0, and no pass
     /// has seen more.
@@ -55,11 +55,12 @@ pub trait Domain: Links {
     /// Lets all passes drain, and ends the sharing. It takes no memory.
     fn end(self, passes: Vec<Self::Pass>) -> Self::Rest
         requires { AreAllIdle Self.Links self passes.items }
-        ensures { rests self result };
+        ensures { rests self passes.items result };
 
     /// How many rows were given and freed, each as often as it was, and how many are out: what was given was freed or is out.
     fn counts(rest: &Self::Rest) -> RowCounts
-        ensures balance { (domain : Self) → rests domain rest.now → result.given ≡ result.reused + result.linked };
+        ensures balance { (domain : Self) (passes : List Self.Pass) → rests domain passes rest.now
+            → result.given ≡ result.reused + result.linked };
 
     // the heap's numbers, the agents and the rows are those of the sizes
     ghost numbers_are: { (d : Self) → Self.numbers d ≡ heap_numbers (bounds d) };

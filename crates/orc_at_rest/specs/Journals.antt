@@ -20,15 +20,10 @@ use Rattle.orc_machine_board.specs.declared.machine.MachineShape.{MachineShape}
 use Rattle.orc_machine_board.specs.declared.machine.Reclaiming.{Reclaiming}
 use Rattle.orc_machine_board.specs.declared.machine.Request.{Request}
 use Rattle.orc_domain.specs.Passes.{domain_bounds}
-use Rattle.orc_domain.specs.Rest.{IsShown, rest_domain, rest_journal}
+use Rattle.orc_domain.specs.Rest.{GoesOnQuietly, IsShown, rest_domain, rest_journal}
 use Rattle.orc_domain.specs.declared.at_rest.OrcRest.{OrcRest}
 use Rattle.orc_domain.specs.declared.domain.OrcDomain.{OrcDomain}
 use Rattle.orc_rest.specs.Rest.{IsAtRest}
-
--- a journal goes on without a heap event
-pub record GoesOnQuietly {N : Type 0} (b : Bounds) (before after : List (Step N)) : Type 0 where
-  pub later : IsPrefix before after
-  pub quiet : project b after ≡ project b before
 
 module _ {D N : Type 0} {d : discipline.Ghosts D N} {m : machine.Ghosts Reclaiming N (MachineShape N) Request (Step N) Agent Agent} where
   -- what is left of the domain, whose passes had seen this journal: it is at rest, and its board has shown a journal that went on

@@ -1,6 +1,2 @@
-//! What a run over a reclaiming domain leaves: all its passes drain, and the one journal of the domain, which is at rest then.
+//! What a run over a reclaiming domain leaves: the one journal of the domain, which is at rest then, and how its rows were used again.
 #![tactic(auto)]
-
-mod ending;
-
-pub use ending::bring_to_rest;

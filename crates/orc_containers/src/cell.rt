@@ -73,7 +73,7 @@ pub fn cell_at_rest<L: Domain<Rule = Pairs>>(cell: Cell<L>, passes: Vec<L::Pass>
     requires usable { All (λ p. IsUsable L.Links cell.links p) passes.items }
     requires agents { (i : ℕ) (p : L.Pass) → i < length passes.items → agent L.Links cell.links (slice_index_or passes.items i p) ≡ i }
     requires many { length passes.items ≡ L.agents cell.links }
-    ensures { L.rests cell.links result }
+    ensures { L.rests cell.links passes.items result }
 {
     cell.into_links().end(passes)
 }

@@ -83,7 +83,7 @@ pub fn queue_at_rest<L: Domain<Rule = Fifo>>(queue: Queue<L>, passes: Vec<L::Pas
     requires agents { (i : ℕ) (p : L.Pass) → i < length passes.items
         → ⟦<Queue<L> as SharedQueue>⟧.agent_of queue (slice_index_or passes.items i p) ≡ i }
     requires many { length passes.items ≡ ⟦<Queue<L> as LearnQueue>⟧.agents queue }
-    ensures { L.rests queue.links result }
+    ensures { L.rests queue.links passes.items result }
 {
     queue.into_links().end(passes)
 }

@@ -97,7 +97,7 @@ pub fn set_at_rest<L: Domain<Rule = Chain>>(set: Set<L>, passes: Vec<L::Pass>) -
     requires agents { (i : ℕ) (p : L.Pass) → i < length passes.items
         → ⟦<Set<L> as SharedSet>⟧.agent_of set (slice_index_or passes.items i p) ≡ i }
     requires many { length passes.items ≡ ⟦<Set<L> as LearnSet>⟧.agents set }
-    ensures { L.rests set.list.links result }
+    ensures { L.rests set.list.links passes.items result }
 {
     set.into_links().end(passes)
 }

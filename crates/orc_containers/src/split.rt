@@ -77,7 +77,7 @@ pub fn split_set_at_rest<L: Domain<Rule = Split>>(set: SplitSet<L>, passes: Vec<
     requires agents { (i : ℕ) (p : L.Pass) → i < length passes.items
         → ⟦<SplitSet<L> as SharedSet>⟧.agent_of set (slice_index_or passes.items i p) ≡ i }
     requires many { length passes.items ≡ ⟦<SplitSet<L> as LearnSet>⟧.agents set }
-    ensures { L.rests set.links result }
+    ensures { L.rests set.links passes.items result }
 {
     set.into_links().end(passes)
 }

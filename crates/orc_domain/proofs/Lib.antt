@@ -36,3 +36,4 @@ pub mod Numbered
 pub mod InTurn
 pub mod NextDrain
 pub mod DrainingAll
+pub mod Quiet

@@ -1,5 +1,6 @@
 -- A domain at rest: one pass has taken in all others.
-use Rattle.std.specs.Prelude.{List, ◌++◌, ◌+◌, ◌≡◌}
+use Rattle.std.specs.Prelude.{All, List, ◌++◌, ◌+◌, ◌≡◌}
+use mathlib.Core.List.{IsPrefix}
 use Rattle.orc_machine_rest.specs.Ends.{CountsOf}
 use Rattle.orc_machine_rest.specs.Looks.{gate_looks}
 use Rattle.orc_any_domain.specs.declared.domain.RowCounts.{RowCounts}
@@ -13,15 +14,22 @@ use Rattle.orc_machine_board.specs.declared.machine.MachineShape.{MachineShape}
 use Rattle.orc_machine_board.specs.declared.machine.Reclaiming.{Reclaiming}
 use Rattle.orc_machine_board.specs.declared.machine.Request.{Request}
 use Rattle.orc_domain.specs.Ends.{whole_journal}
-use Rattle.orc_domain.specs.Passes.{domain_bounds}
+use Rattle.orc_domain.specs.Passes.{domain_bounds, journal_of}
 use Rattle.orc_domain.specs.declared.domain.OrcDomain.{OrcDomain}
 use Rattle.orc_domain.specs.declared.domain.OrcPass.{OrcPass}
 use Rattle.orc_domain.specs.declared.at_rest.OrcRest.{OrcRest}
+use Rattle.orc_projection.specs.Projection.{project}
 use Rattle.orc_rest.specs.Rest.{IsAtRest}
 use Rattle.orc_rest.specs.Reuse.{given, reused, rows_out}
 use Rattle.orc_shared_words.specs.declared.machine.Machine as machine
 use Rattle.orc_sound.specs.Journals.{plain}
 use Rattle.orc_sound.specs.declared.steps.Step.{Step}
+use Rattle.orc_words.specs.Bounds.{Bounds}
+
+-- a journal goes on without a heap event
+pub record GoesOnQuietly {N : Type 0} (b : Bounds) (before after : List (Step N)) : Type 0 where
+  pub later : IsPrefix before after
+  pub quiet : project b after ≡ project b before
 
 module _ {D N : Type 0} {d : discipline.Ghosts D N} {m : machine.Ghosts Reclaiming N (MachineShape N) Request (Step N) Agent Agent} where
   -- the domain, and the whole list of its steps
@@ -46,10 +54,13 @@ module _ {D N : Type 0} {d : discipline.Ghosts D N} {m : machine.Ghosts Reclaimi
     pub at_rest : IsAtRest (run_of (domain_bounds domain) (rest_journal rest))
     pub counts_are : CountsOf (domain_bounds domain) (rest_journal rest) counts
 
-  -- this is the domain at rest: its board has shown one whole journal, in which what was given was freed or is out
-  pub record IsRestOf (domain : OrcDomain D N) (r : OrcRest D N d m) : Type 0 where
+  -- this is the domain at rest, which had these passes: its board has shown one whole journal, in which what was given was freed or
+  -- is out, and on which what all passes had seen goes on without an event
+  pub record IsRestOf (domain : OrcDomain D N) (passes : List (OrcPass D N (MachineShape N) Request (Step N) Agent Agent d m))
+      (r : OrcRest D N d m) : Type 0 where
     pub domain_is : rest_domain r ≡ domain
     pub shown : IsShown r
     pub at_rest : IsAtRest (run_of (domain_bounds domain) (rest_journal r))
     pub balance : given (new_machine (domain_bounds domain)) (plain (rest_journal r))
         ≡ reused (plain (rest_journal r)) + rows_out (run_of (domain_bounds domain) (rest_journal r))
+    pub journal : (seen : List (Step N)) → All (λ p. journal_of p ≡ seen) passes → GoesOnQuietly (domain_bounds domain) seen (rest_journal r)

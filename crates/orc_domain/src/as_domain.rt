@@ -1,11 +1,11 @@
 //! The domain from its making to its rest, as each domain offers it.
 
 ghost use Rattle.std.specs.Prelude.{◌≡◌, ◌+◌, [], All, IfOk, refl};
+ghost use mathlib.Core.List.{IsPrefix};
 ghost use Rattle.orc_any_domain.specs.Domains.{AreAllIdle, heap_numbers};
 ghost use Rattle.orc_heap.specs.Seeds.{SeedAllowed, opening_events};
 ghost use Rattle.orc_machine_board.specs.Rules.{run_of};
-ghost use Rattle.orc_machine_rest.specs.Ends.{CountsOf};
-ghost use Rattle.orc_domain.specs.Ends.{AreAll, AreIdle, SawAll, whole_journal};
+ghost use Rattle.orc_domain.specs.Ends.{AddsNoEvents, AreAll, AreIdle, SawAll, whole_journal};
 ghost use Rattle.orc_domain.specs.Passes.{domain_bounds, domain_opening, seat_of};
 ghost use Rattle.orc_domain.specs.Rest.{IsRestOf, rest_domain, rest_journal};
 ghost use Rattle.orc_rest.specs.Rest.{IsAtRest};
@@ -26,6 +26,8 @@ fn drain_passes<D: Discipline>(domain: &OrcDomain<D>, passes: &mut Vec<OrcPass<D
     ensures all { AreAll domain.now passes.new.items }
     ensures own { SawAll passes.new.items }
     ensures rest { IsAtRest (run_of (domain_bounds domain.now) (whole_journal passes.new.items)) }
+    ensures later { IsPrefix (whole_journal passes.old.items) (whole_journal passes.new.items) }
+    ensures quiet { AddsNoEvents domain.now passes.old.items passes.new.items }
 {
     domain.drain_all(passes.as_mut_slice());
 }
@@ -35,7 +37,7 @@ impl<D: Discipline> Domain for OrcDomain<D> {
 
     ghost bounds = { λ d. domain_bounds d };
 
-    ghost rests = { λ d r. IsRestOf d r };
+    ghost rests = { λ d passes r. IsRestOf d passes r };
 
     fn make(
         alloc: Global,
@@ -59,7 +61,7 @@ impl<D: Discipline> Domain for OrcDomain<D> {
 
     fn end(self, passes: Vec<OrcPass<D>>) -> OrcRest<D>
         requires { AreAllIdle ⟦<OrcDomain<D> as Links>⟧ self passes.items }
-        ensures { IsRestOf self result }
+        ensures { IsRestOf self passes.items result }
     {
         let mut all = passes;
         drain_passes(&self, &mut all);
@@ -67,8 +69,7 @@ impl<D: Discipline> Domain for OrcDomain<D> {
     }
 
     fn counts(rest: &OrcRest<D>) -> RowCounts
-        ensures counts { CountsOf (domain_bounds (rest_domain rest.now)) (rest_journal rest.now) result }
-        ensures balance { (domain : _) → IsRestOf domain rest.now → result.given ≡ result.reused + result.linked }
+        ensures balance { (domain : _) (passes : _) → IsRestOf domain passes rest.now → result.given ≡ result.reused + result.linked }
     {
         rest.counts
     }

@@ -73,13 +73,15 @@ of_passes {D} {X} pass T P f desks h none qs nobody is =
     subst (λ (xs : List X). All P xs) (sym (alone none _ qs nobody is)) (All-from_recursion P (map pass desks) (of_each pass T P f desks h))
 
 -- all passes of a queue, and of the set, have seen the same
-module _ {Q S P R A B : Type 0} (q : QueueOf Q P A) (s : SetOf S R B) (desks : List (Desk P R)) (same : HaveSeenTheSame q s desks) where
-  abbrev SawTheSame : Desk P R → Type 0
-  SawTheSame desk = ((b : Bool) → seen_in q desk b ≡ queue_seen q desks b) × (s.journal desk.set ≡ set_seen s desks)
+module _ {Q S P R A B : Type 0} (q : QueueOf Q P A) (s : SetOf S R B) (queue rush : Q) (set : S) (desks : List (Desk P R))
+    (idle : AreIdle q s queue rush set 0 desks) (same : HaveSeenTheSame q s desks)
+  where
+    abbrev SawTheSame : Desk P R → Type 0
+    SawTheSame desk = ((b : Bool) → seen_in q desk b ≡ queue_seen q desks b) × (s.journal desk.set ≡ set_seen s desks)
 
-  pub queue_saw : (b : Bool) → (none qs : List P) → none ≡ [] → qs ≡ none ++ map (pass_at b) desks → All (λ p. q.journal p ≡ queue_seen q desks b) qs
-  queue_saw false = of_passes (pass_at false) SawTheSame (λ p. q.journal p ≡ queue_seen q desks false) (λ desk h. h.0 false) desks same
-  queue_saw true = of_passes (pass_at true) SawTheSame (λ p. q.journal p ≡ queue_seen q desks true) (λ desk h. h.0 true) desks same
+    pub queue_saw : (b : Bool) → (none qs : List P) → none ≡ [] → qs ≡ none ++ map (pass_at b) desks → All (λ p. q.journal p ≡ queue_seen q desks b) qs
+    queue_saw false = of_passes (pass_at false) SawTheSame (λ p. q.journal p ≡ queue_seen q desks false) (λ desk h. h.0 false) desks same
+    queue_saw true = of_passes (pass_at true) SawTheSame (λ p. q.journal p ≡ queue_seen q desks true) (λ desk h. h.0 true) desks same
 
-  pub set_saw : (none qs : List R) → none ≡ [] → qs ≡ none ++ map (λ (desk : Desk P R). desk.set) desks → All (λ p. s.journal p ≡ set_seen s desks) qs
-  set_saw = of_passes (λ (desk : Desk P R). desk.set) SawTheSame (λ p. s.journal p ≡ set_seen s desks) (λ desk h. h.1) desks same
+    pub set_saw : (none qs : List R) → none ≡ [] → qs ≡ none ++ map (λ (desk : Desk P R). desk.set) desks → All (λ p. s.journal p ≡ set_seen s desks) qs
+    set_saw = of_passes (λ (desk : Desk P R). desk.set) SawTheSame (λ p. s.journal p ≡ set_seen s desks) (λ desk h. h.1) desks same

@@ -1,3 +1,3 @@
 pub mod DeskPasses
 pub mod Growing
-mod SameSizes
+pub mod AtRest

@@ -1,5 +1,5 @@
 pub mod Domains
 pub mod Containers
+pub mod Over
 pub mod Sets
 pub mod Runs
-pub mod Works

@@ -1,44 +1,43 @@
-//! The passes of a run are taken from their desks, and its domains are brought to rest.
+//! The passes of a run are taken from their desks, and its queues' domains are brought to rest.
 
-ghost use Rattle.std.specs.Prelude.{◌≡◌, ◌<◌, ◌≤◌, ℕ, [], All, false, length, slice_index_or, true, vec_capacity};
-ghost use Rattle.orc_at_rest.specs.Journals.{IsLeft};
-ghost use Rattle.orc_domain.specs.Passes.{domain_bounds};
+ghost use Rattle.std.specs.Prelude.{◌≡◌, ◌<◌, ◌≤◌, Bool, ℕ, [], All, length, slice_index_or, vec_capacity};
+ghost use Rattle.orc_board.specs.Stretches.{pick};
+ghost use Rattle.orc_run.specs.Over.{IsLeftOf};
 ghost use Rattle.orc_workers.specs.Desks.{AreIdle, HaveSeenTheSame, queue_seen, set_seen};
 
 use crate::desks::{Passes, passes_apart};
-use crate::queue::{QueuePass, RunQueue};
-use orc_at_rest::bring_to_rest;
+use orc_any_domain::Domain;
 use orc_board::Desk;
-use orc_domain::OrcRest;
+use orc_containers::queue_at_rest;
 use orc_fifo_rule::Fifo;
-use orc_history::{SharedQueue, SharedSet};
+use orc_history::{LearnQueue, SharedQueue, SharedSet};
+use orc_queue::Queue;
 
-/// Both queues at rest, and the passes of the set.
+/// The domains of both queues at rest, and the passes of the set.
 #[derive(Drop)]
-pub(crate) struct Ends<B> {
-    pub(crate) queue: OrcRest<Fifo>,
-    pub(crate) rush: OrcRest<Fifo>,
+pub(crate) struct Ends<A, B> {
+    pub(crate) queue: A,
+    pub(crate) rush: A,
     pub(crate) set: Vec<B>,
 }
 
 // Takes the passes, which have all seen the same journals, from their desks, and brings the domains of both queues to rest. It takes
 // no memory.
-pub(crate) fn end_queues<S: SharedSet>(
-    queue: RunQueue,
-    rush: RunQueue,
+pub(crate) fn end_queues<L: Domain<Rule = Fifo>, S: SharedSet>(
+    queue: Queue<L>,
+    rush: Queue<L>,
     set: &S,
-    desks: Vec<Desk<QueuePass, S::Pass>>,
-    mut passes: Passes<QueuePass, S::Pass>,
-) -> Ends<S::Pass>
-    requires idle { AreIdle ⟦<RunQueue as SharedQueue>⟧ S.SharedSet queue rush set.now 0 desks.items }
-    requires seen { HaveSeenTheSame ⟦<RunQueue as SharedQueue>⟧ S.SharedSet desks.items }
-    requires all { (length desks.items ≡ (domain_bounds queue.queue.links).agents)
-        × (length desks.items ≡ (domain_bounds rush.queue.links).agents) }
+    desks: Vec<Desk<L::Pass, S::Pass>>,
+    mut passes: Passes<L::Pass, S::Pass>,
+) -> Ends<L::Rest, S::Pass>
+    requires idle { AreIdle ⟦<Queue<L> as SharedQueue>⟧ S.SharedSet queue rush set.now 0 desks.items }
+    requires seen { HaveSeenTheSame ⟦<Queue<L> as SharedQueue>⟧ S.SharedSet desks.items }
+    requires all { (length desks.items ≡ ⟦<Queue<L> as LearnQueue>⟧.agents queue) × (length desks.items ≡ ⟦<Queue<L> as LearnQueue>⟧.agents rush) }
     requires none { (passes.queue.items ≡ []) × (passes.rush.items ≡ []) × (passes.set.items ≡ []) }
     requires room { (length desks.items ≤ vec_capacity passes.queue) × (length desks.items ≤ vec_capacity passes.rush)
         × (length desks.items ≤ vec_capacity passes.set) }
-    ensures queue { IsLeft queue.queue.links (queue_seen ⟦<RunQueue as SharedQueue>⟧ desks.items false) result.queue }
-    ensures rush { IsLeft rush.queue.links (queue_seen ⟦<RunQueue as SharedQueue>⟧ desks.items true) result.rush }
+    ensures queues { (b : Bool) → IsLeftOf L.Links L.rests (pick queue rush b).links (queue_seen ⟦<Queue<L> as SharedQueue>⟧ desks.items b)
+        (pick result.queue result.rush b) }
     ensures set_usable { All (λ p. S.usable set.now p) result.set.items }
     ensures set_numbered { (i : ℕ) (p : S.Pass) → i < length result.set.items → S.agent_of set.now (slice_index_or result.set.items i p) ≡ i }
     ensures set_passes { length result.set.items ≡ length desks.items }
@@ -51,8 +50,8 @@ pub(crate) fn end_queues<S: SharedSet>(
         set,
     } = passes;
     Ends {
-        queue: bring_to_rest(queue.into_links(), queue_passes),
-        rush: bring_to_rest(rush.into_links(), rush_passes),
+        queue: queue_at_rest(queue, queue_passes),
+        rush: queue_at_rest(rush, rush_passes),
         set,
     }
 }

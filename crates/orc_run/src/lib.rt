@@ -2,17 +2,14 @@
 //! is one of Harris's lists a bucket, or Shalev and Shavit's split-ordered one.
 #![tactic(auto)]
 
-mod containers;
 mod desks;
 mod ending;
-mod lists;
-mod queue;
+mod over;
 mod run;
 mod set;
-mod split;
+mod shapes;
 mod work;
 
-pub use containers::make_queue;
-pub use queue::{QueuePass, RunQueue};
 pub use run::{Finished, run_lines};
 pub use set::{SetChoice, SetRest};
+pub use shapes::shape_of;

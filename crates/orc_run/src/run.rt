@@ -6,15 +6,15 @@ ghost use Rattle.orc_run.specs.Runs.{WorkedThrough};
 ghost use Rattle.orc_run.specs.Sets.{IsInRange};
 ghost use Rattle.orc_run.specs.declared.set.SetChoice.{SetChoice};
 
-use crate::containers::{make_lists, make_split};
+use crate::over::{Left, run_over_lists, run_over_split};
 use crate::set::{SetChoice, SetRest};
-use crate::work::{Worked, work};
-use orc_at_rest::bring_to_rest;
 use orc_board::{Gate, Replies};
-use orc_domain::OrcRest;
+use orc_chain_rule::Chain;
+use orc_domain::{OrcDomain, OrcRest};
 use orc_fault::NoMemory;
 use orc_fifo_rule::Fifo;
 use orc_jobs::Lines;
+use orc_split_rule::Split;
 use std::alloc::Global;
 use std::sync::Wait;
 use std::thread::Threads;
@@ -55,72 +55,36 @@ pub fn run_lines<R: Threads + Wait + Sync, G: Gate + Sync>(
 {
     match set {
         SetChoice::Lists(buckets) => {
-            run_over_lists(rt, alloc, lines, posters, takers, rows, buckets, gate)
+            let Left {
+                queue,
+                rush,
+                set,
+                replies,
+            } = run_over_lists::<R, OrcDomain<Chain>, G>(
+                rt, alloc, lines, posters, takers, rows, buckets, gate,
+            )?;
+            Ok(Finished {
+                queue,
+                rush,
+                set: SetRest::Lists(set),
+                replies,
+            })
         }
-        SetChoice::Split => run_over_split(rt, alloc, lines, posters, takers, rows, gate),
+        SetChoice::Split => {
+            let Left {
+                queue,
+                rush,
+                set,
+                replies,
+            } = run_over_split::<R, OrcDomain<Split>, G>(
+                rt, alloc, lines, posters, takers, rows, gate,
+            )?;
+            Ok(Finished {
+                queue,
+                rush,
+                set: SetRest::Split(set),
+                replies,
+            })
+        }
     }
-}
-
-// The run over a set in so many buckets.
-fn run_over_lists<R: Threads + Wait + Sync, G: Gate + Sync>(
-    rt: &R,
-    alloc: Global,
-    lines: &Lines,
-    posters: u32,
-    takers: u32,
-    rows: u32,
-    buckets: u32,
-    gate: &G,
-) -> Result<Finished, NoMemory>
-    requires good { AreGood lines.now }
-    requires posters { (1 ≤ posters) × (posters ≤ 8) }
-    requires takers { takers ≤ 7 }
-    requires rows { (2 ≤ rows) × (rows ≤ 65535) }
-    requires buckets { (1 ≤ buckets) × (buckets ≤ 256) }
-    ensures { IfOk result (λ f. WorkedThrough lines.now posters takers rows (SetChoice.Lists buckets) f) }
-{
-    let (set, passes) = make_lists(alloc, rows, buckets, 1 + posters + takers)?;
-    let Worked {
-        queue,
-        rush,
-        set: passes,
-        replies,
-    } = work(rt, alloc, lines, posters, takers, rows, &set, passes, gate)?;
-    Ok(Finished {
-        queue,
-        rush,
-        set: SetRest::Lists(bring_to_rest(set.into_links(), passes)),
-        replies,
-    })
-}
-
-// The run over a split-ordered set.
-fn run_over_split<R: Threads + Wait + Sync, G: Gate + Sync>(
-    rt: &R,
-    alloc: Global,
-    lines: &Lines,
-    posters: u32,
-    takers: u32,
-    rows: u32,
-    gate: &G,
-) -> Result<Finished, NoMemory>
-    requires good { AreGood lines.now }
-    requires posters { (1 ≤ posters) × (posters ≤ 8) }
-    requires takers { takers ≤ 7 }
-    requires rows { (2 ≤ rows) × (rows ≤ 65535) }
-    ensures { IfOk result (λ f. WorkedThrough lines.now posters takers rows SetChoice.Split f) }
-{
-    let (set, passes) = make_split(alloc, rows, 1 + posters + takers)?;
-    let Worked {
-        queue,
-        rush,
-        set: passes,
-        replies,
-    } = work(rt, alloc, lines, posters, takers, rows, &set, passes, gate)?;
-    Ok(Finished {
-        queue,
-        rush,
-        set: SetRest::Split(bring_to_rest(set.into_links(), passes)),
-        replies,
-    })
 }

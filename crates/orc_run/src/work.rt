@@ -1,17 +1,16 @@
 //! The work on both queues, whatever the set.
 
-ghost use Rattle.std.specs.Prelude.{◌≡◌, ◌<◌, ◌≤◌, ℕ, [], All, Bool, IfOk, length, slice_index_or};
+ghost use Rattle.std.specs.Prelude.{◌≡◌, ◌<◌, ◌≤◌, ℕ, [], All, IfOk, length, slice_index_or};
 ghost use Rattle.orc_jobs.specs.GoodLines.{AreGood};
-ghost use Rattle.orc_board.specs.Stretches.{pick};
 ghost use Rattle.orc_run.specs.Domains.{agents_of};
-ghost use Rattle.orc_run.specs.Runs.{EndsWithoutLeak, HasQueueJournal, ReusesRowsSafely, queue_bounds};
-ghost use Rattle.orc_run.specs.Works.{FollowOneJournal};
+ghost use Rattle.orc_run.specs.Over.{WorkedOver};
 
-use crate::containers::make_queue;
 use crate::desks::room_for_passes;
 use crate::ending::{Ends, end_queues};
+use crate::shapes::shape_of;
+use orc_any_domain::Domain;
 use orc_board::{Gate, Replies};
-use orc_domain::OrcRest;
+use orc_containers::queue_over;
 use orc_fault::NoMemory;
 use orc_fifo_rule::Fifo;
 use orc_history::LearnSet;
@@ -21,17 +20,22 @@ use std::alloc::Global;
 use std::sync::Wait;
 use std::thread::Threads;
 
-/// What the work leaves: both queues at rest, the passes of the set, which have all seen the same, and the replies.
+/// What the work leaves: both queues' domains at rest, the passes of the set, which have all seen the same, and the replies.
 #[derive(Drop)]
-pub(crate) struct Worked<B> {
-    pub(crate) queue: OrcRest<Fifo>,
-    pub(crate) rush: OrcRest<Fifo>,
+pub(crate) struct Worked<A, B> {
+    pub(crate) queue: A,
+    pub(crate) rush: A,
     pub(crate) set: Vec<B>,
     pub(crate) replies: Replies,
 }
 
-// Works through these lines over this set and two queues of so many rows, and brings both queues to rest.
-pub(crate) fn work<R: Threads + Wait + Sync, S: LearnSet + Sync, G: Gate + Sync>(
+// Works through these lines over this set and two queues of so many rows, and brings the domains of both queues to rest.
+pub(crate) fn work<
+    R: Threads + Wait + Sync,
+    L: Domain<Rule = Fifo> + Sync + Drop,
+    S: LearnSet + Sync,
+    G: Gate + Sync,
+>(
     rt: &R,
     alloc: Global,
     lines: &Lines,
@@ -41,8 +45,9 @@ pub(crate) fn work<R: Threads + Wait + Sync, S: LearnSet + Sync, G: Gate + Sync>
     set: &S,
     set_passes: Vec<S::Pass>,
     gate: &G,
-) -> Result<Worked<S::Pass>, NoMemory>
+) -> Result<Worked<L::Rest, S::Pass>, NoMemory>
 where
+    L::Pass: Send,
     S::Pass: Send,
     requires good { AreGood lines.now }
     requires posters { (1 ≤ posters) × (posters ≤ 8) }
@@ -53,17 +58,15 @@ where
     requires numbered { (i : ℕ) (p : S.Pass) → i < length set_passes.items → S.agent_of set.now (slice_index_or set_passes.items i p) ≡ i }
     requires passes { length set_passes.items ≡ agents_of posters takers }
     requires agents { S.agents set.now ≡ agents_of posters takers }
-    ensures replies { IfOk result (λ w. FollowOneJournal S.SharedSet set.now lines.now posters takers rows w) }
+    ensures worked { IfOk result (λ w. WorkedOver L.Links L.bounds L.rests S.SharedSet set.now lines.now posters takers rows w) }
     ensures usable { IfOk result (λ w. All (λ p. S.usable set.now p) w.set.items) }
     ensures numbered { IfOk result (λ w. (i : ℕ) (p : S.Pass) → i < length w.set.items → S.agent_of set.now (slice_index_or w.set.items i p) ≡ i) }
     ensures passes { IfOk result (λ w. length w.set.items ≡ agents_of posters takers) }
-    ensures queue_journals { IfOk result (λ w. (rush : Bool) → HasQueueJournal (queue_bounds posters takers rows) (pick w.queue w.rush rush)) }
-    ensures queues_reuse { IfOk result (λ w. (rush : Bool) → ReusesRowsSafely (queue_bounds posters takers rows) (pick w.queue w.rush rush)) }
-    ensures queues_rest { IfOk result (λ w. (rush : Bool) → EndsWithoutLeak (queue_bounds posters takers rows) (pick w.queue w.rush rush)) }
 {
     let agents = 1 + posters + takers;
-    let (queue, queue_passes) = make_queue(alloc, rows, agents)?;
-    let (rush, rush_passes) = make_queue(alloc, rows, agents)?;
+    let shape = shape_of(rows, 2, agents);
+    let (queue, queue_passes) = queue_over::<L>(alloc, &shape, 0)?;
+    let (rush, rush_passes) = queue_over::<L>(alloc, &shape, 0)?;
     let passes = room_for_passes(alloc, agents as usize)?;
     let mut desks = fresh_desks(
         alloc,

@@ -18,7 +18,7 @@ use Rattle.orc_stages.specs.declared.replies.StageDesk.{StageDesk}
 use Rattle.orc_stages.proofs.Taken.{ahead_many, taken_passes, taken_seen}
 use Rattle.orc_at_rest.proofs.Passes.{ArePasses}
 use Rattle.orc_at_rest.specs.Journals.{IsLeft}
-use Rattle.orc_run.specs.declared.queue.RunQueue.{RunQueue}
+use Rattle.orc_stages_run.specs.declared.queue.RunQueue.{RunQueue}
 use Rattle.orc_stages_run.specs.Queues.{AreLeft, LeavesMore}
 
 module _ {Q P A : Type 0} (q : QueueOf Q P A) (queue : Q) (rest all : List Q) (before ps : List P) (old new : List (StageDesk P)) (is : all ≡ queue ∷ rest)

@@ -13,16 +13,16 @@ use Rattle.orc_fifo_rule.specs.QueueDiscipline.{entries_of}
 use Rattle.orc_fifo_rule.specs.declared.fifo.Fifo.{Fifo}
 use Rattle.orc_fifo_rule.specs.declared.fifo.FifoNote.{FifoNote}
 use Rattle.orc_domain.specs.Passes.{domain_bounds}
-use Rattle.orc_domain.specs.Rest.{rest_journal}
 use Rattle.orc_domain.specs.declared.at_rest.OrcRest.{OrcRest}
 use Rattle.orc_board.specs.Stretches.{queue_view}
 use Rattle.orc_stages.specs.Desks.{view_at}
 use Rattle.orc_stages.specs.Learning.{AreFor}
 use Rattle.orc_run.specs.Containers.{queue_over}
-use Rattle.orc_at_rest.specs.Journals.{GoesOnQuietly, IsLeft}
-use Rattle.orc_run.specs.declared.queue.RunQueue.{RunQueue}
-use Rattle.orc_run.specs.contracts.queue.RunQueueLearnQueue.TheImpl as learns
-use Rattle.orc_run.specs.contracts.queue.RunQueueSharedQueue.TheImpl as queue
+use Rattle.orc_at_rest.specs.Journals.{IsLeft}
+use Rattle.orc_domain.specs.Rest.{GoesOnQuietly, rest_journal}
+use Rattle.orc_stages_run.specs.declared.queue.RunQueue.{RunQueue}
+use Rattle.orc_stages_run.specs.contracts.queue.RunQueueLearnQueue.TheImpl as learns
+use Rattle.orc_stages_run.specs.contracts.queue.RunQueueSharedQueue.TheImpl as queue
 use Rattle.orc_run.proofs.Growing.{Silent}
 use Rattle.orc_stages_run.specs.Queues.{AreLeft, IsFor, IsMade, journal_at}
 

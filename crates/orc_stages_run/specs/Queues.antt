@@ -17,7 +17,7 @@ use Rattle.orc_domain.specs.Rest.{rest_journal}
 use Rattle.orc_domain.specs.declared.at_rest.OrcRest.{OrcRest}
 use Rattle.orc_run.specs.Domains.{queue_seed}
 use Rattle.orc_at_rest.specs.Journals.{IsLeft}
-use Rattle.orc_run.specs.declared.queue.RunQueue.{RunQueue}
+use Rattle.orc_stages_run.specs.declared.queue.RunQueue.{RunQueue}
 
 -- a queue over a domain of these sizes, which begins with a dummy whose successor gets position 0
 pub record IsMade (b : Bounds) (queue : RunQueue) : Type 0 where

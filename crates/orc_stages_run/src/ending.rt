@@ -7,13 +7,12 @@ ghost use Rattle.orc_sound.specs.declared.steps.Step.{Step};
 ghost use Rattle.orc_stages.specs.Run.{AreIdle, HaveSeen};
 ghost use Rattle.orc_stages_run.specs.Queues.{IsFor, LeavesMore};
 
-use orc_at_rest::bring_to_rest;
+use crate::queue::{QueuePass, RunQueue};
 use orc_board::ReplyList;
 use orc_domain::OrcRest;
 use orc_fault::NoMemory;
 use orc_fifo_rule::Fifo;
 use orc_history::SharedQueue;
-use orc_run::{QueuePass, RunQueue};
 use orc_stages::{StageDesk, take_first};
 use std::alloc::Global;
 
@@ -58,6 +57,6 @@ pub(crate) fn end_queues(
     let queue = queues.remove(0);
     let mut passes = rooms.remove(0);
     take_first(desks, &mut passes);
-    rests.push(bring_to_rest(queue.into_links(), passes));
+    rests.push(queue.at_rest(passes));
     end_queues(queues, desks, rooms, rests);
 }

@@ -3,6 +3,7 @@
 
 mod ending;
 mod making;
+mod queue;
 mod run;
 
 pub use ending::RestList;

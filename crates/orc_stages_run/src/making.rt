@@ -7,9 +7,9 @@ ghost use Rattle.orc_stages.specs.Run.{AreFresh};
 ghost use Rattle.orc_run.specs.Domains.{run_bounds};
 ghost use Rattle.orc_stages_run.specs.Queues.{IsMade};
 
+use crate::queue::{QueuePass, RunQueue, make_queue};
 use orc_fault::NoMemory;
 use orc_history::{LearnQueue, SharedQueue};
-use orc_run::{QueuePass, RunQueue, make_queue};
 use orc_stages::{StageDesk, add_queue, empty_desks};
 use std::alloc::Global;
 

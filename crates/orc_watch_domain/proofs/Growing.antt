@@ -1,12 +1,12 @@
 -- Replies that follow a journal follow it also where its domain comes to rest.
 use Rattle.std.proofs.Common.{List, [], ap, append-nil, refl, subst, sym, ℕ, ◌<◌, ◌∙◌, ◌≡◌}
 use mathlib.Core.List.{IsPrefix}
-use Rattle.orc_at_rest.specs.Journals.{GoesOnQuietly}
 use Rattle.orc_board.proofs.Shares.{Did-just, DidAll-more}
 use Rattle.orc_board.specs.Stretches.{Did, View, beside, nothing}
 use Rattle.orc_cell.specs.declared.refused.CellRefused.{CellRefused}
 use Rattle.orc_cell.specs.declared.refused.CellRefused.TheVariants.{Again, NoNode, Spent}
 use Rattle.orc_fault.specs.declared.Spent.{Spent as SpentRow}
+use Rattle.orc_domain.specs.Rest.{GoesOnQuietly}
 use Rattle.orc_pairs_rule.specs.CellHistory.{IsLegalCell}
 use Rattle.orc_pairs_rule.specs.PairsDiscipline.{entries_of}
 use Rattle.orc_pairs_rule.specs.declared.entry.CellEntry.{CellEntry}

@@ -4,8 +4,8 @@ ghost use Rattle.std.specs.Prelude.{◌≤◌, IfOk, length};
 ghost use Rattle.orc_watch_domain.specs.Runs.{WatchedThrough};
 
 use crate::cell::make_cell;
-use orc_at_rest::bring_to_rest;
 use orc_board::Gate;
+use orc_containers::cell_at_rest;
 use orc_domain::OrcRest;
 use orc_fault::NoMemory;
 use orc_pairs_rule::Pairs;
@@ -51,7 +51,7 @@ pub fn watch_new_cell<R: Threads + Wait + Sync, G: Gate + Sync>(
         now_right,
     } = run_watch(rt, alloc, lines, workers, &cell, &mut passes, gate)?;
     Ok(WatchFinished {
-        cell: bring_to_rest(cell.into_links(), passes),
+        cell: cell_at_rest(cell, passes),
         replies,
         now_left,
         now_right,

@@ -9,4 +9,4 @@ end-requires g c =
     (record { each = λ i p low. ((c.requires.usable i p low).pass, (c.requires.usable i p low).idle); order = c.requires.agents; many = c.requires.many })
 
 pub returns : goal.returns
-returns g c = subst (λ d. g.L.Domain.rests d c.end.result) c.into_links.ensures c.end.ensures
+returns g c = subst (λ d. g.L.Domain.rests d c.args.passes.items c.end.result) c.into_links.ensures c.end.ensures

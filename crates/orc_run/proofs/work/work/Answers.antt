@@ -1,62 +1,65 @@
-use Rattle.std.proofs.Common.{◌≡◌, ◌+◌, ◌∙◌, Bool, ap, arith}
-use Rattle.orc_fifo_rule.specs.Laws.Kept.{fifo_rises}
-use Rattle.orc_fifo_rule.specs.QueueDiscipline.{fifo_rank, position_of}
-use Rattle.orc_heap.specs.Journals.{run_heap}
+-- Both queues are made alike, and what is left of them is what their passes had seen.
+use Rattle.std.proofs.Common.{◌≡◌, ◌+◌, ◌∙◌, ap, arith}
+use Rattle.orc_words.specs.Bounds.{Bounds, bounds_of}
 use Rattle.orc_board.specs.Stretches.{pick}
-use Rattle.orc_domain.specs.Passes.{domain_bounds, domain_numbers, domain_opening}
-use Rattle.orc_workers.proofs.CameBack.{for_both}
 use Rattle.orc_run.specs.Domains.{agents_of, queue_seed, run_bounds}
-use Rattle.orc_run.specs.Runs.{EndsWithoutLeak, HasQueueJournal, ReusesRowsSafely, queue_bounds}
-use Rattle.orc_at_rest.proofs.Actual.{left_journal, left_rest, left_reuse}
-use Rattle.orc_run.specs.declared.queue.RunQueue.{RunQueue}
-use Rattle.orc_run.proofs.SameSizes.{ran_both}
+use Rattle.orc_run.proofs.AtRest.{made_both}
 use Rattle.orc_run.proofs.work.work.Goals as goal
 
-pub returns-clause-replies : goal.returns-clause-replies
-returns-clause-replies g c =
-    let q : RunQueue = c.in_ok-queue.queue in
-    let h : RunQueue = c.in_ok-rush.rush in
+pub queue_over-requires-clause-roots : goal.queue_over-requires-clause-roots
+queue_over-requires-clause-roots g c = let two : (bounds_of c.shape_of-shape.result).roots ≡ 2 = ap (λ (b : Bounds). b.roots) c.shape_of-shape.ensures in omega (arith, two)
+
+pub queue_over-requires-2-clause-roots : goal.queue_over-requires-2-clause-roots
+queue_over-requires-2-clause-roots g c = let two : (bounds_of c.shape_of-shape.result).roots ≡ 2 = ap (λ (b : Bounds). b.roots) c.shape_of-shape.ensures in omega (arith, two)
+
+pub fresh_desks-requires-clause-same : goal.fresh_desks-requires-clause-same
+fresh_desks-requires-clause-same g c =
+    let agents : (bounds_of c.shape_of-shape.result).agents ≡ 1 + c.args.posters + c.args.takers = ap (λ (b : Bounds). b.agents) c.shape_of-shape.ensures in
+    let one = c.in_ok-queue.ensures.passes in
+    let other = c.in_ok-rush.ensures.passes in
+    (omega (arith, one, other), omega (arith, one, agents, c.requires.passes))
+
+pub run_at_desks-requires-clause-count : goal.run_at_desks-requires-clause-count
+run_at_desks-requires-clause-count g c =
+    let agents : (bounds_of c.shape_of-shape.result).agents ≡ 1 + c.args.posters + c.args.takers = ap (λ (b : Bounds). b.agents) c.shape_of-shape.ensures in
+    let one = c.in_ok-queue.ensures.passes in
+    let desks = c.in_ok-desks.ensures.count in
+    omega (arith, one, agents, desks)
+
+pub run_at_desks-requires-clause-agents : goal.run_at_desks-requires-clause-agents
+run_at_desks-requires-clause-agents g c =
+    let agents : (bounds_of c.shape_of-shape.result).agents ≡ 1 + c.args.posters + c.args.takers = ap (λ (b : Bounds). b.agents) c.shape_of-shape.ensures in
+    let one = c.in_ok-queue.ensures.all in
+    let other = c.in_ok-rush.ensures.all in
+    omega (arith, one, other, agents, c.requires.agents)
+
+pub end_queues-queue-requires-clause-all : goal.end_queues-queue-requires-clause-all
+end_queues-queue-requires-clause-all g c =
+    let agents : (bounds_of c.shape_of-shape.result).agents ≡ 1 + c.args.posters + c.args.takers = ap (λ (b : Bounds). b.agents) c.shape_of-shape.ensures in
+    let one = c.in_ok-queue.ensures.all in
+    let other = c.in_ok-rush.ensures.all in
+    let desks = c.in_ok-replies.ensures.all in
+    (omega (arith, one, agents, desks), omega (arith, other, agents, desks))
+
+pub returns-clause-worked : goal.returns-clause-worked
+returns-clause-worked g c =
     let count : 1 + c.args.posters + c.args.takers ≡ agents_of c.args.posters c.args.takers = omega arith in
-    let sizes = ap (run_bounds c.args.rows 2) count in
-    let ends = c.end_queues-queue.ensures in
+    let sizes = c.shape_of-shape.ensures ∙ ap (run_bounds c.args.rows 2) count in
     let done = c.in_ok-replies.ensures in
     record {
+      queues = λ rush. (pick c.in_ok-queue.queue c.in_ok-rush.rush rush).links;
+      made = made_both (λ q. q.links) _ _ _ c.in_ok-queue.queue c.in_ok-rush.rush queue_seed
+          (record { sizes = c.in_ok-queue.ensures.bounds ∙ sizes; begins = c.in_ok-queue.ensures.opening })
+          (record { sizes = c.in_ok-rush.ensures.bounds ∙ sizes; begins = c.in_ok-rush.ensures.opening });
       seen = _;
-      all_saw = ends.set_seen;
-      follow = ran_both _ _ c.args.lines.now c.args.posters c.args.takers c.in_ok-replies.replies.posts.items c.in_ok-replies.replies.takes.items _ _
-          (λ (rush : Bool). position_of (run_heap (domain_numbers (pick q h rush).queue.links) (domain_opening (pick q h rush).queue.links)) 0) _
-          (λ (rush : Bool). domain_bounds (pick q h rush).queue.links) _
-          c.in_ok-queue.ensures.first c.in_ok-rush.ensures.first
-          (c.in_ok-queue.ensures.bounds ∙ sizes) (c.in_ok-rush.ensures.bounds ∙ sizes)
-          ends.queue.journal ends.rush.journal
-          done.follows done.queues_legal done.set_legal done.empty done.reportable;
+      left = c.end_queues-queue.ensures.queues;
+      set_seen = _;
+      all_saw = c.end_queues-queue.ensures.set_seen;
+      ran = record {
+        follows = done.follows;
+        queues_legal = done.queues_legal;
+        set_legal = done.set_legal;
+        empty = done.empty;
+        reportable = done.reportable;
+      };
     }
-
-pub returns-clause-queue_journals : goal.returns-clause-queue_journals
-returns-clause-queue_journals g c =
-    let b = queue_bounds c.args.posters c.args.takers c.args.rows in
-    let count : 1 + c.args.posters + c.args.takers ≡ agents_of c.args.posters c.args.takers = omega arith in
-    let sizes = ap (run_bounds c.args.rows 2) count in
-    for_both (λ rush. HasQueueJournal b (pick c.end_queues-queue.result.queue c.end_queues-queue.result.rush rush))
-    (left_journal c.end_queues-queue.result.queue _ _ c.end_queues-queue.ensures.queue b (c.in_ok-queue.ensures.bounds ∙ sizes) queue_seed
-    c.in_ok-queue.ensures.seed)
-    (left_journal c.end_queues-queue.result.rush _ _ c.end_queues-queue.ensures.rush b (c.in_ok-rush.ensures.bounds ∙ sizes) queue_seed
-    c.in_ok-rush.ensures.seed)
-
-pub returns-clause-queues_reuse : goal.returns-clause-queues_reuse
-returns-clause-queues_reuse g c =
-    let b = queue_bounds c.args.posters c.args.takers c.args.rows in
-    let count : 1 + c.args.posters + c.args.takers ≡ agents_of c.args.posters c.args.takers = omega arith in
-    let sizes = ap (run_bounds c.args.rows 2) count in
-    for_both (λ rush. ReusesRowsSafely b (pick c.end_queues-queue.result.queue c.end_queues-queue.result.rush rush))
-    (left_reuse c.end_queues-queue.result.queue _ _ c.end_queues-queue.ensures.queue b (c.in_ok-queue.ensures.bounds ∙ sizes))
-    (left_reuse c.end_queues-queue.result.rush _ _ c.end_queues-queue.ensures.rush b (c.in_ok-rush.ensures.bounds ∙ sizes))
-
-pub returns-clause-queues_rest : goal.returns-clause-queues_rest
-returns-clause-queues_rest g c =
-    let b = queue_bounds c.args.posters c.args.takers c.args.rows in
-    let count : 1 + c.args.posters + c.args.takers ≡ agents_of c.args.posters c.args.takers = omega arith in
-    let sizes = ap (run_bounds c.args.rows 2) count in
-    for_both (λ rush. EndsWithoutLeak b (pick c.end_queues-queue.result.queue c.end_queues-queue.result.rush rush))
-    (left_rest c.end_queues-queue.result.queue _ _ c.end_queues-queue.ensures.queue b (c.in_ok-queue.ensures.bounds ∙ sizes) fifo_rank fifo_rises)
-    (left_rest c.end_queues-queue.result.rush _ _ c.end_queues-queue.ensures.rush b (c.in_ok-rush.ensures.bounds ∙ sizes) fifo_rank fifo_rises)

@@ -1,11 +1,11 @@
 -- The passes that are taken are all passes of the first queue, and those that are left are of the others.
-use Rattle.std.proofs.Common.{rules, ◌≡◌, ◌<◌, ◌≤◌, ℕ, suc, List, [], length, arith, subst, sym}
+use Rattle.std.proofs.Common.{rules, ◌≡◌, ◌∙◌, ◌<◌, ◌≤◌, ℕ, suc, List, [], length, arith, subst, sym}
 use Rattle.std.specs.List.{AllByRecursion}
 use Rattle.orc_stages.specs.Run.{AreIdle}
 use Rattle.orc_stages.proofs.Taken.{first_and_rest, idle_passes}
-use Rattle.orc_at_rest.proofs.Passes.{are_all, are_idle, left_of}
-use Rattle.orc_run.specs.contracts.queue.RunQueueSharedQueue.TheImpl as queue
-use Rattle.orc_run.specs.declared.queue.RunQueue.{RunQueue}
+use Rattle.orc_at_rest.proofs.Passes.{left_of}
+use Rattle.orc_stages_run.specs.contracts.queue.RunQueueSharedQueue.TheImpl as queue
+use Rattle.orc_stages_run.specs.declared.queue.RunQueue.{RunQueue}
 use Rattle.orc_stages_run.specs.Queues.{IsFor}
 use Rattle.orc_stages_run.proofs.Ends.{as_many, idle_after, of_first, of_others, one_more, passes_of, saw_first, saw_others}
 use Rattle.orc_stages_run.proofs.ending.+end_queues.Goals as goal
@@ -17,28 +17,36 @@ take_first-requires-clause-some t c =
     idle_passes queue.ghosts c.remove-queue.result c.remove-queue.new.self.items 0 c.args.desks.now
     (subst (λ (qs : List RunQueue). AreIdle queue.ghosts qs 0 c.args.desks.now) is c.requires.idle)
 
-pub bring_to_rest-requires-clause-all : goal.bring_to_rest-requires-clause-all
-bring_to_rest-requires-clause-all t c =
+pub at_rest-requires-clause-usable : goal.at_rest-requires-clause-usable
+at_rest-requires-clause-usable t c =
     let some : 0 < length c.args.queues.items = search rules in
     let a_room : 0 < length c.args.rooms.items = omega (arith, some, c.requires.all) in
     let is = first_and_rest c.args.queues.items c.remove-queue.new.self.items c.remove-queue.result some c.remove-queue.ensures.value c.remove-queue.ensures.items in
     let room = first_and_rest c.args.rooms.items c.remove-passes.new.self.items c.remove-passes.result a_room c.remove-passes.ensures.value c.remove-passes.ensures.items in
     let none = (of_first _ _ _ _ room c.requires.rooms).0 in
-    are_all c.remove-queue.result.queue.links c.into_links.result (length c.args.desks.now) c.take_first.new.passes.items c.into_links.ensures
     (passes_of queue.ghosts c.remove-queue.result c.remove-queue.new.self.items c.args.queues.items c.remove-passes.result.items
-    c.take_first.new.passes.items c.args.desks.now c.take_first.new.desks is none c.take_first.ensures.taken c.requires.idle)
-    (of_first (IsFor (length c.args.desks.now)) _ _ _ is c.requires.agents)
+    c.take_first.new.passes.items c.args.desks.now c.take_first.new.desks is none c.take_first.ensures.taken c.requires.idle).usable
 
-pub bring_to_rest-requires-clause-idle : goal.bring_to_rest-requires-clause-idle
-bring_to_rest-requires-clause-idle t c =
+pub at_rest-requires-clause-agents : goal.at_rest-requires-clause-agents
+at_rest-requires-clause-agents t c =
     let some : 0 < length c.args.queues.items = search rules in
     let a_room : 0 < length c.args.rooms.items = omega (arith, some, c.requires.all) in
     let is = first_and_rest c.args.queues.items c.remove-queue.new.self.items c.remove-queue.result some c.remove-queue.ensures.value c.remove-queue.ensures.items in
     let room = first_and_rest c.args.rooms.items c.remove-passes.new.self.items c.remove-passes.result a_room c.remove-passes.ensures.value c.remove-passes.ensures.items in
     let none = (of_first _ _ _ _ room c.requires.rooms).0 in
-    are_idle c.remove-queue.result.queue.links c.into_links.result (length c.args.desks.now) c.take_first.new.passes.items c.into_links.ensures
     (passes_of queue.ghosts c.remove-queue.result c.remove-queue.new.self.items c.args.queues.items c.remove-passes.result.items
-    c.take_first.new.passes.items c.args.desks.now c.take_first.new.desks is none c.take_first.ensures.taken c.requires.idle)
+    c.take_first.new.passes.items c.args.desks.now c.take_first.new.desks is none c.take_first.ensures.taken c.requires.idle).numbered
+
+pub at_rest-requires-clause-many : goal.at_rest-requires-clause-many
+at_rest-requires-clause-many t c =
+    let some : 0 < length c.args.queues.items = search rules in
+    let a_room : 0 < length c.args.rooms.items = omega (arith, some, c.requires.all) in
+    let is = first_and_rest c.args.queues.items c.remove-queue.new.self.items c.remove-queue.result some c.remove-queue.ensures.value c.remove-queue.ensures.items in
+    let room = first_and_rest c.args.rooms.items c.remove-passes.new.self.items c.remove-passes.result a_room c.remove-passes.ensures.value c.remove-passes.ensures.items in
+    let none = (of_first _ _ _ _ room c.requires.rooms).0 in
+    (passes_of queue.ghosts c.remove-queue.result c.remove-queue.new.self.items c.args.queues.items c.remove-passes.result.items
+    c.take_first.new.passes.items c.args.desks.now c.take_first.new.desks is none c.take_first.ensures.taken c.requires.idle).many
+    ∙ of_first (IsFor (length c.args.desks.now)) _ _ _ is c.requires.agents
 
 pub end_queues-requires : goal.end_queues-requires
 end_queues-requires t c =
@@ -71,9 +79,8 @@ returns t c = record {
       c.take_first.new.passes.items c.args.desks.now c.take_first.new.desks is none c.take_first.ensures.taken k seen in
       let others = saw_others queue.ghosts c.remove-queue.result c.remove-queue.new.self.items c.args.queues.items c.remove-passes.result.items
       c.take_first.new.passes.items c.args.desks.now c.take_first.new.desks is none c.take_first.ensures.taken k seen in
-      one_more c.remove-queue.result c.remove-queue.new.self.items c.args.queues.items k c.bring_to_rest.result c.args.rests.now.items c.push.new.self.items
+      one_more c.remove-queue.result c.remove-queue.new.self.items c.args.queues.items k c.at_rest.result c.args.rests.now.items c.push.new.self.items
       c.end_queues.new.rests.items is c.push.ensures.items
-      (left_of c.into_links.result c.remove-queue.result.queue.links _ c.bring_to_rest.result c.into_links.ensures c.bring_to_rest.ensures.domain
-      c.bring_to_rest.ensures.shown c.bring_to_rest.ensures.rest (c.bring_to_rest.ensures.journal _ saw))
+      (left_of c.remove-queue.result.queue.links _ _ c.at_rest.result c.at_rest.ensures saw)
       (c.end_queues.ensures.left (λ i. k (suc i)) others);
 }

@@ -1,8 +1,8 @@
 use Rattle.std.proofs.Common.{◌≡◌, length}
 use Rattle.std.specs.List.{AllByRecursion}
 use Rattle.orc_run.specs.Domains.{run_bounds}
-use Rattle.orc_run.specs.contracts.queue.RunQueueLearnQueue.TheImpl as learns
-use Rattle.orc_run.specs.contracts.queue.RunQueueSharedQueue.TheImpl as queue
+use Rattle.orc_stages_run.specs.contracts.queue.RunQueueLearnQueue.TheImpl as learns
+use Rattle.orc_stages_run.specs.contracts.queue.RunQueueSharedQueue.TheImpl as queue
 use Rattle.orc_stages.specs.Learning.{AreFor}
 use Rattle.orc_stages.specs.Run.{AreFresh}
 use Rattle.orc_stages_run.specs.Queues.{IsMade}

@@ -11,9 +11,9 @@ use Rattle.orc_at_rest.proofs.Actual.{left_journal, left_rest, left_reuse}
 use Rattle.orc_run.specs.Containers.{queue_over}
 use Rattle.orc_run.specs.Domains.{agents_of, queue_seed, run_bounds}
 use Rattle.orc_run.specs.Runs.{EndsWithoutLeak, HasQueueJournal, ReusesRowsSafely, queue_bounds}
-use Rattle.orc_run.specs.contracts.queue.RunQueueLearnQueue.TheImpl as learns
-use Rattle.orc_run.specs.contracts.queue.RunQueueSharedQueue.TheImpl as queue
-use Rattle.orc_run.specs.declared.queue.RunQueue.{RunQueue}
+use Rattle.orc_stages_run.specs.contracts.queue.RunQueueLearnQueue.TheImpl as learns
+use Rattle.orc_stages_run.specs.contracts.queue.RunQueueSharedQueue.TheImpl as queue
+use Rattle.orc_stages_run.specs.declared.queue.RunQueue.{RunQueue}
 use Rattle.orc_stages_run.specs.Queues.{IsMade, journal_at}
 use Rattle.orc_stages_run.proofs.Ends.{all_left}
 use Rattle.orc_stages_run.proofs.GoingOn.{pipeline_more}

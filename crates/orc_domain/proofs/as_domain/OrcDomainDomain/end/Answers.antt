@@ -1,4 +1,8 @@
 -- The passes are all passes of their domain, and idle.
+use Rattle.orc_domain.proofs.Quiet.{rests_quietly}
+use Rattle.orc_domain.proofs.Resting.{some_passes}
+use Rattle.orc_domain.specs.Ends.{AreAll}
+use Rattle.orc_domain.specs.Passes.{domain_bounds}
 use Rattle.orc_domain.proofs.as_domain.OrcDomainDomain.end.Goals as goal
 
 pub drain_passes-requires-clause-all : goal.drain_passes-requires-clause-all
@@ -12,4 +16,19 @@ pub drain_passes-requires-clause-idle : goal.drain_passes-requires-clause-idle
 drain_passes-requires-clause-idle g c = λ i p low. (c.requires.each i p low).1
 
 pub returns : goal.returns
-returns g c = record { domain_is = c.rest.ensures.domain; shown = c.rest.ensures.shown; at_rest = c.rest.ensures.rest; balance = c.rest.ensures.balance }
+returns g c =
+    let domain = c.args.self in
+    let all : AreAll domain c.args.passes.items = record {
+      many = c.requires.many;
+      belong = λ i p low. (c.requires.each i p low).0;
+      order = c.requires.order;
+    } in
+    record {
+      domain_is = c.rest.ensures.domain;
+      shown = c.rest.ensures.shown;
+      at_rest = c.rest.ensures.rest;
+      balance = c.rest.ensures.balance;
+      journal = λ seen same.
+          rests_quietly (domain_bounds domain) c.args.passes.items c.drain_passes.new.passes.items seen _ (domain_bounds domain).rows
+          (some_passes domain c.args.passes.items all) same c.drain_passes.ensures.later (c.drain_passes.ensures.quiet seen same) c.rest.ensures.journal;
+    }

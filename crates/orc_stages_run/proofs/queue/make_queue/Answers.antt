@@ -3,7 +3,7 @@ use Rattle.std.proofs.Common.{ap, arith, ◌∙◌, ◌≡◌}
 use Rattle.orc_at_rest.proofs.Seeds.{seed_told}
 use Rattle.orc_run.specs.Domains.{queue_seed}
 use Rattle.orc_words.specs.Bounds.{Bounds, bounds_of}
-use Rattle.orc_run.proofs.containers.make_queue.Goals as goal
+use Rattle.orc_stages_run.proofs.queue.make_queue.Goals as goal
 
 pub queue_over-requires-clause-roots : goal.queue_over-requires-clause-roots
 queue_over-requires-clause-roots c =

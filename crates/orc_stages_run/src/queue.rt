@@ -1,6 +1,6 @@
-//! A queue of a run.
+//! A queue of a pipeline.
 
-ghost use Rattle.std.specs.Prelude.{◌≡◌, refl};
+ghost use Rattle.std.specs.Prelude.{◌≡◌, ◌<◌, ◌≤◌, ℕ, [], All, IfOk, length, refl, slice_index_or};
 ghost use Rattle.orc_fifo_rule.specs.QueueDiscipline.{position_of};
 ghost use Rattle.orc_heap.specs.Journals.{run_heap};
 ghost use Rattle.orc_projection.specs.Projection.{project};
@@ -9,35 +9,45 @@ ghost use Rattle.orc_domain.specs.Causes.{IsLacking};
 ghost use Rattle.orc_domain.specs.Laws.Adding.{one_more};
 ghost use Rattle.orc_domain.specs.Laws.Lasting.{lacking_later};
 ghost use Rattle.orc_domain.specs.Laws.Passes.{all_allowed, all_below, all_obey, begins_so};
+ghost use Rattle.orc_domain.specs.Rest.{IsRestOf};
+ghost use Rattle.orc_machine_board.specs.Views.{board_seed};
+ghost use Rattle.orc_run.specs.Domains.{queue_seed, run_bounds};
 ghost use Rattle.orc_domain.specs.Passes.{domain_bounds, domain_numbers, domain_opening, journal_of, seat_of};
 
-use orc_domain::{OrcDomain, OrcPass};
-use orc_fault::Again;
+use orc_containers::{queue_at_rest, queue_over};
+use orc_domain::{OrcDomain, OrcPass, OrcRest};
+use orc_fault::{Again, NoMemory};
 use orc_fifo_rule::{Fifo, FifoNote};
 use orc_history::{LearnQueue, QueueRefused, SharedQueue};
 use orc_queue::Queue;
+use orc_run::shape_of;
 use orc_sound::Step;
+use std::alloc::Global;
 
 /// Michael and Scott's queue over a reclaiming domain.
-pub type OrcQueue = Queue<OrcDomain<Fifo>>;
+pub(crate) type OrcQueue = Queue<OrcDomain<Fifo>>;
 
 /// An agent's pass to it.
-pub type QueuePass = OrcPass<Fifo>;
+pub(crate) type QueuePass = OrcPass<Fifo>;
 
-/// A queue of a run. All its calls are those of the queue over the reclaiming domain; this type has no parameters, which
+/// A queue of a pipeline. All its calls are those of the queue over the reclaiming domain; this type has no parameters, which
 /// keeps the proofs of what runs on threads small.
 #[derive(Drop)]
-pub struct RunQueue {
+pub(crate) struct RunQueue {
     pub(crate) queue: OrcQueue,
 }
 
 impl RunQueue {
-    /// Gives the queue up for its domain.
-    pub fn into_links(self) -> OrcDomain<Fifo>
-        ensures { result ≡ self.queue.links }
+    // Lets all passes of the queue drain, in order, and brings its domain to rest.
+    pub(crate) fn at_rest(self, passes: Vec<QueuePass>) -> OrcRest<Fifo>
+        requires usable { All (λ p. ⟦<OrcQueue as SharedQueue>⟧.usable self.queue p) passes.items }
+        requires agents { (i : ℕ) (p : _) → i < length passes.items
+            → ⟦<OrcQueue as SharedQueue>⟧.agent_of self.queue (slice_index_or passes.items i p) ≡ i }
+        requires many { length passes.items ≡ (domain_bounds self.queue.links).agents }
+        ensures { IsRestOf self.queue.links passes.items result }
     {
         let RunQueue { queue } = self;
-        queue.into_links()
+        queue_at_rest(queue, passes)
     }
 }
 
@@ -107,4 +117,31 @@ impl LearnQueue for RunQueue {
     ) };
 
     ghost crowd_below = { λ q agent below. below };
+}
+
+/// Makes an empty queue of 2 to 65,535 rows whose first job gets position 0, and a pass for each of 1 to 16 agents, in order.
+///
+/// # Errors
+///
+/// `NoMemory` where memory is refused.
+pub(crate) fn make_queue(
+    alloc: Global,
+    rows: u32,
+    agents: u32,
+) -> Result<(RunQueue, Vec<QueuePass>), NoMemory>
+    requires rows { (2 ≤ rows) × (rows ≤ 65535) }
+    requires agents { (1 ≤ agents) × (agents ≤ 16) }
+    ensures usable { IfOk result (λ made. All (λ p. ⟦<RunQueue as SharedQueue>⟧.usable made.0 p) made.1.items) }
+    ensures numbered { IfOk result (λ made. (i : ℕ) (p : _) → i < length made.1.items
+        → ⟦<RunQueue as SharedQueue>⟧.agent_of made.0 (slice_index_or made.1.items i p) ≡ i) }
+    ensures passes { IfOk result (λ made. length made.1.items ≡ agents) }
+    ensures fresh { IfOk result (λ made. All (λ p. ⟦<RunQueue as SharedQueue>⟧.history made.0
+        (⟦<RunQueue as SharedQueue>⟧.journal p) ≡ []) made.1.items) }
+    ensures agents { IfOk result (λ made. ⟦<RunQueue as LearnQueue>⟧.agents made.0 ≡ agents) }
+    ensures first { IfOk result (λ made. ⟦<RunQueue as SharedQueue>⟧.first made.0 ≡ 0) }
+    ensures bounds { IfOk result (λ made. domain_bounds made.0.queue.links ≡ run_bounds rows 2 agents) }
+    ensures seed { IfOk result (λ made. board_seed made.0.queue.links.board ≡ queue_seed) }
+{
+    let (queue, passes) = queue_over(alloc, &shape_of(rows, 2, agents), 0)?;
+    Ok((RunQueue { queue }, passes))
 }

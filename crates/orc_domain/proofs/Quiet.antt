@@ -19,7 +19,7 @@ use Rattle.orc_machine_rest.specs.Looks.{gate_looks}
 use Rattle.orc_domain.specs.Ends.{whole_journal}
 use Rattle.orc_domain.specs.Passes.{journal_of}
 use Rattle.orc_domain.specs.declared.domain.OrcPass.{OrcPass}
-use Rattle.orc_at_rest.specs.Journals.{GoesOnQuietly}
+use Rattle.orc_domain.specs.Rest.{GoesOnQuietly}
 
 module _ {N : Type 0} (b : Bounds) where
   one_look : (j : List (Step N)) (a n : ℕ) → project b (j ++ does a (GateLook n) None ∷ []) ≡ project b j

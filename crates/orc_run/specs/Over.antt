@@ -1,0 +1,53 @@
+-- What a run over any domains leaves: domains at rest, whose passes had seen journals that the replies follow.
+use Rattle.std.specs.Prelude.{◌≡◌, All, Bool, List, ℕ}
+use Rattle.orc_words.specs.Bounds.{Bounds}
+use Rattle.orc_heap.specs.Seeds.{opening_events}
+use Rattle.orc_heap.specs.declared.links.Links.{Ghosts as LinksOf}
+use Rattle.orc_heap.specs.declared.seed.Seed.{Seed}
+use Rattle.orc_history.specs.declared.set.ListRefused.{ListRefused}
+use Rattle.orc_history.specs.declared.set.SetEntry.{SetEntry}
+use Rattle.orc_history.specs.declared.set.SharedSet.{Ghosts as SetOf}
+use Rattle.orc_fifo_rule.specs.declared.fifo.FifoNote.{FifoNote}
+use Rattle.orc_jobs.specs.declared.line.Line.{Line}
+use Rattle.orc_board.specs.Runs.{Ran}
+use Rattle.orc_board.specs.Stretches.{View, pick, set_view}
+use Rattle.orc_board.specs.declared.replies.Replies.{Replies}
+use Rattle.orc_run.specs.Containers.{queue_on}
+use Rattle.orc_run.specs.Domains.{agents_of, queue_seed, run_bounds}
+use Rattle.orc_run.specs.declared.work.Worked.{Worked}
+
+-- this is what is left of a domain, whose passes had all seen this journal
+pub record IsLeftOf {L D P S N R : Type 0} (members : LinksOf L D P S N) (rests : L → List P → R → Type 0) (domain : L) (seen : List S) (r : R) : Type 0 where
+  pub passes : List P
+  pub is : rests domain passes r
+  pub saw : All (λ p. members.journal p ≡ seen) passes
+
+-- a domain of these sizes, which began with this seed
+pub record IsMadeSo {L D P S N : Type 0} (members : LinksOf L D P S N) (bounds : L → Bounds) (b : Bounds) (seed : Seed N) (domain : L) : Type 0 where
+  pub sizes : bounds domain ≡ b
+  pub begins : members.opening domain ≡ opening_events seed
+
+module _ {L D P S R : Type 0} (members : LinksOf L D P S FifoNote) (bounds : L → Bounds) (rests : L → List P → R → Type 0) where
+  -- the work over this set left both queues' domains and the passes of the set, which have all seen one journal, and the replies follow
+  -- it and those that the queues' passes had seen
+  pub record WorkedOver {T X A : Type 0} (sets : SetOf T X A) (set : T) (lines : List Line) (posters takers rows : ℕ) (w : Worked R X) : Type 0 where
+    pub queues : Bool → L
+    pub made : (rush : Bool) → IsMadeSo members bounds (run_bounds rows 2 (agents_of posters takers)) queue_seed (queues rush)
+    pub seen : Bool → List S
+    pub left : (rush : Bool) → IsLeftOf members rests (queues rush) (seen rush) (pick w.queue w.rush rush)
+    pub set_seen : List A
+    pub all_saw : All (λ p. sets.journal p ≡ set_seen) w.set.items
+    pub ran : Ran (λ rush. queue_on members (queues rush)) (set_view sets set) lines posters takers w.replies.posts.items w.replies.takes.items seen set_seen
+
+  -- the run left both queues' domains and that of a set of this kind, with so many roots, and the replies follow what their passes had seen
+  pub record RanOver {M E Y T N U : Type 0} (sets : LinksOf M E Y T N) (set_bounds : M → Bounds) (set_rests : M → List Y → U → Type 0) (seed : Seed N)
+      (view : M → View T SetEntry ListRefused) (lines : List Line) (posters takers rows roots : ℕ) (queue rush : R) (set_left : U) (replies : Replies) : Type 0 where
+    pub queues : Bool → L
+    pub made : (rush_too : Bool) → IsMadeSo members bounds (run_bounds rows 2 (agents_of posters takers)) queue_seed (queues rush_too)
+    pub seen : Bool → List S
+    pub left : (rush_too : Bool) → IsLeftOf members rests (queues rush_too) (seen rush_too) (pick queue rush rush_too)
+    pub set : M
+    pub set_made : IsMadeSo sets set_bounds (run_bounds rows roots (agents_of posters takers)) seed set
+    pub set_seen : List T
+    pub set_is : IsLeftOf sets set_rests set set_seen set_left
+    pub ran : Ran (λ rush_too. queue_on members (queues rush_too)) (view set) lines posters takers replies.posts.items replies.takes.items seen set_seen
