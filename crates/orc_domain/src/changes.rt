@@ -28,6 +28,7 @@ use orc_words::{RowLink, named};
 
 impl<D: Discipline> OrcDomain<D> {
     // Reads the sequence of a row that is to be linked.
+    #[inline(always)]
     pub(crate) fn check(&self, p: &mut MachineBoardPass<D>, h: &Held) -> Result<(), Spent>
         requires belongs { Belongs self.now.board p.old }
         requires ready { IsReady (shows p.old).record_is }
@@ -50,6 +51,7 @@ impl<D: Discipline> OrcDomain<D> {
     }
 
     // Checks the new target of a link, unless it is the old one or none.
+    #[inline(always)]
     pub(crate) fn prepare(
         &self,
         p: &mut MachineBoardPass<D>,
@@ -79,6 +81,7 @@ impl<D: Discipline> OrcDomain<D> {
     }
 
     // Changes a link, whose new target was checked, if it is `from`, and then counts what was linked and unlinked.
+    #[inline(always)]
     pub(crate) fn exchange(
         &self,
         p: &mut MachineBoardPass<D>,

@@ -87,6 +87,7 @@ impl<D: Discipline> OrcDomain<D> {
     }
 
     // The same where some slot holds the old target.
+    #[inline(always)]
     pub(crate) fn complete_held(
         &self,
         p: &mut MachineBoardPass<D>,

@@ -283,6 +283,7 @@ impl<D: Discipline> Links for OrcDomain<D> {
     ///
     /// `Spent` where `to` has another target than `from`, and the sequence of its row was read as the shape's limit + 64
     /// or more.
+    #[inline(always)]
     fn swing(
         &self,
         p: &mut OrcPass<D>,

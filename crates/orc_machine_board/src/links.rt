@@ -40,6 +40,7 @@ impl<D: Discipline> MachineBoard<D> {
     }
 
     /// Changes a link word that is `from`. Answers 1 if it was, and else 0. A note goes to the event where it was.
+    #[inline(always)]
     pub fn link_cas(
         &self,
         p: &mut MachineBoardPass<D>,

@@ -42,6 +42,7 @@ impl<D: Discipline> PlainBoard<D> {
 
     /// Writes a link word that is the word of `from`. Answers 1 if it was, and else 0. A note goes to the event where
     /// it was.
+    #[inline(always)]
     pub fn link_cas(
         &self,
         p: &mut PlainBoardPass<D>,

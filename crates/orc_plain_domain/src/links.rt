@@ -235,6 +235,7 @@ impl<D: Discipline> Links for PlainDomain<D> {
         Ok(())
     }
 
+    #[inline(always)]
     fn swing(
         &self,
         p: &mut PlainPass<D>,

@@ -31,6 +31,7 @@ pub enum PutTurn {
 }
 
 // Links the new node behind the last one.
+#[inline(always)]
 pub(crate) fn link_node<L: Links<Rule = Fifo>>(
     links: &L,
     p: &mut L::Pass,

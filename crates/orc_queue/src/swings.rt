@@ -21,6 +21,7 @@ pub(crate) const HEAD: u32 = 0;
 pub(crate) const TAIL: u32 = 1;
 
 // Makes one compare-and-swap. It is never refused, since three links at most are made to a node in all.
+#[inline(always)]
 pub(crate) fn change<L: Links<Rule = Fifo>>(
     links: &L,
     p: &mut L::Pass,
@@ -48,6 +49,7 @@ pub(crate) fn change<L: Links<Rule = Fifo>>(
 }
 
 // Swings the tail on from a node to its successor, if the tail still names that node.
+#[inline(always)]
 pub(crate) fn help_tail<L: Links<Rule = Fifo>>(links: &L, p: &mut L::Pass, tail: &Held, next: &Held)
     requires pass { L.belongs links.now p.old }
     requires made { HasDummy (L.numbers links.now) (L.opening links.now) }
