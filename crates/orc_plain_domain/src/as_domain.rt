@@ -62,7 +62,12 @@ impl<D: Discipline> Domain for PlainDomain<D> {
         self.rest(all)
     }
 
-    fn counts(rest: &PlainRest<D>) -> RowCounts {
+    fn counts(rest: &PlainRest<D>) -> RowCounts
+        ensures given { result.given ≡ gives_in (rest_journal rest.now) }
+        ensures reused { result.reused ≡ 0 }
+        ensures linked { result.linked ≡ gives_in (rest_journal rest.now) }
+        ensures balance { result.given ≡ result.reused + result.linked }
+    {
         RowCounts {
             given: rest.given(),
             reused: rest.reused(),
