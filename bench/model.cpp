@@ -84,7 +84,7 @@ template <bool SAVES> struct Table {
   Number counted_down() { return SAVES ? 0 : unlock(0); }
 
   // What each call ends with, as counts down under other slots' holds leave slot 0 alone.
-  Number end_call() { return SAVES ? take_in(handover(0)) : 0; }
+  Number end_call(Number agent = 0) { return SAVES ? take_in(handover(agent, 0)) : 0; }
 };
 
 Number link_to(Number row) { return 2 * (row + 1); }
@@ -347,6 +347,7 @@ struct SharedQueue {
   }
 
   void settle(Agent &me) {
+    if (Number handed = table.end_call(me.number)) me.waiting.push_back(handed - 1);
     while (!me.waiting.empty()) {
       Number row = me.waiting.back();
       me.waiting.pop_back();
@@ -407,6 +408,7 @@ template <bool SAVES> struct List {
       link = next;
     }
     if (has_left) handed |= table.unlock(left, agent);
+    handed |= table.end_call(agent);
     if (handed) std::abort();
     return found;
   }

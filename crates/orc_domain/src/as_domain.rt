@@ -5,6 +5,7 @@ ghost use mathlib.Core.List.{IsPrefix};
 ghost use Rattle.orc_any_domain.specs.Domains.{AreAllIdle, heap_numbers};
 ghost use Rattle.orc_heap.specs.Seeds.{SeedAllowed, opening_events};
 ghost use Rattle.orc_machine_board.specs.Rules.{run_of};
+ghost use Rattle.orc_machine_rest.specs.Ends.{CountsOf};
 ghost use Rattle.orc_domain.specs.Ends.{AddsNoEvents, AreAll, AreIdle, SawAll, whole_journal};
 ghost use Rattle.orc_domain.specs.Passes.{domain_bounds, domain_opening, seat_of};
 ghost use Rattle.orc_domain.specs.Rest.{IsRestOf, rest_domain, rest_journal};
@@ -69,6 +70,7 @@ impl<D: Discipline> Domain for OrcDomain<D> {
     }
 
     fn counts(rest: &OrcRest<D>) -> RowCounts
+        ensures counts { CountsOf (domain_bounds (rest_domain rest.now)) (rest_journal rest.now) result }
         ensures balance { (domain : _) (passes : _) → IsRestOf domain passes rest.now → result.given ≡ result.reused + result.linked }
     {
         rest.counts

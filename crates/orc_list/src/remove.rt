@@ -11,7 +11,8 @@ ghost use Rattle.orc_list.specs.Answers.{RemovesTurns};
 ghost use Rattle.orc_list.specs.Causes.{HasWorn};
 ghost use Rattle.orc_ordered_search.specs.Searches.{HasRoom, HoldsIfAny, place_at, target_at};
 ghost use Rattle.orc_list.specs.Searches.{FindsPresent, NextFollows};
-ghost use Rattle.orc_list.specs.Turns.{MarkStops, Marks, RemovesNode, RemovesTurn, TriesUnlink};
+ghost use Rattle.orc_list.specs.Stops.{MarkStops};
+ghost use Rattle.orc_list.specs.Turns.{Marks, RemovesNode, RemovesTurn, TriesUnlink};
 
 use crate::answer::enter_absent;
 use crate::search::{Searched, search};

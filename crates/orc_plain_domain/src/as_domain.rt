@@ -1,6 +1,6 @@
 //! The domain from its making to its rest, as each domain offers it.
 
-ghost use Rattle.std.specs.Prelude.{◌≡◌, [], All, IfOk, refl};
+ghost use Rattle.std.specs.Prelude.{◌≡◌, ◌+◌, [], All, IfOk, refl};
 ghost use Rattle.orc_any_domain.specs.Domains.{AreAllIdle, heap_numbers};
 ghost use Rattle.orc_heap.specs.Moves.{gives_in};
 ghost use Rattle.orc_heap.specs.Seeds.{SeedAllowed, opening_events};
