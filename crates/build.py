@@ -23,6 +23,8 @@ import time
 TOP = os.path.dirname(os.path.dirname(os.path.abspath(__file__)))
 PARTS = ('src', 'specs', 'proofs')
 FAILED = 70
+# rt, as it is run where nobody edits sources meanwhile.
+RT = [sys.executable, f'{TOP}/crates/run_rt.py', shutil.which('rt') or 'rt']
 # How long proofs take, as measured: seconds for each byte of source, where each crate counts some bytes more than it has. What is
 # measured here counts beside it, as much as its bytes are to those of the last number.
 SECONDS_A_BYTE = 0.0008
@@ -218,15 +220,21 @@ class Build:
         young = sum(time.monotonic() - self.since[it] < YOUNG for it in self.running)
         return not self.running or (len(self.running) < self.processors and free_memory() - young * MEMORY >= MEMORY)
 
-    def start(self, name):
+    def jobs(self, name, is_alone):
+        """The flag for a library's jobs: one that has nothing beside it takes each processor for which there is memory, and of those
+        side by side the longest chain as many as rt chooses for it."""
+        if is_alone:
+            return ['--jobs', str(max(1, min(self.processors, free_memory() // MEMORY)))]
+        is_first = all(self.height(it) < self.height(name) for it in self.running)
+        return [] if is_first else ['--jobs', '1']
+
+    def start(self, name, is_alone):
         if name == self.program:
-            words, folder = ['rt', 'run'], folder_of(name)
+            words, folder = ['run'], folder_of(name)
         else:
-            # of those side by side the longest chain takes as many processors as rt chooses for it
-            is_first = all(self.height(it) < self.height(name) for it in self.running)
-            words, folder = ['rt', 'lib', *([] if is_first else ['--jobs', '1'])], prepare(name)
+            words, folder = ['lib', *self.jobs(name, is_alone)], prepare(name)
         with open(f'{self.logs}/{name}', 'w', encoding='utf-8') as log:
-            self.running[name] = subprocess.Popen(words, cwd=folder, stdin=subprocess.DEVNULL, stdout=log, stderr=log)
+            self.running[name] = subprocess.Popen([*RT, *words], cwd=folder, stdin=subprocess.DEVNULL, stdout=log, stderr=log)
         self.since[name] = time.monotonic()
 
     def fails(self, name):
@@ -283,9 +291,10 @@ class Build:
             raise Stopped(f'{WORKPLACE} is of another user')
         try:
             while self.program not in self.done:
-                for name in self.ready(self.done, self.crates - self.done - set(self.running)):
+                ready = self.ready(self.done, self.crates - self.done - set(self.running))
+                for name in ready:
                     if self.has_room():
-                        self.start(name)
+                        self.start(name, is_alone=not self.running and ready == [name])
                 for name in sorted((it for it, ran in self.running.items() if ran.poll() is not None), key=self.fails):
                     self.end(name)
                 self.tell()
