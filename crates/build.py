@@ -25,11 +25,11 @@ PARTS = ('src', 'specs', 'proofs')
 FAILED = 70
 # rt, as it is run where nobody edits sources meanwhile.
 RT = [sys.executable, f'{TOP}/crates/run_rt.py', shutil.which('rt') or 'rt']
-# How long proofs take, as measured: seconds for each byte of source, where each crate counts some bytes more than it has. What is
-# measured here counts beside it, as much as its bytes are to those of the last number.
-SECONDS_A_BYTE = 0.0008
+# How long proofs take, as measured: seconds for each byte of code, whatever the bytes of its proofs, where each crate counts some bytes
+# more than it has. What is measured here counts beside it, as much as its bytes are to those of the last number.
+SECONDS_A_BYTE = 0.002
 BYTES_A_CRATE = 10000
-BYTES_MEASURED = 300000
+BYTES_MEASURED = 100000
 # Memory for a check that has just begun, and how long it counts as such.
 MEMORY, YOUNG = 2_000_000_000, 60
 
@@ -81,7 +81,8 @@ def sources(name):
 
 @functools.lru_cache(maxsize=None)
 def size(name):
-    return BYTES_A_CRATE + sum(os.path.getsize(file) for file in sources(name) if '/tests' not in file[len(TOP):])
+    code = (file for file in sources(name) if file.endswith('.rt') and '/tests' not in file[len(TOP):])
+    return BYTES_A_CRATE + sum(map(os.path.getsize, code))
 
 
 @functools.lru_cache(maxsize=None)
