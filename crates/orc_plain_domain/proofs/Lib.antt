@@ -2,14 +2,11 @@ pub mod Rows
 pub mod Equal
 pub mod Growing
 pub mod Naming
-pub mod Filling
-pub mod Testing
-pub mod Aiming
+pub mod LinkWords
+pub mod OneStep
 pub mod Releasing
-pub mod Loading
 pub mod Looking
 pub mod Taking
-pub mod Furnishing
 pub mod Counting
 pub mod Giving
 pub mod Learning

@@ -48,12 +48,25 @@ link_one rows l k g f e = let r = went l.to k.to g f (ap (λ (z : Link). z.to) e
     went (Some t) (Some u) g f e = ap Some (one_row rows t u g f (some_one (index_of t rows) (index_of u rows) e))
 
 module _ {D N : Type 0} {d : discipline.Ghosts D N} {m : machine.Ghosts Plain N (PlainShape N) PlainOp (PlainStep N) (Unit {0}) (Unit {0})}
-    (domain : PlainDomain D N) (p p1 : PlainPass D N (PlainShape N) PlainOp (PlainStep N) (Unit {0}) (Unit {0}) d m) (h : IsPassOf domain p)
-    (h1 : IsPassOf domain p1) (same : IsSame p p1)
-    (at : At) (word : Word) (there : HoldsPlace (domain_numbers domain) (seat_of domain p).slots at) (word_same : word ≡ word_at at)
-    (one : RowLink)
-    (l : Loads (d.may (domain_numbers domain)) (domain_bounds domain) (place_by (shows domain.board p.pass).rows word) one
-    (shows domain.board p.pass) (shows domain.board p1.pass))
+    (domain : PlainDomain D N) (p q : PlainPass D N (PlainShape N) PlainOp (PlainStep N) (Unit {0}) (Unit {0}) d m)
+  where
+    -- a load of a place by its word found this link
+    pub record LoadsWord (word : Word) (link : RowLink) : Type 0 where
+      pub after : IsPassOf domain q
+      pub same : IsSame p q
+      pub loads : Loads (d.may (domain_numbers domain)) (domain_bounds domain) (place_by (shows domain.board p.pass).rows word) link
+          (shows domain.board p.pass) (shows domain.board q.pass)
+
+    -- a look of a place that the pass holds, after its first load
+    pub record LoadsFirst (at : At) (word : Word) (one : RowLink) : Type 0 where
+      pub before : IsPassOf domain p
+      pub there : HoldsPlace (domain_numbers domain) (seat_of domain p).slots at
+      pub word_is : word ≡ word_at at
+      pub load : LoadsWord word one
+
+module _ {D N : Type 0} {d : discipline.Ghosts D N} {m : machine.Ghosts Plain N (PlainShape N) PlainOp (PlainStep N) (Unit {0}) (Unit {0})}
+    {domain : PlainDomain D N} {p p1 : PlainPass D N (PlainShape N) PlainOp (PlainStep N) (Unit {0}) (Unit {0}) d m} {at : At} {word : Word} {one : RowLink}
+    (first : LoadsFirst domain p p1 at word one)
   where
     abbrev b : Bounds
     b = domain_bounds domain
@@ -68,33 +81,33 @@ module _ {D N : Type 0} {d : discipline.Ghosts D N} {m : machine.Ghosts Plain N 
     t = shows domain.board p1.pass
 
     grows : Grows b s t
-    grows = adds_grow b may (event_by s.agent (Look (place_by s.rows word) (link_by t.rows one)) None ∷ []) s t l.adds
+    grows = adds_grow b may (event_by s.agent (Look (place_by s.rows word) (link_by t.rows one)) None ∷ []) s t first.load.loads.adds
 
     pub slots_still : (seat_of domain p1).slots ≡ (seat_of domain p).slots
-    slots_still = ap (slots_by t.rows) same.slots ∙ slots_stay b s t p.slots grows (held_given domain p h)
+    slots_still = ap (slots_by t.rows) first.load.same.slots ∙ slots_stay b s t p.slots grows (held_given domain p first.before)
 
     pub fresh_still : (seat_of domain p1).fresh ≡ (seat_of domain p).fresh
-    fresh_still = ap (id_by t.rows) l.fresh ∙ fresh_stays b s t s.fresh grows (fresh_given domain p h)
+    fresh_still = ap (id_by t.rows) first.load.loads.fresh ∙ fresh_stays b s t s.fresh grows (fresh_given domain p first.before)
 
     pub there_still : HoldsPlace (domain_numbers domain) (seat_of domain p1).slots at
-    there_still = subst (λ (z : Slots). HoldsPlace (domain_numbers domain) z at) (sym slots_still) there
+    there_still = subst (λ (z : Slots). HoldsPlace (domain_numbers domain) z at) (sym slots_still) first.there
 
     pub known_first : KnowsPlace b s word
-    known_first = subst (λ w. KnowsPlace b s w) (sym word_same) (place_known domain p h at there)
+    known_first = subst (λ w. KnowsPlace b s w) (sym first.word_is) (place_known domain p first.before at first.there)
 
     pub known_again : KnowsPlace b t word
-    known_again = subst (λ w. KnowsPlace b t w) (sym word_same) (place_known domain p1 h1 at there_still)
+    known_again = subst (λ w. KnowsPlace b t w) (sym first.word_is) (place_known domain p1 first.load.after at there_still)
 
     place_first : place_by s.rows word ≡ place_in (seat_of domain p).slots at
-    place_first = ap (place_by s.rows) word_same ∙ place_is domain p h at there
+    place_first = ap (place_by s.rows) first.word_is ∙ place_is domain p first.before at first.there
 
     place_again : place_by t.rows word ≡ place_in (seat_of domain p).slots at
-    place_again = ap (place_by t.rows) word_same ∙ (place_is domain p1 h1 at there_still ∙ ap (λ (z : Slots). place_in z at) slots_still)
+    place_again = ap (place_by t.rows) first.word_is ∙ (place_is domain p1 first.load.after at there_still ∙ ap (λ (z : Slots). place_in z at) slots_still)
 
     put_first : (slots : List (Option ℕ))
         → Puts (seat_of domain p) (event_of (seat_of domain p) (Look (place_in (seat_of domain p).slots at) (link_by t.rows one)) None ∷ []) (seat_by t slots)
     put_first slots = subst (λ (z : Place). Puts (seat_of domain p) (event_by s.agent (Look z (link_by t.rows one)) None ∷ []) (seat_by t slots)) place_first
-        (adds_put may (event_by s.agent (Look (place_by s.rows word) (link_by t.rows one)) None ∷ []) s t p.slots slots l.adds
+        (adds_put may (event_by s.agent (Look (place_by s.rows word) (link_by t.rows one)) None ∷ []) s t p.slots slots first.load.loads.adds
         (mine s.agent (Look (place_by s.rows word) (link_by t.rows one)) None))
 
     pub looks_null : (slot : ℕ) → one.to ≡ None
@@ -117,31 +130,28 @@ module _ {D N : Type 0} {d : discipline.Ghosts D N} {m : machine.Ghosts Plain N 
         (Stable (record { null = true; mark = one.mark }) None) (seat_of domain p1) (looks_null slot null) tt
 
     one_given : Given t.rows one.to
-    one_given = given_by b (run b p1.pass.pass.seat.me.0.seen).words t.rows (heap_of b t) (tie domain p1 h1) s.agent one.to l.known
+    one_given = given_by b (run b p1.pass.pass.seat.me.0.seen).words t.rows (heap_of b t) (tie domain p1 first.load.after) s.agent one.to first.load.loads.known
 
-    module _ (p2 : PlainPass D N (PlainShape N) PlainOp (PlainStep N) (Unit {0}) (Unit {0}) d m) (h2 : IsPassOf domain p2) (same2 : IsSame p1 p2)
-        (two : RowLink)
-        (k : Loads (d.may (domain_numbers domain)) (domain_bounds domain) (place_by (shows domain.board p1.pass).rows word) two
-        (shows domain.board p1.pass) (shows domain.board p2.pass))
+    module _ {p2 : PlainPass D N (PlainShape N) PlainOp (PlainStep N) (Unit {0}) (Unit {0}) d m} {two : RowLink} (again : LoadsWord domain p1 p2 word two)
       where
         abbrev u : PlainView N
         u = shows domain.board p2.pass
 
         grows2 : Grows b t u
-        grows2 = adds_grow b may (event_by t.agent (Look (place_by t.rows word) (link_by u.rows two)) None ∷ []) t u k.adds
+        grows2 = adds_grow b may (event_by t.agent (Look (place_by t.rows word) (link_by u.rows two)) None ∷ []) t u again.loads.adds
 
         two_given : Given u.rows two.to
-        two_given = given_by b (run b p2.pass.pass.seat.me.0.seen).words u.rows (heap_of b u) (tie domain p2 h2) t.agent two.to k.known
+        two_given = given_by b (run b p2.pass.pass.seat.me.0.seen).words u.rows (heap_of b u) (tie domain p2 again.after) t.agent two.to again.loads.known
 
         -- the link of the first load, by the rows that are given later
         link_still : link_by u.rows one ≡ link_by t.rows one
         link_still = ap (λ (z : Option ℕ). record { to = z; mark = one.mark }) (fresh_stays b t u one.to grows2 one_given)
 
         slots_last : slots_by u.rows p2.slots ≡ (seat_of domain p).slots
-        slots_last = ap (slots_by u.rows) same2.slots ∙ (slots_stay b t u p1.slots grows2 (held_given domain p1 h1) ∙ slots_still)
+        slots_last = ap (slots_by u.rows) again.same.slots ∙ (slots_stay b t u p1.slots grows2 (held_given domain p1 first.load.after) ∙ slots_still)
 
         fresh_last : (seat_of domain p2).fresh ≡ (seat_of domain p).fresh
-        fresh_last = ap (id_by u.rows) k.fresh ∙ (fresh_stays b t u t.fresh grows2 (fresh_given domain p1 h1) ∙ fresh_still)
+        fresh_last = ap (id_by u.rows) again.loads.fresh ∙ (fresh_stays b t u t.fresh grows2 (fresh_given domain p1 first.load.after) ∙ fresh_still)
 
         put_both : (slots : List (Option ℕ))
             → Puts (seat_of domain p) (event_of (seat_of domain p) (Look (place_in (seat_of domain p).slots at) (link_by t.rows one)) None
@@ -152,7 +162,7 @@ module _ {D N : Type 0} {d : discipline.Ghosts D N} {m : machine.Ghosts Plain N 
             (event_by s.agent (Look (place_in (seat_of domain p).slots at) (link_by u.rows two)) None ∷ []) (put_first p1.slots)
             (subst (λ (z : Place × ℕ). Puts (seat_of domain p1) (event_by z.1 (Look z.0 (link_by u.rows two)) None ∷ []) (seat_by u slots))
             (λ i. (place_again i, grows.agent i))
-            (adds_put may (event_by t.agent (Look (place_by t.rows word) (link_by u.rows two)) None ∷ []) t u p1.slots slots k.adds
+            (adds_put may (event_by t.agent (Look (place_by t.rows word) (link_by u.rows two)) None ∷ []) t u p1.slots slots again.loads.adds
             (mine t.agent (Look (place_by t.rows word) (link_by u.rows two)) None)))
 
         -- two links that differ are links that differ to callers
@@ -195,9 +205,9 @@ module _ {D N : Type 0} {d : discipline.Ghosts D N} {m : machine.Ghosts Plain N 
 
         pub still_off : (freed : ℕ) → IsPassOf domain (record { pass = p2.pass; slots = slice_set p2.slots freed None; next = p2.next; shape = p2.shape })
         still_off freed = record {
-          board = h2.board;
-          shape = h2.shape;
-          keeps = keeps_set b u p2.slots p2.next p2.next freed None (λ r e. cc) h2.keeps.inside h2.keeps;
+          board = again.after.board;
+          shape = again.after.shape;
+          keeps = keeps_set b u p2.slots p2.next p2.next freed None (λ r e. cc) again.after.keeps.inside again.after.keeps;
         }
 
         module _ (slot row : ℕ) (is : one.to ≡ Some row) (twice : two ≡ one) where
@@ -256,12 +266,12 @@ module _ {D N : Type 0} {d : discipline.Ghosts D N} {m : machine.Ghosts Plain N 
 
           known : KnowsRow b u row
           known = subst (λ a. IsKnown a (heap_of b u) (index_of row u.rows)) (sym grows2.agent)
-              (subst (λ (z : Link). IsTarget t.agent (heap_of b u) z.to) found k.known)
+              (subst (λ (z : Link). IsTarget t.agent (heap_of b u) z.to) found again.loads.known)
 
           pub still_looked : IsPassOf domain (record { pass = p2.pass; slots = slice_set p2.slots slot (Some row); next = p2.next; shape = p2.shape })
           still_looked = record {
-            board = h2.board;
-            shape = h2.shape;
+            board = again.after.board;
+            shape = again.after.shape;
             keeps = keeps_set b u p2.slots p2.next p2.next slot (Some row) (λ r e. subst (λ z. KnowsRow b u z) (some_one row r e) known)
-                h2.keeps.inside h2.keeps;
+                again.after.keeps.inside again.after.keeps;
           }

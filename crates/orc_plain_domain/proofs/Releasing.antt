@@ -21,8 +21,7 @@ use Rattle.orc_plain_domain.specs.Calls.{IsSame, Retires}
 use Rattle.orc_plain_domain.specs.Rows.{Keeps, seat_by, slots_by}
 use Rattle.orc_plain_domain.proofs.Growing.{fresh_given}
 use Rattle.orc_plain_domain.proofs.Naming.{hold_given, hold_in}
-use Rattle.orc_plain_domain.proofs.Rows.{slots_set}
-use Rattle.orc_plain_domain.proofs.Testing.{unless_is}
+use Rattle.orc_plain_domain.proofs.Rows.{slots_set, unless_is}
 
 set_back : {A : Type 0} (xs : List A) (i j : ℕ) (y z : A) → slice_get (slice_set xs i y) j ≡ Some z → (z ≡ y) ⊎ (slice_get xs j ≡ Some z)
 set_back [] i j y z e = inr e

@@ -1,5 +1,5 @@
 -- Rows in slots, and their nodes as more rows are given.
-use Rattle.std.proofs.Common.{◌≡◌, ℕ, zero, suc, ◌<◌, List, [], ◌∷◌, ◌++◌, length, Option, Some, None, slice_get, slice_set, refl, sym, ap, ◌∙◌, subst}
+use Rattle.std.proofs.Common.{Bool, List, None, Option, Some, [], ap, cond, eq-eqb, length, ne_eqb, refl, slice_get, slice_set, subst, suc, sym, zero, ℕ, ◌++◌, ◌<◌, ◌∙◌, ◌∷◌, ◌≡◌}
 use Rattle.orc_heap.specs.Acts.{IsKnown}
 use Rattle.orc_heap.specs.Heap.{Heap}
 use Rattle.orc_heap.proofs.Changes.{get-grown, get_lt}
@@ -7,6 +7,11 @@ use Rattle.orc_plain_board.proofs.Lists.{at_index, index_grown, some_one}
 use Rattle.orc_plain_board.proofs.Ties.{Given}
 use Rattle.orc_plain_board.specs.Machine.{id_by, index_of}
 use Rattle.orc_plain_domain.specs.Rows.{slot_by, slots_by}
+use Rattle.orc_heap.specs.Calls.{unless_node}
+use Rattle.orc_plain_board.specs.Calls.{unless_linked}
+use Rattle.std.specs.Prelude.{if◌then◌else◌}
+use mathlib.Core.Logic.{dite}
+use native.Mathlib.Decide.{ℕ_discrete}
 
 slot_grows : (rows more : List ℕ) (x : Option ℕ) → ((row : ℕ) → x ≡ Some row → index_of row rows < length rows) → slot_by (rows ++ more) x ≡ slot_by rows x
 slot_grows rows more None l = refl
@@ -45,3 +50,24 @@ one_row rows row other l k e = some_one row other (sym (at_index row rows l) ∙
 pub known_given : (agent : ℕ) (h : Heap) (rows : List ℕ) (row : ℕ) → length rows ≡ length h.nodes → IsKnown agent h (index_of row rows)
     → index_of row rows < length rows
 known_given agent h rows row even k = subst (λ n. index_of row rows < n) (sym even) (get_lt h.nodes (index_of row rows) k.node k.there)
+
+-- the fresh row, unless it was linked, and its node
+pub unless_given : (rows : List ℕ) (fresh to : Option ℕ) → Given rows fresh → Given rows (unless_linked fresh to)
+unless_given rows None to g = tt
+unless_given rows (Some row) None g = g
+unless_given rows (Some row) (Some other) g = dite (ℕ_discrete row other)
+    (λ e. subst (λ (b : Bool). Given rows (cond b None (Some row))) (sym (eq-eqb row other e)) tt)
+    (λ ne. subst (λ (b : Bool). Given rows (cond b None (Some row))) (sym (ne_eqb row other ne)) g)
+
+pub unless_is : (rows : List ℕ) (fresh to : Option ℕ) → Given rows fresh → Given rows to
+    → id_by rows (unless_linked fresh to) ≡ unless_node (id_by rows fresh) (id_by rows to)
+unless_is rows None None g k = refl
+unless_is rows None (Some other) g k = refl
+unless_is rows (Some row) None g k = refl
+unless_is rows (Some row) (Some other) g k = dite (ℕ_discrete row other)
+    (λ e. ap (λ (b : Bool). id_by rows (cond b None (Some row))) (eq-eqb row other e)
+    ∙ sym (ap (λ (b : Bool). if b then None else Some (index_of row rows))
+    (eq-eqb (index_of other rows) (index_of row rows) (ap (λ r. index_of r rows) (sym e)))))
+    (λ ne. ap (λ (b : Bool). id_by rows (cond b None (Some row))) (ne_eqb row other ne)
+    ∙ sym (ap (λ (b : Bool). if b then None else Some (index_of row rows))
+    (ne_eqb (index_of other rows) (index_of row rows) (λ e. ne (one_row rows row other g k (sym e))))))

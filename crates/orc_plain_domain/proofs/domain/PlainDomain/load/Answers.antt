@@ -1,5 +1,5 @@
 use Rattle.std.proofs.Common.{refl, arith}
-use Rattle.orc_plain_domain.proofs.Loading.{link_low, loads, still_loaded}
+use Rattle.orc_plain_domain.proofs.OneStep.{link_low, loads, still_loaded}
 use Rattle.orc_plain_domain.proofs.domain.PlainDomain.load.Goals as goal
 
 pub unreachable-requires : goal.unreachable-requires

@@ -3,8 +3,8 @@ use Rattle.orc_plain_board.specs.Calls.{KnowsTarget}
 use Rattle.orc_plain_board.specs.Views.{shows}
 use Rattle.orc_words.specs.declared.packed.RowLink.{RowLink}
 use Rattle.orc_plain_domain.specs.Passes.{domain_bounds}
-use Rattle.orc_plain_domain.proofs.Aiming.{aims, may_aim}
-use Rattle.orc_plain_domain.proofs.Filling.{fresh_is}
+use Rattle.orc_plain_domain.proofs.OneStep.{aims, may_aim}
+use Rattle.orc_plain_domain.proofs.OneStep.{fresh_is}
 use Rattle.orc_plain_domain.proofs.Growing.{still_adds}
 use Rattle.orc_plain_domain.proofs.Naming.{hold_below, target_known, target_other, target_plain}
 use Rattle.orc_plain_domain.proofs.domain.PlainDomain.store.Goals as goal

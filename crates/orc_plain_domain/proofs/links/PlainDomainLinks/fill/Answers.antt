@@ -1,5 +1,5 @@
 use Rattle.std.proofs.Common.{◌<◌, sym, subst}
-use Rattle.orc_plain_domain.proofs.Filling.{fills, fresh_is}
+use Rattle.orc_plain_domain.proofs.OneStep.{fills, fresh_is}
 use Rattle.orc_plain_domain.proofs.Growing.{still_adds}
 use Rattle.orc_plain_domain.proofs.Naming.{hold_below}
 use Rattle.orc_plain_domain.specs.Passes.{domain_bounds}

@@ -3,9 +3,22 @@ use Rattle.orc_plain_board.specs.Calls.{KnowsPlace}
 use Rattle.orc_plain_board.specs.Views.{shows}
 use Rattle.orc_plain_domain.specs.Passes.{domain_bounds}
 use Rattle.orc_plain_domain.proofs.Equal.{links_agree, links_differ}
-use Rattle.orc_plain_domain.proofs.Looking.{known_again, looks_held, looks_moved, looks_null, still_looked}
+use Rattle.orc_plain_domain.proofs.Looking.{LoadsFirst, LoadsWord, known_again, looks_held, looks_moved, looks_null, still_looked}
 use Rattle.orc_plain_domain.proofs.Naming.{place_known}
+use Rattle.orc_plain_domain.proofs.links.PlainDomainLinks.look.Given.{Over}
+use Rattle.orc_plain_domain.proofs.links.PlainDomainLinks.look.Goals.{After-load-one, After-load-two}
 use Rattle.orc_plain_domain.proofs.links.PlainDomainLinks.look.Goals as goal
+
+first : (g : Over) (c : After-load-one g) → LoadsFirst c.args.self.now c.args.p.now c.load-one.new.p c.args.place.now c.word_at-word.result c.load-one.result
+first g c = record {
+  before = c.requires.pass;
+  there = c.requires.place;
+  word_is = c.word_at-word.ensures;
+  load = record { after = c.load-one.ensures.pass; same = c.load-one.ensures.same; loads = c.load-one.ensures.loaded };
+}
+
+again : (g : Over) (c : After-load-two g) → LoadsWord c.args.self.now c.load-one.new.p c.load-two.new.p c.word_at-word.result c.load-two.result
+again g c = record { after = c.load-two.ensures.pass; same = c.load-two.ensures.same; loads = c.load-two.ensures.loaded }
 
 pub load-one-requires-clause-place : goal.load-one-requires-clause-place
 load-one-requires-clause-place g c =
@@ -13,33 +26,25 @@ load-one-requires-clause-place g c =
     (place_known c.args.self.now c.args.p.now c.requires.pass c.args.place.now c.requires.place)
 
 pub returns-in_default-clause-looked : goal.returns-in_default-clause-looked
-returns-in_default-clause-looked g c =
-    looks_null c.args.self.now c.args.p.now c.load-one.new.p c.requires.pass c.load-one.ensures.pass c.load-one.ensures.same c.args.place.now
-    c.word_at-word.result c.requires.place c.word_at-word.ensures c.load-one.result c.load-one.ensures.loaded
-    c.args.slot c.in_default.is
+returns-in_default-clause-looked g c = looks_null (first g (goal.at.returns-in_default-clause-looked g c).After-load-one) c.args.slot c.in_default.is
 
 pub load-two-requires-clause-place : goal.load-two-requires-clause-place
-load-two-requires-clause-place g c =
-    known_again c.args.self.now c.args.p.now c.load-one.new.p c.requires.pass c.load-one.ensures.pass c.load-one.ensures.same c.args.place.now
-    c.word_at-word.result c.requires.place c.word_at-word.ensures c.load-one.result c.load-one.ensures.loaded
+load-two-requires-clause-place g c = known_again (first g (goal.at.load-two-requires-clause-place g c).After-load-one)
 
 pub returns-then-ne-clause-looked : goal.returns-then-ne-clause-looked
 returns-then-ne-clause-looked g c =
-    looks_moved c.args.self.now c.args.p.now c.load-one.new.p c.requires.pass c.load-one.ensures.pass c.load-one.ensures.same c.args.place.now
-    c.word_at-word.result c.requires.place c.word_at-word.ensures c.load-one.result c.load-one.ensures.loaded
-    c.load-two.new.p c.load-two.ensures.pass c.load-two.ensures.same c.load-two.result c.load-two.ensures.loaded
-    c.args.slot c.in-Some.row c.in-Some.is (links_differ c.load-two.result c.load-one.result c.ne.result c.ne.ensures c.if-ne.true)
+    let at = goal.at.returns-then-ne-clause-looked g c in
+    looks_moved (first g at.After-load-one) (again g at.After-load-two) c.args.slot c.in-Some.row c.in-Some.is
+    (links_differ c.load-two.result c.load-one.result c.ne.result c.ne.ensures c.if-ne.true)
 
 pub returns-clause-pass : goal.returns-clause-pass
 returns-clause-pass g c =
-    still_looked c.args.self.now c.args.p.now c.load-one.new.p c.requires.pass c.load-one.ensures.pass c.load-one.ensures.same c.args.place.now
-    c.word_at-word.result c.requires.place c.word_at-word.ensures c.load-one.result c.load-one.ensures.loaded
-    c.load-two.new.p c.load-two.ensures.pass c.load-two.ensures.same c.load-two.result c.load-two.ensures.loaded
-    c.args.slot c.in-Some.row c.in-Some.is (links_agree c.load-two.result c.load-one.result c.ne.result c.ne.ensures c.if-ne.false)
+    let at = goal.at.returns-clause-pass g c in
+    still_looked (first g at.After-load-one) (again g at.After-load-two) c.args.slot c.in-Some.row c.in-Some.is
+    (links_agree c.load-two.result c.load-one.result c.ne.result c.ne.ensures c.if-ne.false)
 
 pub returns-clause-looked : goal.returns-clause-looked
 returns-clause-looked g c =
-    looks_held c.args.self.now c.args.p.now c.load-one.new.p c.requires.pass c.load-one.ensures.pass c.load-one.ensures.same c.args.place.now
-    c.word_at-word.result c.requires.place c.word_at-word.ensures c.load-one.result c.load-one.ensures.loaded
-    c.load-two.new.p c.load-two.ensures.pass c.load-two.ensures.same c.load-two.result c.load-two.ensures.loaded
-    c.args.slot c.in-Some.row c.in-Some.is (links_agree c.load-two.result c.load-one.result c.ne.result c.ne.ensures c.if-ne.false) c.new.result c.new.ensures
+    let at = goal.at.returns-clause-looked g c in
+    looks_held (first g at.After-load-one) (again g at.After-load-two) c.args.slot c.in-Some.row c.in-Some.is
+    (links_agree c.load-two.result c.load-one.result c.ne.result c.ne.ensures c.if-ne.false) c.new.result c.new.ensures

@@ -5,7 +5,7 @@ use Rattle.orc_plain_board.specs.Views.{shows}
 use Rattle.orc_words.specs.declared.packed.RowLink.{RowLink}
 use Rattle.orc_plain_domain.specs.Passes.{domain_bounds, domain_numbers}
 use Rattle.orc_plain_domain.proofs.Naming.{want_low}
-use Rattle.orc_plain_domain.proofs.Testing.{knows_link, knows_place, may_look, still_tested, tests}
+use Rattle.orc_plain_domain.proofs.OneStep.{knows_link, knows_place, may_look, still_tested, tests}
 use Rattle.orc_plain_domain.proofs.links.PlainDomainLinks.same.Goals as goal
 
 pub link_load-found-requires-clause-place : goal.link_load-found-requires-clause-place

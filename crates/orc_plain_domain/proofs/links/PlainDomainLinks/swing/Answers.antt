@@ -1,4 +1,4 @@
-use Rattle.orc_plain_domain.proofs.Testing.{knows_link, knows_place, knows_target, may_move, still_swung, swings}
+use Rattle.orc_plain_domain.proofs.OneStep.{knows_link, knows_place, knows_target, may_move, still_swung, swings}
 use Rattle.orc_plain_domain.proofs.links.PlainDomainLinks.swing.Goals as goal
 
 pub link_cas-moved-requires-clause-place : goal.link_cas-moved-requires-clause-place

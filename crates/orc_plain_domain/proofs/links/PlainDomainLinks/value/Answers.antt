@@ -1,7 +1,7 @@
 use Rattle.std.proofs.Common.{[], refl, sym, subst}
 use Rattle.orc_plain_board.specs.Calls.{KnowsRow}
 use Rattle.orc_plain_board.specs.Views.{shows}
-use Rattle.orc_plain_domain.proofs.Filling.{reads}
+use Rattle.orc_plain_domain.proofs.OneStep.{reads}
 use Rattle.orc_plain_domain.proofs.Growing.{only_adds, still_adds}
 use Rattle.orc_plain_domain.proofs.Naming.{hold_known}
 use Rattle.orc_plain_domain.specs.Passes.{domain_bounds}
