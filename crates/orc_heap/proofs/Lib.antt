@@ -16,6 +16,7 @@ pub mod Prefixes
 pub mod Calls
 pub mod Roots
 pub mod Runs
+pub mod InJournal
 pub mod Sides
 pub mod Slots
 pub mod Stays

@@ -15,7 +15,7 @@ use Rattle.orc_history.specs.Parts.{WithinPart, first_step, part_begin}
 
 module _ {S : Type 0} (agent_of : S → ℕ) (agent : ℕ) where
   -- the first step of these is no earlier than their place, and no later than their end
-  first_low : (place : ℕ) (ss : List S) → place ≤ first_step agent_of agent place ss
+  pub first_low : (place : ℕ) (ss : List S) → place ≤ first_step agent_of agent place ss
   first_low place [] = omega arith
   first_low place (s ∷ ss) = cases (agent_of s == agent) (first_low (suc place) ss)
     where
@@ -63,7 +63,7 @@ module _ {S : Type 0} (agent_of : S → ℕ) (agent : ℕ) where
       cases true h k = omega arith
       cases false h k = omega (arith, k h)
 
-  begin_is : (j more : List S) → part_begin agent_of agent j (j ++ more) ≡ first_step agent_of agent (length j) more
+  pub begin_is : (j more : List S) → part_begin agent_of agent j (j ++ more) ≡ first_step agent_of agent (length j) more
   begin_is j more = ap (λ z. first_step agent_of agent (length j) z) (drop-append_seam j more)
 
   -- a fact of two places after a call's first step is one of its part

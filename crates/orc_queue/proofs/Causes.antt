@@ -14,7 +14,7 @@ use Rattle.orc_heap.specs.Allowed.{AllAllowed, events_by}
 use Rattle.orc_heap.specs.Heap.{HeapNumbers}
 use Rattle.orc_heap.specs.Journals.{run_heap}
 use Rattle.orc_heap.specs.Moves.{AllOwn, from_own, gives_in}
-use Rattle.orc_heap.specs.OwnEvents.{IsBelow, Puts}
+use Rattle.orc_heap.specs.OwnEvents.{Only}
 use Rattle.orc_history.specs.Parts.{InPart, IsAlone, part_begin}
 use Rattle.orc_heap.specs.Seats.{Seat}
 use Rattle.orc_heap.specs.declared.events.Event.{Event}
@@ -33,21 +33,12 @@ use Rattle.orc_queue.specs.Answers.{CallFindsFull, IsCall, PutAnswers, StopsShor
 use Rattle.orc_queue.specs.Causes.{BeforeFirstStep, Cause, FromFirstStep, LacksPosition, UsesTurns}
 use Rattle.orc_queue.specs.Turns.{FindsFull, HasDummy, KeepsTail, TailIsLast}
 use Rattle.orc_queue.specs.Laws.Histories.{first_stays}
+use Rattle.orc_queue.proofs.Answering.{put_settled, take_settled}
 use Rattle.orc_queue.proofs.Alone.{tail_settles, alone_runs}
 use Rattle.orc_queue.proofs.Filled.{Known}
 use Rattle.orc_queue.proofs.Lacking.{lacks_within}
 use Rattle.orc_queue.proofs.Room.{full_puts}
-use Rattle.orc_heap.proofs.OwnEntries.{entries_added, own_of_events}
-use Rattle.orc_heap.proofs.Calls.{part_allowed}
-
-below_right : (agents : ℕ) (es fs : List (Event FifoNote)) → IsBelow agents (es ++ fs) → IsBelow agents fs
-below_right agents [] fs b = b
-below_right agents (e ∷ es) fs b = below_right agents es fs b.1
-
-of_crowd : (agent agents : ℕ) (es : List (Event FifoNote)) → IsBelow agents es
-    → AllByRecursion (λ (e : Event FifoNote). (e.agent ≡ agent) ⊎ (e.agent < agents)) es
-of_crowd agent agents [] b = tt
-of_crowd agent agents (e ∷ es) b = (inr b.0, of_crowd agent agents es b.1)
+use Rattle.orc_heap.proofs.InJournal.{CallSeen, adds_entries, own_after, seen_part}
 
 -- the answer and the Look at the end
 finds_full : (n : HeapNumbers) (given turns : ℕ) (s t : Seat FifoNote) (es : List QueueEntry) (c : IsCall given turns s es t)
@@ -72,24 +63,18 @@ pub record AnyCall (given turns : ℕ) (s t : Seat FifoNote) : Type 0 where
   pub entries : List QueueEntry
   pub call : IsCall given turns s entries t
 
-pub put_any : (n : HeapNumbers) (job turns : ℕ) (s t : Seat FifoNote) (r : Result ℕ QueueRefused) → PutAnswers n job turns s r t
+put_any : (n : HeapNumbers) (job turns : ℕ) (s t : Seat FifoNote) (r : Result ℕ QueueRefused) → PutAnswers n job turns s r t
     → AnyCall (gives_of turns r) turns s t
 put_any n job turns s t (Ok at) l = record { entries = _; call = l.call }
 put_any n job turns s t (Err Again) l = record { entries = _; call = l.tires.call }
 put_any n job turns s t (Err NoNode) l = record { entries = _; call = l.call }
 put_any n job turns s t (Err Positions) l = record { entries = _; call = l.call }
 
-pub take_any : (turns : ℕ) (s t : Seat FifoNote) (r : Result (Option (ℕ × ℕ)) AgainFault) → TakeAnswers turns s r t → AnyCall 0 turns s t
+take_any : (turns : ℕ) (s t : Seat FifoNote) (r : Result (Option (ℕ × ℕ)) AgainFault) → TakeAnswers turns s r t → AnyCall 0 turns s t
 take_any turns s t (Ok got) l = record { entries = _; call = l.call }
 take_any turns s t (Err again) l = record { entries = _; call = l.call }
 
--- what its own events are then
-own_after : (s t : Seat FifoNote) (own : List (Event FifoNote)) → Puts s own t → events_by t.agent t.seen ≡ events_by s.agent s.seen ++ own
-own_after s t own p =
-    ap (λ (a : ℕ). events_by a t.seen) p.agent
-    ∙ (ap (λ z. events_by s.agent z) p.is ∙ (filter-append (λ e. e.agent == s.agent) s.seen p.part ∙ ap (λ z. events_by s.agent s.seen ++ z) p.own_is))
-
-module _ (given turns : ℕ) (s t : Seat FifoNote) (any : AnyCall given turns s t) where
+module _ {given turns : ℕ} {s t : Seat FifoNote} (any : AnyCall given turns s t) where
   own_events : events_by t.agent t.seen ≡ events_by s.agent s.seen ++ any.call.own
   own_events = own_after s t any.call.own any.call.puts
 
@@ -109,14 +94,14 @@ stop_tail given s t es c =
 
 -- a call with no turn
 any_none : (s t : Seat FifoNote) → AnyCall 0 0 s t → events_by t.agent t.seen ≡ events_by s.agent s.seen
-any_none s t any = own_events 0 0 s t any ∙ (ap (λ z. events_by s.agent s.seen ++ z) (empty any.call.own any.call.few) ∙ append-nil (events_by s.agent s.seen))
+any_none s t any = own_events any ∙ (ap (λ z. events_by s.agent s.seen ++ z) (empty any.call.own any.call.few) ∙ append-nil (events_by s.agent s.seen))
   where
     empty : (es : List (Event FifoNote)) → length es ≤ 0 → es ≡ []
     empty [] none = refl
     empty (e ∷ es) none = absurd (omega (arith, none))
 
 -- no turn
-pub put_no_turns : (n : HeapNumbers) (job turns : ℕ) (s t : Seat FifoNote) (r : Result ℕ QueueRefused) → PutAnswers n job turns s r t → turns ≡ 0
+put_no_turns : (n : HeapNumbers) (job turns : ℕ) (s t : Seat FifoNote) (r : Result ℕ QueueRefused) → PutAnswers n job turns s r t → turns ≡ 0
     → (r ≡ Err Again) × (events_by t.agent t.seen ≡ events_by s.agent s.seen)
 put_no_turns n job turns s t r l none = (again r l, any_none s t (subst (λ (k : ℕ). AnyCall (gives_of k r) k s t) none (put_any n job turns s t r l)))
   where
@@ -126,7 +111,7 @@ put_no_turns n job turns s t r l none = (again r l, any_none s t (subst (λ (k :
     again (Err NoNode) l = absurd (l.some_turn none)
     again (Err Positions) l = absurd (l.some_turn none)
 
-pub take_no_turns : (turns : ℕ) (s t : Seat FifoNote) (r : Result (Option (ℕ × ℕ)) AgainFault) → TakeAnswers turns s r t → turns ≡ 0
+take_no_turns : (turns : ℕ) (s t : Seat FifoNote) (r : Result (Option (ℕ × ℕ)) AgainFault) → TakeAnswers turns s r t → turns ≡ 0
     → IsErr r × (events_by t.agent t.seen ≡ events_by s.agent s.seen)
 take_no_turns turns s t r l none = (again r l, any_none s t (subst (λ (k : ℕ). AnyCall 0 k s t) none (take_any turns s t r l)))
   where
@@ -134,31 +119,32 @@ take_no_turns turns s t r l none = (again r l, any_none s t (subst (λ (k : ℕ)
     again (Ok got) l = absurd (l.some_turn none)
     again (Err e) l = refl
 
--- what a pass has seen before and after a call is in its domain's journal
-pub record CallSeen {S : Type 0} (n : HeapNumbers) (agents : ℕ) (agent_of : S → ℕ) (events : List S → List (Event FifoNote)) (s t : Seat FifoNote)
-    (j k : List S) : Type 0 where
-  pub adds : (j : List S) (x : S) → (es : List (Event FifoNote)) × (events (j ++ x ∷ []) ≡ events j ++ es) × (list_all (λ e. e.agent == agent_of x) es ≡ true)
-  pub grows : IsPrefix j k
-  pub is_s : s.seen ≡ events j
-  pub is_t : t.seen ≡ events k
-  pub all : AllAllowed (FifoMay n) [] t.seen
-  pub below : IsBelow agents t.seen
+-- a call and the settling at its end
+pub record CallEnds (given turns : ℕ) (s t u : Seat FifoNote) (Answers Refused : Type 0) : Type 0 where
+  pub before : AnyCall given turns s t
+  pub any : AnyCall given turns s u
+  pub answers : Answers
+  pub no_turns : turns ≡ 0 → Refused × (events_by u.agent u.seen ≡ events_by s.agent s.seen)
+
+pub put_ends : (n : HeapNumbers) (job turns : ℕ) (s t u : Seat FifoNote) → Only [] t u → (r : Result ℕ QueueRefused) → PutAnswers n job turns s r t
+    → CallEnds (gives_of turns r) turns s t u (PutAnswers n job turns s r u) (r ≡ Err Again)
+put_ends n job turns s t u o r l =
+    let k = put_settled n s t u o job turns r l in
+    record { before = put_any n job turns s t r l; any = put_any n job turns s u r k; answers = k; no_turns = put_no_turns n job turns s u r k }
+
+pub take_ends : (n : HeapNumbers) (turns : ℕ) (s t u : Seat FifoNote) → Only [] t u → (r : Result (Option (ℕ × ℕ)) AgainFault) → TakeAnswers turns s r t
+    → CallEnds 0 turns s t u (TakeAnswers turns s r u) (IsErr r)
+take_ends n turns s t u o r l =
+    let k = take_settled n s t u o turns r l in
+    record { before = take_any turns s t r l; any = take_any turns s u r k; answers = k; no_turns = take_no_turns turns s u r k }
 
 module _ {S : Type 0} {n : HeapNumbers} {agents : ℕ} {agent_of : S → ℕ} {events : List S → List (Event FifoNote)} {s t : Seat FifoNote} {j k : List S}
-    (o : CallSeen n agents agent_of events s t j k)
+    (o : CallSeen FifoMay n agents agent_of events s t j k)
   where
     -- the entries
     pub call_adds : (given turns : ℕ) (es : List QueueEntry) → IsCall given turns s es t
         → Adds agent_of_entry (λ (a : ℕ). a < agents) s.agent (entries_of (events j)) es (entries_of (events k))
-    call_adds given turns es c =
-        let p = c.puts in
-        let others = of_crowd s.agent agents p.part (below_right agents s.seen p.part (subst (λ z. IsBelow agents z) p.is o.below)) in
-        let a = entries_added entries_in agent_of_entry (FifoMay n) (entries_own n) (λ (x : ℕ). x < agents) s.agent s.seen p.part
-        (part_allowed (FifoMay n) s t c.own p o.all) others in
-        let own : entries_of (events_by s.agent p.part) ≡ es = ap entries_of p.own_is ∙ c.entries_are in
-        subst (λ z. Adds agent_of_entry (λ (x : ℕ). x < agents) s.agent (entries_of (events j)) es (entries_of z)) (sym p.is ∙ o.is_t)
-        (subst (λ z. Adds agent_of_entry (λ (x : ℕ). x < agents) s.agent (entries_of z) es (entries_of (s.seen ++ p.part))) o.is_s
-        (subst (λ z. Adds agent_of_entry (λ (x : ℕ). x < agents) s.agent (entries_of s.seen) z (entries_of (s.seen ++ p.part))) own a))
+    call_adds given turns es c = adds_entries o entries_in agent_of_entry (entries_own n) c.own es c.puts c.entries_are
 
     pub put_ok : (job turns : ℕ) (r : Result ℕ QueueRefused) → PutAnswers n job turns s r t
         → IfOk r (λ at. Adds agent_of_entry (λ (a : ℕ). a < agents) s.agent (entries_of (events j)) (Put s.agent job at ∷ []) (entries_of (events k)))
@@ -188,8 +174,7 @@ module _ {S : Type 0} {n : HeapNumbers} {agents : ℕ} {agent_of : S → ℕ} {e
         → IfOk r (λ at. IsAlone agent_of s.agent j k → TailIsLast (run_heap n t.seen))
     put_tail job turns (Ok at) known l = λ alone.
         let p = l.call.puts in
-        let new : events k ≡ events j ++ p.part = sym o.is_t ∙ (p.is ∙ ap (λ z. z ++ p.part) o.is_s) in
-        let e = part_events agent_of events o.adds s.agent j k p.part o.grows new in
+        let e = seen_part o l.call.own p in
         let own : from_own s.agent p.part ≡ from_own s.agent e.part = ap (λ z. from_own s.agent z) e.is ∙ from_own-others s.agent e.gap e.part e.others in
         alone_runs n TailIsLast s t l.call.own p known o.all (tail_settles n l.call.own l.helps)
         (subst (λ z. AllOwn s.agent z) (sym own) (own_from s.agent e.part (e.alone alone)))
@@ -241,43 +226,3 @@ module _ {S : Type 0} {n : HeapNumbers} {agents : ℕ} {agent_of : S → ℕ} {e
     take_licence turns first Lacks (Err e) again =
         let bounds = part_bounds agent_of s.agent j k o.grows in
         (part_begin agent_of s.agent j k, length k, bounds.0, bounds.1, omega arith, again)
-
--- by the laws of the domain
-pub call_seen : {L D P S : Type 0} (m : LinksOf L D P S FifoNote) (links : L) (p q : P)
-    → ((p : P) → m.belongs links p → (m.seat links p).seen ≡ m.events links (m.journal p))
-    → ((p : P) → m.belongs links p → AllAllowed (FifoMay (m.numbers links)) [] (m.seat links p).seen) → IsBelow (m.agents links) (m.seat links q).seen
-    → ((j : List S) (x : S) → (es : List (Event FifoNote)) × (m.events links (j ++ x ∷ []) ≡ m.events links j ++ es)
-    × (list_all (λ e. e.agent == m.agent_of x) es ≡ true))
-    → m.belongs links p → m.belongs links q → IsPrefix (m.journal p) (m.journal q)
-    → CallSeen (m.numbers links) (m.agents links) m.agent_of (m.events links) (m.seat links p) (m.seat links q) (m.journal p) (m.journal q)
-call_seen m links p q seen_is allowed below adds before after grows = record {
-  adds = adds;
-  grows = grows;
-  is_s = seen_is p before;
-  is_t = seen_is q after;
-  all = allowed q after;
-  below = below;
-}
-
--- the entries of each of two agents in what both have seen
-pub learns : {S : Type 0} (n : HeapNumbers) (events : List S → List (Event FifoNote)) (agent1 agent2 : ℕ) (s1 s2 t1 : Seat FifoNote)
-    (j1 j2 k1 k2 : List S) → k1 ≡ k2 → (IsPrefix j1 j2 × (k1 ≡ j2)) ⊎ (IsPrefix j2 j1 × (k1 ≡ j1))
-    → AllAllowed (FifoMay n) [] s1.seen → AllAllowed (FifoMay n) [] s2.seen → AllAllowed (FifoMay n) [] t1.seen → s1.seen ≡ events j1
-    → s2.seen ≡ events j2 → t1.seen ≡ events k1
-    → events_by agent1 t1.seen ≡ events_by agent1 s1.seen → events_by agent2 t1.seen ≡ events_by agent2 s2.seen
-    → LearnsEntries (λ j. entries_of (events j)) agent_of_entry agent1 agent2 j1 j2 k1 k2
-learns {S} n events agent1 agent2 s1 s2 t1 j1 j2 k1 k2 one longer all1 all2 all is1 is2 is own1 own2 = record {
-  one = one;
-  longer = longer;
-  own1 = own agent1 s1 j1 all1 is1 own1;
-  own2 = own agent2 s2 j2 all2 is2 own2;
-}
-  where
-    own : (agent : ℕ) (s : Seat FifoNote) (j : List S) → AllAllowed (FifoMay n) [] s.seen → s.seen ≡ events j → events_by agent t1.seen ≡ events_by agent s.seen
-        → own_of agent_of_entry agent (entries_of (events k1)) ≡ own_of agent_of_entry agent (entries_of (events j))
-    own agent s j all_s is_j same =
-        ap (λ z. own_of agent_of_entry agent (entries_of z)) (sym is)
-        ∙ (own_of_events entries_in agent_of_entry (FifoMay n) (entries_own n) agent [] t1.seen all
-        ∙ (ap entries_of same
-        ∙ (sym (own_of_events entries_in agent_of_entry (FifoMay n) (entries_own n) agent [] s.seen all_s)
-        ∙ ap (λ z. own_of agent_of_entry agent (entries_of z)) is_j)))

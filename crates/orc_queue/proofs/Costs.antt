@@ -34,7 +34,7 @@ use Rattle.orc_queue.specs.Answers.{IsCall, PutAnswers, TakeAnswers, Tires}
 use Rattle.orc_queue.specs.Causes.{UsesTurns, entered_by_others}
 use Rattle.orc_queue.specs.Turns.{back_moves_in}
 use Rattle.orc_queue.proofs.Backs.{none_off}
-use Rattle.orc_queue.proofs.Causes.{CallSeen}
+use Rattle.orc_heap.proofs.InJournal.{CallSeen, seen_new, seen_part}
 use Rattle.orc_queue.proofs.Filled.{Known}
 
 -- where none is the agent's own, all are others'
@@ -48,15 +48,15 @@ all_others agent (e ∷ es) none = cases (agent_of_entry e == agent) refl none (
     cases false is h rest = rw is (ap (λ z. e ∷ z) (rest h))
 
 module _ {S : Type 0} {n : HeapNumbers} {agents : ℕ} {agent_of : S → ℕ} {events : List S → List (Event FifoNote)} {s t : Seat FifoNote} {j k : List S}
-    (o : CallSeen n agents agent_of events s t j k) (known : Known n s.seen)
+    (o : CallSeen FifoMay n agents agent_of events s t j k) (known : Known n s.seen)
   where
     -- a call that entered nothing
     module _ (given turns : ℕ) (c : IsCall given turns s [] t) where
       new : events k ≡ events j ++ c.puts.part
-      new = sym o.is_t ∙ (c.puts.is ∙ ap (λ z. z ++ c.puts.part) o.is_s)
+      new = seen_new o c.own c.puts
 
       e : PartEvents agent_of events o.adds s.agent j k c.puts.part
-      e = part_events agent_of events o.adds s.agent j k c.puts.part o.grows new
+      e = seen_part o c.own c.puts
 
       whole : events (take (length k) k) ≡ (events j ++ e.gap) ++ e.part
       whole = ap events (take-length k) ∙ (new ∙ (ap (λ z. events j ++ z) e.is ∙ sym (append_assoc (events j) e.gap e.part)))

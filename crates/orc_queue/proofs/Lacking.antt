@@ -3,6 +3,7 @@ use Rattle.std.proofs.Common.{Bool, List, [], ap, append_assoc, arith, cond, fal
 use Rattle.std.proofs.lemmas.List.{length-append}
 use Rattle.std.proofs.Math.Seq.{drop-append_seam}
 use mathlib.Core.List.{IsPrefix}
+use Rattle.orc_heap.proofs.Parting.{begin_is, first_low}
 use Rattle.orc_heap.proofs.Steps.{part_bounds}
 use Rattle.orc_history.specs.Journals.{Within}
 use Rattle.orc_history.specs.Parts.{InPart, first_step, part_begin}
@@ -13,18 +14,10 @@ FirstStays : ℕ → ℕ → ℕ → Type 0
 FirstStays end one two = ((one < end) × (two ≡ one)) ⊎ ((one ≡ end) × (end ≤ two))
 
 module _ {S : Type 0} (agent_of : S → ℕ) (agent : ℕ) where
-  first_low : (place : ℕ) (ss : List S) → place ≤ first_step agent_of agent place ss
-  first_low place [] = omega arith
-  first_low place (s ∷ ss) = cases (agent_of s == agent) (first_low (suc place) ss)
-    where
-      cases : (b : Bool) → suc place ≤ first_step agent_of agent (suc place) ss → place ≤ cond b place (first_step agent_of agent (suc place) ss)
-      cases true k = omega arith
-      cases false k = omega (arith, k)
-
   first_stays : (place : ℕ) (ss more : List S)
       → FirstStays (place + length ss) (first_step agent_of agent place ss) (first_step agent_of agent place (ss ++ more))
   unfolding FirstStays
-  first_stays place [] more = inr (omega arith, omega (arith, first_low place more))
+  first_stays place [] more = inr (omega arith, omega (arith, first_low agent_of agent place more))
   first_stays place (s ∷ ss) more = cases (agent_of s == agent) (first_stays (suc place) ss more)
     where
       cases : (b : Bool)
@@ -40,16 +33,13 @@ module _ {S : Type 0} (agent_of : S → ℕ) (agent : ℕ) where
       cases false (inl h) = inl (omega (arith, h.0), h.1)
       cases false (inr h) = inr (omega (arith, h.0), omega (arith, h.1))
 
-  begin_is : (j more : List S) → part_begin agent_of agent j (j ++ more) ≡ first_step agent_of agent (length j) more
-  begin_is j more = ap (λ z. first_step agent_of agent (length j) z) (drop-append_seam j more)
-
   begin_stays : (j k m : List S) → IsPrefix j k → IsPrefix k m
       → FirstStays (length k) (part_begin agent_of agent j k) (part_begin agent_of agent j m)
   begin_stays j k m (one, first) (two, second) =
       let whole : j ++ (one ++ two) ≡ m = sym (append_assoc j one two) ∙ (ap (λ (z : List S). z ++ two) first ∙ second) in
-      let at_k : first_step agent_of agent (length j) one ≡ part_begin agent_of agent j k = sym (begin_is j one)
+      let at_k : first_step agent_of agent (length j) one ≡ part_begin agent_of agent j k = sym (begin_is agent_of agent j one)
       ∙ ap (λ (z : List S). part_begin agent_of agent j z) first in
-      let at_m : first_step agent_of agent (length j) (one ++ two) ≡ part_begin agent_of agent j m = sym (begin_is j (one ++ two))
+      let at_m : first_step agent_of agent (length j) (one ++ two) ≡ part_begin agent_of agent j m = sym (begin_is agent_of agent j (one ++ two))
       ∙ ap (λ (z : List S). part_begin agent_of agent j z) whole in
       let end : length j + length one ≡ length k = sym (length-append j one) ∙ ap (λ (z : List S). length z) first in
       subst (λ (x : ℕ). FirstStays (length k) (part_begin agent_of agent j k) x) at_m

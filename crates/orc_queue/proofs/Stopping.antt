@@ -9,9 +9,10 @@ use Rattle.orc_history.specs.QueueHistory.{agent_of_entry}
 use Rattle.orc_history.specs.declared.queue.QueueEntry.{QueueEntry}
 use Rattle.orc_history.specs.declared.queue.QueueEntry.TheVariants.{Put}
 use Rattle.orc_fifo_rule.specs.declared.fifo.FifoNote.{FifoNote}
-use Rattle.orc_fifo_rule.specs.QueueDiscipline.{entries_of}
+use Rattle.orc_fifo_rule.specs.QueueDiscipline.{FifoMay, entries_of}
 use Rattle.orc_queue.specs.Answers.{PutStops, StopsShort}
-use Rattle.orc_queue.proofs.Causes.{CallSeen, call_adds}
+use Rattle.orc_heap.proofs.InJournal.{CallSeen}
+use Rattle.orc_queue.proofs.Causes.{call_adds}
 
 -- it had a node to link, or no row could be given, and it put nothing
 pub record Stopped (Lacks : Type 0) (s : Seat FifoNote) (r : Option ℕ) (t : Seat FifoNote) : Type 0 where
@@ -28,7 +29,7 @@ stopped_by job Lacks s t None l = elim l [
 ]
 
 module _ {S : Type 0} {n : HeapNumbers} {agents : ℕ} {agent_of : S → ℕ} {events : List S → List (Event FifoNote)} {s t : Seat FifoNote} {j k : List S}
-    (o : CallSeen n agents agent_of events s t j k) (job : ℕ) (Lacks : Type 0)
+    (o : CallSeen FifoMay n agents agent_of events s t j k) (job : ℕ) (Lacks : Type 0)
   where
     pub stop_some : (r : Option ℕ) → PutStops job Lacks s r t
         → IfSome r (λ at. Adds agent_of_entry (λ (a : ℕ). a < agents) s.agent (entries_of (events j)) (Put s.agent job at ∷ []) (entries_of (events k)))

@@ -49,15 +49,15 @@ pub returns-in-Stable-default-None-clause-put : goal.returns-in-Stable-default-N
 returns-in-Stable-default-None-clause-put g c =
     let f = ended g (goal.at.returns-in-Stable-default-None-clause-put g c).In-Stable-default-None in
     let d = c.args.links.now in
-    let n = g.L.Links.numbers d in
-    let s = g.L.Links.seat d c.args.p.now in
-    let a = g.L.Links.seat d c.look.new.p in
-    let t = g.L.Links.seat d c.link_behind.new.p in
+    let e = c.link_behind.ensures in
     let tail = c.args.tail.now in
     let node = c.args.node.now in
     let job = c.args.job in
     let turn = c.link_behind.result in
-    let e = c.link_behind.ensures in
+    let n = g.L.Links.numbers d in
+    let s = g.L.Links.seat d c.args.p.now in
+    let a = g.L.Links.seat d c.look.new.p in
+    let t = g.L.Links.seat d c.link_behind.new.p in
     let linked = subst (λ (z : Slots). LinksBehind n 3 (SwingsLast (id_in z tail)) job (id_in z tail) node a turn t) f.slots e.linked in
     behind_null n job (id_in s.slots tail) node s a t f.before c.requires.named f.slots c.in-Stable-default-None.ensures.looked.fresh f.puts f.after.all
     (g.met.L.Links.allowed d c.link_behind.new.p e.pass) turn linked

@@ -6,41 +6,22 @@ use Rattle.orc_queue.proofs.put.put_turns.Goals as goal
 use Rattle.orc_heap.proofs.Pieces.{goes_on}
 
 pub loop-init : goal.loop-init
-loop-init g c =
-    let d = c.args.links.now in
-    record {
-      pass = c.requires.pass;
-      later = ([], append-nil _);
-      tires =
-          tires_none (g.L.Links.numbers d) c.args.job c.args.node.now (g.L.Links.seat d c.args.p.now) c.requires.node;
-    }
+loop-init g c = record { pass = c.requires.pass; later = ([], append-nil _); tires = tires_none _ _ _ _ c.requires.node }
 
 pub loop-preserved : goal.loop-preserved
 loop-preserved g c =
-    let d = c.args.links.now in
     let i = c.loop.invariant in
     let e = c.in-Over.ensures in
-    record {
-      pass = e.pass;
-      later = goes_on _ _ _ i.later e.later;
-      tires = tires_next (g.L.Links.numbers d) c.args.job c.loop.counter c.args.node.now (g.L.Links.seat d c.args.p.now) (g.L.Links.seat d c.loop.p)
-          (g.L.Links.seat d c.put_turn.new.p) i.tires e.put;
-    }
+    record { pass = e.pass; later = goes_on _ _ _ i.later e.later; tires = tires_next _ _ _ _ _ _ _ i.tires e.put }
 
 pub returns-in_default : goal.returns-in_default
 returns-in_default g c =
-    let d = c.args.links.now in
     let i = c.loop.invariant in
     let e = c.put_turn.ensures in
-    let not_over = c.in_default.not-Over in
-    let is = c.in_default.turn-is in
-    record {
-      pass = e.pass;
-      later = goes_on _ _ _ i.later e.later;
-      put = turns_done (g.L.Links.numbers d) c.args.job c.loop.counter c.args.turns c.args.node.now (g.L.Links.seat d c.args.p.now)
-          (g.L.Links.seat d c.loop.p) (g.L.Links.seat d c.put_turn.new.p) c.put_turn.result
-          not_over (omega (arith, c.loop-test.true)) i.tires e.put;
-    }
+    let d = c.args.links.now in
+    let done = turns_done _ _ _ c.args.turns _ _ _ (g.L.Links.seat d c.put_turn.new.p) c.put_turn.result c.in_default.not-Over (omega (arith, c.loop-test.true))
+    i.tires e.put in
+    record { pass = e.pass; later = goes_on _ _ _ i.later e.later; put = done }
 
 pub returns-clause-put : goal.returns-clause-put
 returns-clause-put g c =

@@ -51,13 +51,13 @@ swing_head-requires g c =
 pub returns-clause-took : goal.returns-clause-took
 returns-clause-took g c =
     let d = c.args.links.now in
+    let e = c.same.ensures in
+    let got = c.swing_head.result in
+    let miss = Tests-missed e.tested c.if-same.false in
     let n = g.L.Links.numbers d in
     let s = g.L.Links.seat d c.args.p.now in
     let a = g.L.Links.seat d c.same.new.p in
     let t = g.L.Links.seat d c.swing_head.new.p in
-    let e = c.same.ensures in
-    let miss = Tests-missed e.tested c.if-same.false in
-    let got = c.swing_head.result in
     let took = subst (λ (z : Slots). TakesFrom n (id_in z c.args.head.now) a got t) e.tested.slots c.swing_head.ensures.took in
     past_taken n _ (id_in s.slots c.args.next.now) s a t _ miss.puts (g.met.L.Links.allowed d c.same.new.p e.pass) e.tested.slots e.tested.fresh refl refl refl
     (omega arith) got took

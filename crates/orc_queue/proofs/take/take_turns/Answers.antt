@@ -13,27 +13,17 @@ loop-init g c =
 
 pub loop-preserved : goal.loop-preserved
 loop-preserved g c =
-    let d = c.args.links.now in
     let i = c.loop.invariant in
     let e = c.in-Over.ensures in
-    record {
-      pass = e.pass;
-      later = goes_on _ _ _ i.later e.later;
-      over = over_next (g.L.Links.numbers d) TailIsPast c.loop.counter (g.L.Links.seat d c.args.p.now) (g.L.Links.seat d c.loop.p)
-          (g.L.Links.seat d c.take_turn.new.p) i.over e.took;
-    }
+    record { pass = e.pass; later = goes_on _ _ _ i.later e.later; over = over_next _ _ _ _ _ _ i.over e.took }
 
 pub returns-in_default : goal.returns-in_default
 returns-in_default g c =
-    let d = c.args.links.now in
     let i = c.loop.invariant in
     let e = c.take_turn.ensures in
-    record {
-      pass = e.pass;
-      later = goes_on _ _ _ i.later e.later;
-      took = turns_taken (g.L.Links.numbers d) c.loop.counter c.args.turns (g.L.Links.seat d c.args.p.now) (g.L.Links.seat d c.loop.p)
-          (g.L.Links.seat d c.take_turn.new.p) c.take_turn.result c.in_default.not-Over (omega (arith, c.loop-test.true)) i.over e.took;
-    }
+    let taken = turns_taken _ _ c.args.turns _ _ (g.L.Links.seat c.args.links.now c.take_turn.new.p) c.take_turn.result c.in_default.not-Over
+    (omega (arith, c.loop-test.true)) i.over e.took in
+    record { pass = e.pass; later = goes_on _ _ _ i.later e.later; took = taken }
 
 pub returns-clause-took : goal.returns-clause-took
 returns-clause-took g c =

@@ -1,7 +1,9 @@
 -- What the call did.
 use Rattle.std.proofs.Common.{[], append-nil, arith, inl, inr}
 use Rattle.orc_history.specs.Parts.{InPart}
-use Rattle.orc_queue.proofs.Causes.{AnyCall, any_gives, any_tries, call_seen, stop_tail}
+use Rattle.orc_fifo_rule.specs.QueueDiscipline.{FifoMay}
+use Rattle.orc_heap.proofs.InJournal.{call_seen}
+use Rattle.orc_queue.proofs.Causes.{AnyCall, any_gives, any_tries, stop_tail}
 use Rattle.orc_queue.proofs.Lacking.{lacks_row}
 use Rattle.orc_queue.proofs.Stopping.{stop_none, stop_some, stopped_by}
 use Rattle.orc_queue.proofs.queue.Queue.put_and_stop.Goals as goal
@@ -18,11 +20,11 @@ returns g c =
     let pass = c.requires.pass in
     let by = g.L.Links.agent_of in
     let lacks = InPart by s.agent j k (g.L.Links.lacking d s.agent k) in
-    let seen = call_seen g.L.Links d c.args.p.now c.stop_a_put.new.p (g.met.L.Links.seen_is d) (g.met.L.Links.allowed d)
+    let seen = call_seen FifoMay g.L.Links d c.args.p.now c.stop_a_put.new.p (g.met.L.Links.seen_is d) (g.met.L.Links.allowed d)
     (g.met.L.Links.agents_below d c.stop_a_put.new.p done.pass).1 (g.met.L.Links.steps_add d) pass done.pass done.later in
     let w = stopped_by c.args.job lacks s t r done.stopped in
     let any : AnyCall w.given 1 s t = record { entries = w.entries; call = w.short.call } in
-    let gives = any_gives w.given 1 s t any in
+    let gives = any_gives any in
     record {
       pass = done.pass;
       idle = w.short.call.idle;
@@ -35,8 +37,8 @@ returns g c =
         | inr none ↦ inr (none.1, lacks_row by s.agent (g.L.Links.lacking d s.agent) (g.met.L.Links.lacking_stays d s.agent) j k k done.later ([], append-nil k) none.2)
       ];
       tries = elim w.had [
-        | inl one ↦ omega (arith, any_tries w.given 1 s t any, one)
-        | inr none ↦ omega (arith, any_tries w.given 1 s t any, none.0)
+        | inl one ↦ omega (arith, any_tries any, one)
+        | inr none ↦ omega (arith, any_tries any, none.0)
       ];
       tail = stop_tail w.given s t w.entries w.short;
     }
