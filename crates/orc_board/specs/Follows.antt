@@ -2,6 +2,7 @@
 use Rattle.std.specs.Prelude.{◌≡◌, ◌≢◌, ℕ, suc, ◌+◌, ◌%◌, ◌<◌, ◌≤◌, List, [], ◌∷◌, ◌++◌, length, map, filter, ◌==◌, Bool, Some, None, slice_get}
 use Rattle.std.specs.List.{range_with_len, AllByRecursion}
 use Rattle.std.proofs.Common.{zero}
+pub use Rattle.orc_history.specs.Lists.{Pairwise as Pointwise}
 use Rattle.orc_history.specs.declared.queue.QueueEntry.{QueueEntry}
 use Rattle.orc_history.specs.declared.queue.QueueEntry.TheVariants.{Empty}
 use Rattle.orc_history.specs.declared.queue.QueueRefused.{QueueRefused}
@@ -16,13 +17,6 @@ use Rattle.orc_board.specs.declared.replies.PostWord.TheVariants as word
 use Rattle.orc_board.specs.declared.replies.TakeReply.{TakeReply}
 use Rattle.orc_board.specs.Stretches.{View, Row, Works, Replied, beside, all_beside}
 use Rattle.orc_board.specs.Table.{PostRow, TakeRow, ClaimRow, TakenRow}
-
--- the lists are equally long, and the relation holds of the items at each place
-abbrev pub Pointwise : {X Y : Type 0} → (X → Y → Type 0) → List X → List Y → Type 0
-Pointwise R [] [] = Unit {0}
-Pointwise R [] (y ∷ ys) = ⊥
-Pointwise R (x ∷ xs) [] = ⊥
-Pointwise R (x ∷ xs) (y ∷ ys) = R x y × Pointwise R xs ys
 
 -- journals of the queues in which nothing was done
 abbrev pub none : {A : Type 0} → Bool → List A

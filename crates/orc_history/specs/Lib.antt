@@ -1,4 +1,5 @@
 pub mod Journals
+pub mod Lists
 pub mod Parts
 pub mod QueueHistory
 pub mod SetHistory
