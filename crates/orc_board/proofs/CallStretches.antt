@@ -20,20 +20,18 @@ is_move (Put by job at) = true
 is_move (Took by job at) = true
 is_move (Empty by) = false
 
+-- an entry that moves something stands in both, or in neither
+own_kept : (x : QueueEntry) (fs gs : List QueueEntry) → x ∷ filter is_move gs ≡ filter is_move (x ∷ gs) → fs ≡ filter is_move gs → (b : Bool)
+    → cond b (x ∷ fs) fs ≡ filter is_move (cond b (x ∷ gs) gs)
+own_kept x fs gs moves same true = ap (λ z. x ∷ z) same ∙ moves
+own_kept x fs gs moves same false = same
+
 pub own_moves : (agent : ℕ) (es : List QueueEntry) → filter (is_own_move agent) es ≡ filter is_move (own_of agent_of_entry agent es)
 own_moves agent [] = refl
 own_moves agent (Put by job at ∷ es) =
-    let cases : (b : Bool)
-    → cond b (Put by job at ∷ filter (is_own_move agent) es) (filter (is_own_move agent) es) ≡ filter is_move
-    (cond b (Put by job at ∷ own_of agent_of_entry agent es) (own_of agent_of_entry agent es)) =
-    elim [ true ↦ ap (λ z. Put by job at ∷ z) (own_moves agent es) | false ↦ own_moves agent es ] in
-    cases (by == agent)
+    own_kept (Put by job at) (filter (is_own_move agent) es) (own_of agent_of_entry agent es) refl (own_moves agent es) (by == agent)
 own_moves agent (Took by job at ∷ es) =
-    let cases : (b : Bool)
-    → cond b (Took by job at ∷ filter (is_own_move agent) es) (filter (is_own_move agent) es) ≡ filter is_move
-    (cond b (Took by job at ∷ own_of agent_of_entry agent es) (own_of agent_of_entry agent es)) =
-    elim [ true ↦ ap (λ z. Took by job at ∷ z) (own_moves agent es) | false ↦ own_moves agent es ] in
-    cases (by == agent)
+    own_kept (Took by job at) (filter (is_own_move agent) es) (own_of agent_of_entry agent es) refl (own_moves agent es) (by == agent)
 own_moves agent (Empty by ∷ es) =
     let cases : (b : Bool)
     → filter (is_own_move agent) es ≡ filter is_move (cond b (Empty by ∷ own_of agent_of_entry agent es) (own_of agent_of_entry agent es)) =

@@ -1,6 +1,7 @@
 pub mod ListFacts
 pub mod Shares
 pub mod CallStretches
+pub mod Asking
 pub mod Rows
 pub mod Workers
 pub mod Wholes

@@ -1,7 +1,7 @@
 -- What a worker's replies stand for grows reply by reply.
 use Rattle.std.proofs.Common.{◌≡◌, ◌≢◌, ℕ, zero, suc, ◌+◌, ◌≤◌, ◌<◌, slice_get, ◌-◌, ◌%◌, List, [], ◌∷◌, ◌++◌, length, map, Bool, true, false, cond, ◌==◌, filter, Some, None, refl, ap, sym, ◌∙◌, subst, arith, add-one, append-nil, length-append}
 use Rattle.std.specs.List.{range_with_len}
-use Rattle.std.proofs.lemmas.List.{length-map}
+use Rattle.std.proofs.lemmas.List.{length-map, map-append}
 use Rattle.std.proofs.lemmas.List.Elements.{filter-append}
 use Rattle.orc_history.specs.declared.queue.QueueEntry.{QueueEntry}
 use Rattle.orc_history.specs.declared.queue.QueueEntry.TheVariants.{Empty}
@@ -13,7 +13,7 @@ use Rattle.orc_board.specs.declared.replies.PostReply.{PostReply}
 use Rattle.orc_board.specs.declared.replies.TakeReply.{TakeReply}
 use Rattle.orc_board.specs.Stretches.{View, Row, Replied, empty_row, of_queue}
 use Rattle.orc_board.specs.Table.{PostRow, TakenRow, EndsWith, TakeEnds}
-use Rattle.orc_board.specs.Follows.{Pointwise, Posting, Taking, TakingRest, PosterRow, TakerRow, own_records}
+use Rattle.orc_board.specs.Follows.{Posting, Taking, TakingRest, PosterRow, TakerRow, own_records, Pointwise}
 use Rattle.orc_board.proofs.Shares.{Works-none, Works-row, Stands-empty, DidAll-stretch, own_of_rows}
 use Rattle.orc_board.proofs.CallStretches.{ends_later}
 use Rattle.orc_board.proofs.ListFacts.{eq-yes, eq-no}
@@ -78,10 +78,13 @@ own-grow posters poster n (suc more) =
     rw e (rw (own-next posters poster (n + more)) (omega (arith, own-grow posters poster n more, length-append (own_records posters poster (n + more)) last)))
 
 -- as many replies as records
-pub own-length : (replies : List PostReply) (own : List ℕ) → map (λ (r : PostReply). r.line) replies ≡ own → length replies ≡ length own
-own-length replies own e = sym (length-map replies (λ (r : PostReply). r.line)) ∙ ap length e
+pub own-many : {T : Type 0} (line : T → ℕ) (replies : List T) (own : List ℕ) → map line replies ≡ own → length replies ≡ length own
+own-many line replies own e = sym (length-map replies line) ∙ ap length e
 
--- there is room for one record more
+pub own-length : (replies : List PostReply) (own : List ℕ) → map (λ (r : PostReply). r.line) replies ≡ own → length replies ≡ length own
+own-length replies own e = own-many (λ (r : PostReply). r.line) replies own e
+
+-- there is one record more
 pub own-room : (posters poster i n : ℕ) → 1 ≤ poster → i < n → i % posters ≡ poster - 1
     → length (own_records posters poster i) < length (own_records posters poster n)
 own-room posters poster i n some low e =
@@ -89,6 +92,18 @@ own-room posters poster i n some low e =
     let grown : length (own_records posters poster (i + 1)) ≤ length (own_records posters poster n) =
     subst (λ (x : ℕ). length (own_records posters poster (i + 1)) ≤ length (own_records posters poster x)) is (own-grow posters poster (i + 1) (n - (i + 1))) in
     omega (arith, grown, ap length (own-yes posters poster i some e), length-append (own_records posters poster i) (i ∷ []))
+
+-- the reply to one's own record joins those to the earlier ones, and there is room for it
+module _ {T : Type 0} (line : T → ℕ) (posters poster i : ℕ) (replies : List T) (some : 1 ≤ poster) (e : i % posters ≡ poster - 1)
+    (own : map line replies ≡ own_records posters poster i) where
+  pub own-more : (r : T) → line r ≡ i → map line (replies ++ r ∷ []) ≡ own_records posters poster (i + 1)
+  own-more r is =
+      map-append line replies (r ∷ [])
+      ∙ (ap (λ (n : ℕ). map line replies ++ n ∷ []) is ∙ (ap (λ (ns : List ℕ). ns ++ i ∷ []) own ∙ own-yes posters poster i some e))
+
+  pub own-spare : (n spare room : ℕ) → i < n → length (own_records posters poster n) ≤ room → length replies + spare ≡ room → spare ≢ 0
+  own-spare n spare room low fits all none =
+      omega (arith, none, own-room posters poster i n some low e, own-many line replies (own_records posters poster i) own, fits, all)
 
 pub taking_none : {A B : Type 0} (qs : Bool → View A QueueEntry QueueRefused) (s : View B SetEntry ListRefused) (lines : List Line) (taker agent : ℕ)
     (replies : List TakeReply) (j : Bool → List A) (m : List B)

@@ -1,11 +1,11 @@
-use Rattle.std.proofs.Common.{[], refl, ◌∙◌, Some, None}
+use Rattle.std.proofs.Common.{Some, None}
 use Rattle.orc_board.specs.Stretches.{queue_view, of_queue}
-use Rattle.orc_board.proofs.Shares.{Stretch-refl}
-use Rattle.orc_board.proofs.CallStretches.{queue_call, dequeue_call, dequeue_last}
+use Rattle.orc_board.proofs.Asking.{asks_first, queue_asks}
+use Rattle.orc_board.proofs.CallStretches.{dequeue_call, dequeue_last}
 use Rattle.orc_board.proofs.again.take_job.Goals as goal
 
 pub loop-init : goal.loop-init
-loop-init g c = record { usable = c.requires; agent = refl; quiet = Stretch-refl of_queue _ _ _ }
+loop-init g c = asks_first of_queue _ _ _ _ _ c.requires
 
 pub returns-in-Ok-Some-clause-took : goal.returns-in-Ok-Some-clause-took
 returns-in-Ok-Some-clause-took g c =
@@ -28,10 +28,6 @@ returns-in-Ok-None-clause-last g c =
     (rw c.in-Ok-None.field-0-is at c.in-Ok-None.ensures.took)
 
 pub loop-preserved : goal.loop-preserved
-loop-preserved g c = record {
-  usable = c.dequeue.ensures.usable;
-  agent = c.dequeue.ensures.agent ∙ c.loop.invariant.agent;
-  quiet =
-      queue_call (queue_view g.Q.SharedQueue c.args.queue.now) _ _ c.loop.invariant.agent
-      (λ a. []) _ _ _ c.loop.invariant.quiet c.dequeue.ensures.later c.in-Err.ensures.none;
-}
+loop-preserved g c =
+    queue_asks g.Q.SharedQueue c.args.queue.now _ _ _ c.loop.invariant c.dequeue.ensures.later c.in-Err.ensures.none c.dequeue.ensures.usable
+    c.dequeue.ensures.agent
