@@ -1,7 +1,9 @@
 -- No record has neither a cause nor a line.
 use Rattle.std.proofs.Common.{◌≡◌, ◌≢◌, ◌<◌, ◌^◌, ◌∙◌, sym, Bool, true, false, ◌⊎◌, All, IsUtf8, List, [], ◌∷◌, ℕ, zero, suc, arith, codes, inl, inr, length, refl}
 use Rattle.std.specs.Fmt.{decimal}
-use Rattle.orc_jobs.specs.JobGrammar.{Applies, HasCause, IsLine, TakesText, field, rank_of, record_of, word_of}
+use Rattle.orc_jobs.proofs.FileLaws.{none-applies, whether}
+use Rattle.orc_jobs.specs.JobGrammar.{Applies, HasCause, IsLine, TakesText, rank_of, record_of, word_of}
+use Rattle.orc_jobs.specs.RecordFiles.{field}
 use Rattle.orc_jobs.specs.Line.{job_line}
 use Rattle.orc_jobs.specs.declared.cause.Cause.{Cause}
 use Rattle.orc_jobs.specs.declared.cause.Cause.TheVariants as cause
@@ -9,16 +11,6 @@ use Rattle.orc_jobs.specs.declared.line.Job.{Job}
 use Rattle.orc_jobs.specs.declared.line.Job.TheVariants as job
 use Rattle.orc_jobs.specs.declared.line.Line.{Line}
 use Rattle.orc_jobs.specs.declared.line.Line.TheVariants as line
-
--- where no cause is the first that applies, none applies
-none-applies : (fields : List (List ℕ)) → ((why : Cause) → ¬ HasCause fields why) → (n : ℕ) (why : Cause) → rank_of why < n → ¬ Applies why fields
-none-applies fields none zero why lt bad = omega (arith, lt)
-none-applies fields none (suc n) why lt bad =
-    none why (record { applies = bad; first = λ earlier before. none-applies fields none n earlier (omega (arith, lt, before)) })
-
--- to refute a claim, one may ask of any fact whether it holds
-whether : (P : Type 0) → ¬ ¬ (P ⊎ ¬ P)
-whether P k = k (inr (λ p. k (inl p)))
 
 two-fields : (fields : List (List ℕ)) (a b : List ℕ) → length fields ≡ 2 → field fields 0 ≡ a → field fields 1 ≡ b → fields ≡ a ∷ b ∷ []
 two-fields [] a b n p q = absurd (omega (arith, n))
@@ -79,4 +71,4 @@ not-neither fields none = none.causes cause.Utf8 (λ text.
     ))
 
 pub cause-or-line : (fields : List (List ℕ)) → ((why : Cause) → ¬ HasCause fields why) → ¬ ((l : Line) → IsLine l → fields ≢ record_of l)
-cause-or-line fields none lines = not-neither fields (record { causes = λ why. none-applies fields none (suc (rank_of why)) why (omega arith); lines = lines })
+cause-or-line fields none lines = not-neither fields (record { causes = λ why. none-applies Applies rank_of fields none (suc (rank_of why)) why (omega arith); lines = lines })

@@ -3,7 +3,7 @@ use Rattle.std.proofs.Common.{◌≡◌, List, [], ◌∷◌, ℕ, zero, suc, re
 use Rattle.std.specs.declared.option.Option.{Option}
 use Rattle.std.specs.declared.option.Option.TheVariants.{None, Some}
 use Rattle.csv.specs.Records.{field_at}
-use Rattle.orc_jobs.specs.JobGrammar.{field}
+use Rattle.orc_jobs.specs.RecordFiles.{field}
 
 pub field-some : (fields : List (List ℕ)) (i : ℕ) (text : List ℕ) → Some text ≡ field_at fields i → text ≡ field fields i
 unfolding field_at

@@ -3,6 +3,7 @@ pub mod Fields
 pub mod CsvRecords
 pub mod RecordSizes
 pub mod LineRecords
+pub mod FileLaws
 pub mod GrammarLaws
 pub mod GoodLinesLemmas
 pub mod JobValues

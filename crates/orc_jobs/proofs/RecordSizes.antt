@@ -10,7 +10,7 @@ use Rattle.csv.specs.declared.parser.Action.{Action}
 use Rattle.csv.specs.declared.parser.Action.TheVariants as act
 use Rattle.csv.specs.declared.parser.State.{State}
 use Rattle.csv.specs.declared.parser.State.TheVariants as st
-use Rattle.orc_jobs.specs.JobGrammar.{records_of}
+use Rattle.orc_jobs.specs.RecordFiles.{records_of}
 
 -- how many bytes the fields of a record hold
 abbrev pub size_of : List (List ℕ) → ℕ

@@ -1,8 +1,8 @@
 -- What a job file says: how each line is spelled as a record, and what is first amiss with a record that is the spelling of none.
--- The records are those of RFC 4180 as the crate `csv` reads them, with no header row, of any lengths, and all else at its defaults.
-use Rattle.std.specs.Prelude.{◌≡◌, ◌≢◌, ◌^◌, ◌<◌, ◌≤◌, ◌⊎◌, ◌∷◌, ◌++◌, All, IsUtf8, List, [], ℕ, codes, length, map, slice_index_or, ⊤}
+use Rattle.std.specs.Prelude.{◌≡◌, ◌≢◌, ◌^◌, ◌<◌, ◌⊎◌, ◌∷◌, All, IsUtf8, List, [], ℕ, codes, length, ⊤}
 use Rattle.std.specs.Fmt.{decimal}
-use Rattle.csv.specs.Reading.{default_config, records, strip_bom}
+pub use Rattle.orc_jobs.specs.RecordFiles.{field, records_of}
+use Rattle.orc_jobs.specs.RecordFiles.{HasFirst, HasTooMany, IsFile, IsMalformed}
 use Rattle.orc_jobs.specs.Numbers.{IsNumber, IsNumberList}
 use Rattle.orc_jobs.specs.declared.cause.Cause.{Cause}
 use Rattle.orc_jobs.specs.declared.cause.Cause.TheVariants as cause
@@ -12,10 +12,6 @@ use Rattle.orc_jobs.specs.declared.line.Job.{Job}
 use Rattle.orc_jobs.specs.declared.line.Job.TheVariants as job
 use Rattle.orc_jobs.specs.declared.line.Line.{Line}
 use Rattle.orc_jobs.specs.declared.line.Line.TheVariants as line
-
--- every record of the bytes without a byte order mark, each the list of its fields
-abbrev pub records_of : List ℕ → List (List (List ℕ))
-records_of bytes = records default_config (strip_bom bytes)
 
 -- the word of an operation
 abbrev pub word_of : Job → List ℕ
@@ -42,14 +38,8 @@ IsLine (line.Rush id op text) = (id < 2 ^ 32) × IsUtf8 text × TakesText op tex
 IsLine (line.Drop id) = id < 2 ^ 32
 
 -- the bytes are the file of these lines
-pub record IsFileOf (lines : List Line) (bytes : List ℕ) : Type 0 where
-  pub records : records_of bytes ≡ map record_of lines
-  pub each : All IsLine lines
-  pub few : length lines ≤ 65535
-
--- a field of a record, or nothing past its end
-abbrev pub field : List (List ℕ) → ℕ → List ℕ
-field fields place = slice_index_or fields place []
+abbrev pub IsFileOf : List Line → List ℕ → Type 0
+IsFileOf lines bytes = IsFile record_of IsLine lines bytes
 
 -- the word of some operation
 abbrev pub IsOpWord : List ℕ → Type 0
@@ -74,19 +64,11 @@ rank_of cause.Op = 4
 rank_of cause.Sum = 5
 
 -- the cause of a record: the first that applies
-pub record HasCause (fields : List (List ℕ)) (why : Cause) : Type 0 where
-  pub applies : Applies why fields
-  pub first : (earlier : Cause) → rank_of earlier < rank_of why → ¬ Applies earlier fields
-
--- the records of the bytes are these lines and then these others
-pub record BeginsWith (bytes : List ℕ) (front : List Line) (rest : List (List (List ℕ))) : Type 0 where
-  pub records : records_of bytes ≡ map record_of front ++ rest
-  pub each : All IsLine front
+abbrev pub HasCause : List (List ℕ) → Cause → Type 0
+HasCause fields why = HasFirst Applies rank_of fields why
 
 -- the bytes are refused with this fault: some lines, and then a record with a cause within the first 65,535; or 65,535 lines, and then any record
 abbrev pub Refuses : List ℕ → JobsFault → Type 0
-Refuses bytes (fault.Malformed at why) = (front : List Line) × (bad : List (List ℕ)) × (rest : List (List (List ℕ))) × BeginsWith bytes front (bad ∷ rest)
-    × (length front ≡ at) × (at < 65535) × HasCause bad why
-Refuses bytes fault.TooMany = (front : List Line) × (more : List (List ℕ)) × (rest : List (List (List ℕ))) × BeginsWith bytes front (more ∷ rest)
-    × (length front ≡ 65535)
+Refuses bytes (fault.Malformed at why) = IsMalformed record_of IsLine HasCause bytes at why
+Refuses bytes fault.TooMany = HasTooMany record_of IsLine bytes
 Refuses bytes fault.NoMemory = ⊤

@@ -1,5 +1,6 @@
 pub mod Line
 pub mod Numbers
+pub mod RecordFiles
 pub mod JobGrammar
 pub mod JobValue
 pub mod GoodLines

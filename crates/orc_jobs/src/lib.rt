@@ -10,6 +10,7 @@ mod lines;
 mod number;
 mod read;
 mod record;
+mod record_fields;
 mod text;
 mod value;
 
@@ -19,6 +20,8 @@ pub use generated_text::{generated_lines_are_read, lines_text};
 pub use laws::{records_are_determined, values_are_determined};
 pub use line::{Job, Line};
 pub use lines::{Lines, MOST_BYTES};
+pub use number::number_of;
 pub use read::read_jobs;
+pub use record_fields::{field_of, is_text, is_word};
 pub use text::Text;
 pub use value::job_value;

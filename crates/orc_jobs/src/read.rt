@@ -1,7 +1,8 @@
 ghost use Rattle.std.specs.Prelude.{◌≡◌, ◌≤◌, ◌⊎◌, List, ℕ, IfErr, IfOk, MatchResult, OnOk, length};
 ghost use Rattle.orc_jobs.specs.GoodLines.{AreGood};
-ghost use Rattle.orc_jobs.specs.JobGrammar.{IsFileOf, Refuses};
-ghost use Rattle.orc_jobs.specs.OneRecord.{RefusesRecord, TakesRecord};
+ghost use Rattle.orc_jobs.specs.JobGrammar.{IsFileOf, IsLine, Refuses, record_of};
+ghost use Rattle.orc_jobs.specs.OneRecord.{RefusesRecord};
+ghost use Rattle.orc_jobs.specs.RecordFiles.{TakesRecord};
 ghost use Rattle.csv.specs.Records.{fields_of};
 ghost use Rattle.csv.specs.Reading.{NotLengths, error_kind};
 ghost use Rattle.orc_jobs.specs.declared.cause.Cause.{Cause};
@@ -70,7 +71,7 @@ fn fault_of(error: Error) -> JobsFault
 // Appends the line of a record, where there is room for one more.
 fn take_record(alloc: Global, row: &ByteRecord, lines: &mut Lines) -> Result<(), JobsFault>
     requires { length lines.old ≤ 65535 }
-    ensures ok { OnOk result (TakesRecord lines.old lines.new (fields_of row.now)) }
+    ensures ok { OnOk result (TakesRecord record_of IsLine lines.old lines.new (fields_of row.now)) }
     ensures err { IfErr result (RefusesRecord lines.old (fields_of row.now)) }
 {
     let place = lines.len();

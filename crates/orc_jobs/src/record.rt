@@ -1,15 +1,14 @@
-ghost use Rattle.std.specs.Prelude.{◌≡◌, ◌≢◌, ◌↔◌, All, IfErr, IfNone, IfOk, IfSome, IsTrue, IsUtf8, true, false};
+ghost use Rattle.std.specs.Prelude.{◌≡◌, IfErr, IfNone, IfOk, IfSome};
 ghost use Rattle.csv.specs.Records.{fields_of};
-ghost use Rattle.orc_jobs.specs.JobGrammar.{IsLine, IsOpWord, field, record_of, word_of};
+ghost use Rattle.orc_jobs.specs.JobGrammar.{IsLine, IsOpWord, record_of, word_of};
 ghost use Rattle.orc_jobs.specs.OneRecord.{Explains};
 ghost use Rattle.orc_jobs.specs.declared.record.RecordRefused.TheVariants.{NoMemory as Refused};
 
-use crate::number::{is_number_list, number_of};
-use crate::{Cause, Job, Line, Text};
+use crate::number::is_number_list;
+use crate::{Cause, Job, Line, Text, field_of, is_text, is_word, number_of};
 use csv::ByteRecord;
 use orc_fault::NoMemory;
 use std::alloc::Global;
-use std::str;
 
 /// Why a record gives no line.
 #[derive(Clone, Copy, Debug, PartialEq, Eq, Drop)]
@@ -78,42 +77,5 @@ fn op_of(word: &[u8]) -> Option<Job>
         Some(Job::Sum)
     } else {
         None
-    }
-}
-
-// Whether each field is UTF-8.
-fn is_text(row: &ByteRecord) -> bool
-    ensures { IsTrue result ↔ All IsUtf8 (fields_of row.now) }
-{
-    for place in 0..row.len() {
-        if !is_utf8(field_of(row, place)) {
-            return false;
-        }
-    }
-    true
-}
-
-fn is_utf8(field: &[u8]) -> bool
-    ensures text { result ≡ true → IsUtf8 field.now }
-    ensures other { result ≡ false → ¬ IsUtf8 field.now }
-{
-    str::from_utf8(field).is_ok()
-}
-
-// Whether a field is this word.
-fn is_word(text: &[u8], word: &[u8]) -> bool
-    ensures same { result ≡ true → text.now ≡ word.now }
-    ensures other { result ≡ false → text.now ≢ word.now }
-{
-    text == word
-}
-
-// A field of a record, or nothing past its end.
-fn field_of(row: &ByteRecord, place: usize) -> &[u8]
-    ensures { result.now ≡ field (fields_of row.now) place }
-{
-    match row.get(place) {
-        Some(text) => text,
-        None => b"",
     }
 }

@@ -1,5 +1,5 @@
 use Rattle.orc_jobs.proofs.Fields.{field-none, field-some}
-use Rattle.orc_jobs.proofs.record.field_of.Goals as goal
+use Rattle.orc_jobs.proofs.record_fields.field_of.Goals as goal
 
 pub returns-in-Some : goal.returns-in-Some
 returns-in-Some c = field-some _ _ _ c.in-Some.ensures.value

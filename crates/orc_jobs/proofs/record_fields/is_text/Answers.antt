@@ -1,8 +1,8 @@
 use Rattle.std.proofs.Common.{◌<◌, IsUtf8, [], below_more, length, refl, rules}
 use Rattle.std.proofs.lemmas.List.Elements.{All-from_get_or}
 use Rattle.csv.specs.Records.{fields_of}
-use Rattle.orc_jobs.specs.JobGrammar.{field}
-use Rattle.orc_jobs.proofs.record.is_text.Goals as goal
+use Rattle.orc_jobs.specs.RecordFiles.{field}
+use Rattle.orc_jobs.proofs.record_fields.is_text.Goals as goal
 
 pub returns-then-not-is_utf8 : goal.returns-then-not-is_utf8
 returns-then-not-is_utf8 c =
