@@ -23,7 +23,8 @@ use Rattle.orc_heap.specs.declared.events.Place.TheVariants.{Root}
 use Rattle.orc_history.specs.declared.set.SetEntry.{SetEntry}
 use Rattle.orc_history.specs.declared.set.SetEntry.TheVariants.{Added}
 use Rattle.orc_ordered_chains.specs.Chains.{IsRun, link_over}
-use Rattle.orc_chain_rule.specs.ChainDiscipline.{ChainHolds, ChainMay, FollowsOn, IsAbove, entries_of}
+use Rattle.orc_heap.proofs.OwnEntries.{noted-append}
+use Rattle.orc_chain_rule.specs.ChainDiscipline.{ChainHolds, ChainMay, FollowsOn, IsAbove, entries_in, entries_of}
 use Rattle.orc_chain_rule.specs.Watches.{node_to_add}
 use Rattle.orc_chain_rule.specs.declared.chain.ChainNote.{ChainNote}
 use Rattle.orc_ordered_search.specs.Inserts.{count_of, slots_with}
@@ -35,10 +36,11 @@ use Rattle.orc_ordered_search.specs.Searches.{first_or, place_at, target_at}
 use Rattle.orc_list.specs.Turns.{Answers, Made, Tires}
 use Rattle.orc_list.specs.declared.insert.InsertTurn.{InsertTurn}
 use Rattle.orc_list.specs.declared.insert.InsertTurn.TheVariants.{Answered, NoNode, Over, Spent}
-use Rattle.orc_list.proofs.Answering.{from_is, place_of_hand, target_is, target_of_hand}
+use Rattle.orc_ordered_search.proofs.Entering.{from_is, place_of_hand, target_is, target_of_hand}
 use Rattle.orc_ordered_search.proofs.Held.{absent_hand, first_held, first_linked, in_hand_on, left_linked, right_linked, second_held, third_held, three_hands}
 use Rattle.orc_ordered_search.proofs.Linking.{holds_on, loads_leave}
-use Rattle.orc_list.proofs.Making.{entries_of-append, made_on, missed, over_on}
+use Rattle.orc_list.proofs.Making.{made_on, over_on}
+use Rattle.orc_ordered_search.proofs.Making.{missed}
 use Rattle.orc_ordered_search.proofs.Quiets.{above_puts, below_puts, leads_puts, left_place_linked, run_puts, shows_on}
 use Rattle.orc_list.proofs.Passing.{adds_right as adds_later, leaves_on}
 use Rattle.orc_ordered_search.proofs.Seen.{absent_few, covers_left, ends_left, few_more, sees_left}
@@ -52,7 +54,7 @@ made_since : (given : ℕ) (s t u : Seat ChainNote) (own ys : List (Event ChainN
     → Made given 1 s (own ++ ys) es u
 made_since given s t u own ys es p none gives few q entries no_give short = record {
   puts = Puts-trans s t u own ys p q;
-  entries_are = entries_of-append own ys ∙ rw none entries;
+  entries_are = noted-append entries_in own ys ∙ rw none entries;
   gives = omega (arith, gives_in-append own ys, gives, no_give);
   few = λ ids c. omega (arith, few ids (covers_left ids own ys c), length-append own ys, short);
 }
@@ -81,7 +83,7 @@ module _ {n : HeapNumbers} {root key : ℕ} {left first right : Option Hold} {no
 
   pub adds_link : link_over (target_at t.slots (first_or first right)) ≡ a.leads.from
   adds_link = ap link_over (target_is slots t.slots first right a.first_id a.right_id (hand right a.right_id ∷ []) [] a.hands.held.1.0 a.hands.held.1.1.0)
-      ∙ sym (from_is n root key left first a.left_id a.first_id (node_of right a.right_id) s a.own t a.puts.part a.leads)
+      ∙ sym (from_is (list_ordering n) (Root root) key left first a.left_id a.first_id (node_of right a.right_id) s a.own t a.puts.part a.leads)
 
   pub adds_below : FollowsOn n.roots (heap_of n t) (place_at t.slots root left) key
   adds_below = subst (λ (p : Place). FollowsOn n.roots (heap_of n t) p key) (sym adds_place) a.leads.below
@@ -175,7 +177,7 @@ module _ {n : HeapNumbers} {root key : ℕ} {left first right : Option Hold} {no
       (omega arith) in
       let still = shows_on (list_ordering n) t l.mid (aim ∷ []) l.aims all_mid s a.own (a.own ++ aim ∷ []) a.puts p place from a.some
       (left_place_linked (list_ordering n) t place key a.leads.below) a.leads.still in
-      let moved = missed n s l.mid u (a.own ++ aim ∷ []) (a.own ++ ys) place from p (omega (arith, length-append a.own (aim ∷ []))) still
+      let moved = missed (list_ordering n) s l.mid u (a.own ++ aim ∷ []) (a.own ++ ys) place from p (omega (arith, length-append a.own (aim ∷ []))) still
       (left_place_linked (list_ordering n) l.mid place key (below_puts (list_ordering n) t l.mid (aim ∷ []) l.aims all_mid place key a.leads.below)) miss
       all_u made.puts in
       let no_move : moves_in (a.own ++ ys) ≡ 0 = omega (arith, moves_in-append a.own ys, a.no_move) in
@@ -280,7 +282,7 @@ module _ {n : HeapNumbers} {root key : ℕ} {left first right : Option Hold} {s 
         own = f.own ++ ys;
         puts = w;
         some = omega (arith, q.some, length-append f.own ys);
-        no_entries = entries_of-append f.own ys ∙ rw q.no_entries refl;
+        no_entries = noted-append entries_in f.own ys ∙ rw q.no_entries refl;
         gives = omega (arith, gives_in-append f.own ys, q.no_give);
         no_move = omega (arith, moves_in-append f.own ys, q.no_move);
         few = few_more 2 5 f.own ys (absent_few (list_reading n) (Root root) key 0 left first right s t f) (omega arith);

@@ -1,34 +1,24 @@
 -- What the pass did in a turn, one piece after another.
-use Rattle.std.proofs.Common.{List, None, [], append-nil, arith, inl, inr, length, length-append, refl, subst, sym, ℕ, ◌*◌, ◌++◌, ◌+◌, ◌∙◌, ◌∷◌, ◌≡◌, ◌≤◌}
+use Rattle.std.proofs.Common.{List, [], append-nil, arith, length, length-append, refl, subst, sym, ℕ, ◌*◌, ◌++◌, ◌+◌, ◌∙◌, ◌≡◌, ◌≤◌}
 use Rattle.orc_heap.proofs.Calls.{Puts-trans}
-use Rattle.orc_heap.proofs.Moments.{miss_moved}
 use Rattle.orc_heap.proofs.Moved.{gives_in-append, moves_in-append}
 use Rattle.orc_heap.proofs.OwnEntries.{noted-append}
-use Rattle.orc_heap.proofs.OwnParts.{from_own-begun, moves_from_own-append}
+use Rattle.orc_heap.proofs.OwnParts.{moves_from_own-append}
 use Rattle.orc_heap.proofs.Pieces.{new_is, own_moves_left, puts_released}
 use Rattle.std.proofs.Math.Nat.{suc-mul}
-use Rattle.orc_heap.specs.Allowed.{AllAllowed}
-use Rattle.orc_heap.specs.Calls.{Misses, event_of}
 use Rattle.orc_heap.specs.Heap.{HeapNumbers}
-use Rattle.orc_heap.specs.Moves.{IsLinkedPlace, ShowsOrMoved, from_own, gives_in, moves_in}
+use Rattle.orc_heap.specs.Moves.{from_own, gives_in, moves_in}
 use Rattle.orc_heap.specs.OwnEvents.{Puts}
-use Rattle.orc_heap.specs.Seats.{Seat, heap_of}
-use Rattle.orc_heap.specs.declared.events.Act.TheVariants.{Miss}
+use Rattle.orc_heap.specs.Seats.{Seat}
 use Rattle.orc_heap.specs.declared.events.Event.{Event}
-use Rattle.orc_heap.specs.declared.events.Link.{Link}
-use Rattle.orc_heap.specs.declared.events.Place.{Place}
 use Rattle.orc_history.specs.declared.set.SetEntry.{SetEntry}
 use Rattle.orc_chain_rule.specs.declared.chain.ChainNote.{ChainNote}
-use Rattle.orc_chain_rule.specs.ChainDiscipline.{ChainMay, entries_in, entries_of}
+use Rattle.orc_chain_rule.specs.ChainDiscipline.{entries_in, entries_of}
 use Rattle.orc_ordered_search.specs.Ways.{IsFew}
 use Rattle.orc_ordered_search.specs.Searches.{Quiet}
 use Rattle.orc_list.specs.Searches.{FindsMoved, list_reading}
 use Rattle.orc_list.specs.Turns.{AreFew, AreOver, Made, Tires}
 use Rattle.orc_ordered_search.proofs.Seen.{covers_left, covers_right}
-
--- the entries of events, one after another
-pub entries_of-append : (es fs : List (Event ChainNote)) → entries_of (es ++ fs) ≡ entries_of es ++ entries_of fs
-entries_of-append es fs = noted-append entries_in es fs
 
 -- what a search did, and more
 pub made_after : (n : HeapNumbers) (given : ℕ) (s t u : Seat ChainNote) (own ys : List (Event ChainNote)) (es : List SetEntry)
@@ -37,7 +27,7 @@ pub made_after : (n : HeapNumbers) (given : ℕ) (s t u : Seat ChainNote) (own y
     → Made given 1 s (own ++ ys) es u
 made_after n given s t u own ys es q few p entries gives short = record {
   puts = Puts-trans s t u own ys q.puts p;
-  entries_are = entries_of-append own ys ∙ rw q.no_entries entries;
+  entries_are = noted-append entries_in own ys ∙ rw q.no_entries entries;
   gives = omega (arith, gives_in-append own ys, q.no_give, gives);
   few = λ ids c. omega (arith, few ids (covers_left ids own ys c), length-append own ys, short);
 }
@@ -66,19 +56,6 @@ found_over n s t (f, few) = record {
   fresh = f.quiet.fresh;
 }
 
--- a Miss of a link that the place had shown in this turn: a Move stands after an own event
-pub missed : (n : HeapNumbers) (s t u : Seat ChainNote) (own zs : List (Event ChainNote)) (place : Place) (link : Link) (p : Puts s own t) → 1 ≤ length own
-    → ShowsOrMoved n place link s t p.part → IsLinkedPlace place (heap_of n t)
-    → Misses place link t u → AllAllowed (ChainMay n) [] u.seen → (w : Puts s zs u) → 1 ≤ moves_in (from_own s.agent w.part)
-missed n s t u own zs place link p some still linked m all w = elim still [
-  | inl shows ↦
-      let e : Event ChainNote = event_of t (Miss place link m.found) None in
-      let moved = miss_moved n (ChainMay n) (λ es x k. k.fits) t u place link m.found [] e [] m.puts refl all linked m.other shows in
-      let begun = from_own-begun s.agent p.part m.puts.part (rw p.own_is some) in
-      rw (new_is s t u own (e ∷ []) zs p m.puts w, begun) (omega (arith, moved, moves_in-append (from_own s.agent p.part) m.puts.part))
-  | inr before ↦ omega (arith, before, own_moves_left s t u own (event_of t (Miss place link m.found) None ∷ []) zs p m.puts w)
-]
-
 -- one turn after another
 
 pub few_next : (turns more one two : ℕ) (es fs : List (Event ChainNote)) → AreFew turns one es → AreFew 1 two fs → one + two ≤ more
@@ -103,7 +80,7 @@ pub made_next : (one two turns : ℕ) (s t u : Seat ChainNote) (own ys : List (E
     → Made two 1 t ys es u → Made (one + two) (turns + 1) s (own ++ ys) es u
 made_next one two turns s t u own ys es o m = record {
   puts = Puts-trans s t u own ys o.made.puts m.puts;
-  entries_are = entries_of-append own ys ∙ rw o.made.entries_are m.entries_are;
+  entries_are = noted-append entries_in own ys ∙ rw o.made.entries_are m.entries_are;
   gives = omega (arith, gives_in-append own ys, o.made.gives, m.gives);
   few = few_next turns (3 * (one + two)) (3 * one) (3 * two) own ys o.made.few m.few (omega arith);
 }

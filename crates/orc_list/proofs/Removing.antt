@@ -42,9 +42,11 @@ use Rattle.orc_ordered_search.specs.Ways.{IsFew}
 use Rattle.orc_ordered_search.specs.Searches.{first_or, place_at, target_at}
 use Rattle.orc_list.specs.Stops.{MarkStops}
 use Rattle.orc_list.specs.Turns.{HasManyLinks, LeavesOff, Made, Marks, StopsBefore, TakesOut, Tires, TriesUnlink}
-use Rattle.orc_list.proofs.Answering.{from_is, head_of, place_of_hand, reads_node, target_is}
+use Rattle.orc_list.proofs.Answering.{reads_node}
+use Rattle.orc_ordered_search.proofs.Entering.{from_is, head_of, place_of_hand, target_is}
 use Rattle.orc_ordered_search.proofs.Held.{first_held, in_hand_on, present_hand, second_held}
-use Rattle.orc_list.proofs.Making.{made_after, made_on, missed, over_on}
+use Rattle.orc_list.proofs.Making.{made_after, made_on, over_on}
+use Rattle.orc_ordered_search.proofs.Making.{missed}
 use Rattle.orc_ordered_search.proofs.Quiets.{below_puts, next_puts, run_puts}
 use Rattle.orc_ordered_search.proofs.Seen.{loads-append, present_few, sees_left, sees_run_left}
 use Rattle.orc_ordered_search.proofs.Stepping.{run_snoc}
@@ -182,7 +184,7 @@ module _ {n : HeapNumbers} {root key : ℕ} {left first : Option Hold} {node : H
       record {
         others = others;
         over_is = is;
-        from_is = from_is n root key left first f.left_id f.first_id (Some f.id) s f.own t f.behind.quiet.puts.part l ∙ ap link_over
+        from_is = from_is (list_ordering n) (Root root) key left first f.left_id f.first_id (Some f.id) s f.own t f.behind.quiet.puts.part l ∙ ap link_over
             (head_is first f.first_id f.id);
       }
 
@@ -300,7 +302,7 @@ module _ {n : HeapNumbers} {root key : ℕ} {left first : Option Hold} {node : H
       let from : Link = link_over to in
       let q = f.behind.quiet in
       let made = made_after n 0 s t u f.own _ [] q few m.puts.puts refl refl (omega arith) in
-      let moved = missed n s t u f.own _ (Next f.id) from q.puts q.some f.still (key_linked (heap_of n t) f.id key f.is_of.has_key) m.puts all made.puts in
+      let moved = missed (list_ordering n) s t u f.own _ (Next f.id) from q.puts q.some f.still (key_linked (heap_of n t) f.id key f.is_of.has_key) m.puts all made.puts in
       let still : moves_in (f.own ++ event_of t (Miss (Next f.id) from m.puts.found) None ∷ []) ≡ 0 = omega
       (arith, moves_in-append f.own (event_of t (Miss (Next f.id) from m.puts.found) None ∷ []), q.no_move) in
       record {
@@ -352,7 +354,7 @@ module _ {n : HeapNumbers} {root key : ℕ} {left first : Option Hold} {node : H
       let miss : Event ChainNote = event_of t (Miss (Next f.id) (link_over to) m.puts.found) None in
       let tried = made_after n 0 s t u f.own (miss ∷ []) [] q few m.puts.puts refl refl (omega arith) in
       let made = made_on 0 1 s u y (f.own ++ miss ∷ []) [] tried g.puts in
-      let moved = missed n s t u f.own _ (Next f.id) from q.puts q.some f.still (key_linked (heap_of n t) f.id key f.is_of.has_key) m.puts all tried.puts in
+      let moved = missed (list_ordering n) s t u f.own _ (Next f.id) from q.puts q.some f.still (key_linked (heap_of n t) f.id key f.is_of.has_key) m.puts all tried.puts in
       let still : moves_in (f.own ++ miss ∷ []) ≡ 0 = omega (arith, moves_in-append f.own (miss ∷ []), q.no_move) in
       record {
         own = f.own ++ miss ∷ [];

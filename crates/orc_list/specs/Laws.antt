@@ -1,2 +1,3 @@
 -- Proofs of the laws that sets over chains owe to their traits.
+pub mod Ordered
 pub mod SetLaws

@@ -9,13 +9,13 @@ ghost use Rattle.orc_ordered_search.specs.Searches.{HasRoom};
 ghost use Rattle.orc_list.specs.Searches.{FindsAbsent, FindsPresent};
 ghost use Rattle.orc_list.specs.Turns.{AsksTurn, Enters, IsAbsence, IsPresence};
 
-use crate::search::{Searched, search};
-use crate::spot::{Spot, let_all_go};
+use crate::key::Key;
+use crate::search::search;
 use orc_chain_rule::{Chain, ChainNote};
 use orc_fault::Again;
 use orc_heap::{At, Held, Links};
 use orc_history::SetEntry;
-use orc_ordered_search::{link_of, link_to, place_of};
+use orc_ordered_search::{Searched, let_all_go, link_of, link_to, place_of};
 
 // Enters an answer that rests on the key's absence, if the left place still shows its link.
 pub(crate) fn enter_absent<L: Links<Rule = Chain>>(
@@ -23,26 +23,27 @@ pub(crate) fn enter_absent<L: Links<Rule = Chain>>(
     p: &mut L::Pass,
     root: u32,
     key: u64,
-    spot: Spot,
+    left: Option<Held>,
+    first: Option<Held>,
+    right: Option<Held>,
     entry: SetEntry,
 ) -> bool
     requires pass { L.belongs links.now p.old }
     requires root { (root < (L.numbers links.now).roots) × (root ≡ key % (L.numbers links.now).roots) }
     requires entry { IsAbsence (L.seat links.now p.old).agent key entry }
-    requires absent { (s : Seat ChainNote) × FindsAbsent (L.numbers links.now) root key spot.left spot.first spot.right s (L.seat links.now p.old) }
+    requires absent { (s : Seat ChainNote) × FindsAbsent (L.numbers links.now) root key left first right s (L.seat links.now p.old) }
     ensures pass { L.belongs links.now p.new }
     ensures later { IsPrefix (L.journal p.old) (L.journal p.new) }
-    ensures entered { (s : Seat ChainNote) → FindsAbsent (L.numbers links.now) root key spot.left spot.first spot.right s (L.seat links.now p.old)
+    ensures entered { (s : Seat ChainNote) → FindsAbsent (L.numbers links.now) root key left first right s (L.seat links.now p.old)
         → Enters entry s result (L.seat links.now p.new) }
 {
-    let Spot { left, first, right } = spot;
     let entered = links.same(
         p,
         &place_of(root, &left),
         &link_of(&first, &right),
         Some(ChainNote::Entry(entry)),
     );
-    let_all_go(links, p, left, first, right, None);
+    let_all_go::<Key, L>(links, p, left, first, right, None);
     entered
 }
 
@@ -72,7 +73,7 @@ pub(crate) fn enter_present<L: Links<Rule = Chain>>(
         &link_to(&next, false),
         Some(ChainNote::Entry(entry)),
     );
-    let_all_go(links, p, left, first, Some(node), next);
+    let_all_go::<Key, L>(links, p, left, first, Some(node), next);
     entered
 }
 
@@ -88,10 +89,15 @@ fn ask_turn<L: Links<Rule = Chain>>(links: &L, p: &mut L::Pass, root: u32, key: 
     let agent = links.agent(p);
     match search(links, p, root, key) {
         Searched::Over => None,
-        Searched::Absent(spot) => {
+        Searched::Absent {
+            left,
+            first,
+            right,
+            passed: _,
+        } => {
             let yes = false;
             let entry = SetEntry::Asked { agent, key, yes };
-            if enter_absent(links, p, root, key, spot, entry) {
+            if enter_absent(links, p, root, key, left, first, right, entry) {
                 Some(false)
             } else {
                 None
@@ -102,6 +108,7 @@ fn ask_turn<L: Links<Rule = Chain>>(links: &L, p: &mut L::Pass, root: u32, key: 
             first,
             node,
             next,
+            passed: _,
         } => {
             let yes = true;
             let entry = SetEntry::Asked { agent, key, yes };

@@ -18,13 +18,13 @@ ghost use Rattle.orc_ordered_search.specs.Searches.{HoldsIfAny, first_or, place_
 ghost use Rattle.orc_list.specs.Searches.{FindsAbsent};
 
 use crate::answer::enter_present;
-use crate::search::{Searched, search};
-use crate::spot::{Spot, let_all_go};
+use crate::key::Key;
+use crate::search::search;
 use orc_chain_rule::{Chain, ChainNote};
 use orc_fault::Spent;
 use orc_heap::{Held, Links, Want};
 use orc_history::{ListRefused, SetEntry};
-use orc_ordered_search::{let_go, link_of, place_of};
+use orc_ordered_search::{Searched, let_all_go, let_go, link_of, place_of};
 
 /// How a turn of an insert ended.
 #[derive(Clone, Copy, Debug, PartialEq, Eq)]
@@ -100,24 +100,25 @@ fn add_node<L: Links<Rule = Chain>>(
     p: &mut L::Pass,
     root: u32,
     key: u64,
-    spot: Spot,
+    left: Option<Held>,
+    first: Option<Held>,
+    right: Option<Held>,
     node: &Held,
 ) -> InsertTurn
     requires pass { L.belongs links.now p.old }
     requires root { root < (L.numbers links.now).roots }
     requires adds { (given : ℕ) × (slots : Slots) × (s : Seat ChainNote)
-        × AddsAt (L.numbers links.now) root key spot.left spot.first spot.right node.now given slots s (L.seat links.now p.old) }
+        × AddsAt (L.numbers links.now) root key left first right node.now given slots s (L.seat links.now p.old) }
     ensures pass { L.belongs links.now p.new }
     ensures later { IsPrefix (L.journal p.old) (L.journal p.new) }
     ensures added { (given : ℕ) (slots : Slots) (s : Seat ChainNote)
-        → (a : AddsAt (L.numbers links.now) root key spot.left spot.first spot.right node.now given slots s (L.seat links.now p.old))
+        → (a : AddsAt (L.numbers links.now) root key left first right node.now given slots s (L.seat links.now p.old))
         → AddsNode (L.numbers links.now) key node.now a.id given slots s result (L.seat links.now p.new) }
     ensures worn { (why : Spent) → result ≡ InsertTurn.Spent why → Within (length (L.journal p.old)) (length (L.journal p.new)) (L.worn links.now
         (L.seat links.now p.old).agent why (L.journal p.new)) }
 {
-    let Spot { left, first, right } = spot;
     let linked = link_node(links, p, root, key, &left, &first, &right, node);
-    let_all_go(links, p, left, first, right, None);
+    let_all_go::<Key, L>(links, p, left, first, right, None);
     match linked {
         Ok(true) => InsertTurn::Answered(true),
         Ok(false) => InsertTurn::Over,
@@ -131,17 +132,19 @@ fn add_at<L: Links<Rule = Chain>>(
     p: &mut L::Pass,
     root: u32,
     key: u64,
-    spot: Spot,
+    left: Option<Held>,
+    first: Option<Held>,
+    right: Option<Held>,
     node: Option<Held>,
 ) -> (InsertTurn, Option<Held>)
     requires pass { L.belongs links.now p.old }
     requires root { (root < (L.numbers links.now).roots) × (root ≡ key % (L.numbers links.now).roots) }
     requires absent { (slots : Slots) × (s : Seat ChainNote) × HasRoomFor slots × KeepsNode (L.numbers links.now) key node slots s
-        × FindsAbsent (L.numbers links.now) root key spot.left spot.first spot.right s (L.seat links.now p.old) }
+        × FindsAbsent (L.numbers links.now) root key left first right s (L.seat links.now p.old) }
     ensures pass { L.belongs links.now p.new }
     ensures later { IsPrefix (L.journal p.old) (L.journal p.new) }
     ensures added { (slots : Slots) (s : Seat ChainNote) → HasRoomFor slots → KeepsNode (L.numbers links.now) key node slots s
-        → FindsAbsent (L.numbers links.now) root key spot.left spot.first spot.right s (L.seat links.now p.old)
+        → FindsAbsent (L.numbers links.now) root key left first right s (L.seat links.now p.old)
         → Inserts (L.numbers links.now) key 1 slots node s result.0 result.1 (L.seat links.now p.new) }
     ensures lacking { result.0 ≡ InsertTurn.NoNode → Within (length (L.journal p.old)) (length (L.journal p.new)) (L.lacking links.now
         (L.seat links.now p.old).agent (L.journal p.new)) }
@@ -149,17 +152,16 @@ fn add_at<L: Links<Rule = Chain>>(
         → Within (length (L.journal p.old)) (length (L.journal p.new)) (L.worn links.now (L.seat links.now p.old).agent why (L.journal p.new)) }
 {
     if let Some(node) = node {
-        let turn = add_node(links, p, root, key, spot, &node);
+        let turn = add_node(links, p, root, key, left, first, right, &node);
         return (turn, Some(node));
     }
     match links.give(p, 1, key, 0) {
         Ok(node) => {
-            let turn = add_node(links, p, root, key, spot, &node);
+            let turn = add_node(links, p, root, key, left, first, right, &node);
             (turn, Some(node))
         }
         Err(_) => {
-            let Spot { left, first, right } = spot;
-            let_all_go(links, p, left, first, right, None);
+            let_all_go::<Key, L>(links, p, left, first, right, None);
             (InsertTurn::NoNode, None)
         }
     }
@@ -188,12 +190,18 @@ fn insert_turn<L: Links<Rule = Chain>>(
 {
     match search(links, p, root, key) {
         Searched::Over => (InsertTurn::Over, node),
-        Searched::Absent(spot) => add_at(links, p, root, key, spot, node),
+        Searched::Absent {
+            left,
+            first,
+            right,
+            passed: _,
+        } => add_at(links, p, root, key, left, first, right, node),
         Searched::Present {
             left,
             first,
             node: found,
             next,
+            passed: _,
         } => {
             let agent = links.agent(p);
             let yes = false;

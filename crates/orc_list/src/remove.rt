@@ -15,13 +15,13 @@ ghost use Rattle.orc_list.specs.Stops.{MarkStops};
 ghost use Rattle.orc_list.specs.Turns.{Marks, RemovesNode, RemovesTurn, TriesUnlink};
 
 use crate::answer::enter_absent;
-use crate::search::{Searched, search};
-use crate::spot::{Spot, let_all_go};
+use crate::key::Key;
+use crate::search::search;
 use orc_chain_rule::{Chain, ChainNote};
 use orc_fault::Again;
 use orc_heap::{At, Held, Links, Want};
 use orc_history::SetEntry;
-use orc_ordered_search::{link_to, node_or, place_of};
+use orc_ordered_search::{Searched, let_all_go, link_to, node_or, place_of};
 
 // Marks the link of the node with the key. A swing that changes the mark alone is never refused.
 fn mark_node<L: Links<Rule = Chain>>(
@@ -112,11 +112,11 @@ fn take_out<L: Links<Rule = Chain>>(
         (L.seat links.now p.new) }
 {
     if !mark_node(links, p, key, &node, &next) {
-        let_all_go(links, p, left, first, Some(node), next);
+        let_all_go::<Key, L>(links, p, left, first, Some(node), next);
         return false;
     }
     unlink_run(links, p, root, &left, node_or(&first, &node), &next);
-    let_all_go(links, p, left, first, Some(node), next);
+    let_all_go::<Key, L>(links, p, left, first, Some(node), next);
     true
 }
 
@@ -139,10 +139,15 @@ fn remove_turn<L: Links<Rule = Chain>>(
     let agent = links.agent(p);
     match search(links, p, root, key) {
         Searched::Over => None,
-        Searched::Absent(spot) => {
+        Searched::Absent {
+            left,
+            first,
+            right,
+            passed: _,
+        } => {
             let yes = false;
             let entry = SetEntry::Removed { agent, key, yes };
-            if enter_absent(links, p, root, key, spot, entry) {
+            if enter_absent(links, p, root, key, left, first, right, entry) {
                 Some(false)
             } else {
                 None
@@ -153,6 +158,7 @@ fn remove_turn<L: Links<Rule = Chain>>(
             first,
             node,
             next,
+            passed: _,
         } => {
             if take_out(links, p, root, key, left, first, node, next) {
                 Some(true)
@@ -208,7 +214,7 @@ fn mark_and_go<L: Links<Rule = Chain>>(
         → MarkStops (L.numbers links.now) key s result (L.seat links.now p.new) }
 {
     let marked = mark_node(links, p, key, &node, &next);
-    let_all_go(links, p, left, first, Some(node), next);
+    let_all_go::<Key, L>(links, p, left, first, Some(node), next);
     marked
 }
 
@@ -228,8 +234,13 @@ pub(crate) fn stop_a_remove<L: Links<Rule = Chain>>(
 {
     match search(links, p, root, key) {
         Searched::Over => false,
-        Searched::Absent(Spot { left, first, right }) => {
-            let_all_go(links, p, left, first, right, None);
+        Searched::Absent {
+            left,
+            first,
+            right,
+            passed: _,
+        } => {
+            let_all_go::<Key, L>(links, p, left, first, right, None);
             false
         }
         Searched::Present {
@@ -237,6 +248,7 @@ pub(crate) fn stop_a_remove<L: Links<Rule = Chain>>(
             first,
             node,
             next,
+            passed: _,
         } => mark_and_go(links, p, root, key, left, first, node, next),
     }
 }

@@ -101,7 +101,7 @@ module _ {N : Type 0} (ord : Ordering N) (start : Place) (wanted value kind : �
   )
 
   pub adds_place : place_at t.slots (ord.reading.order.root wanted) left ≡ left_place (ord.reading.order.root wanted) left a.left_id
-  adds_place = place_of_hand slots t.slots (ord.reading.order.root wanted) left a.left_id (hand first a.first_id ∷ hand right a.right_id ∷ []) a.hands.held.0
+  adds_place = place_of_hand slots t.slots (ord.reading.order.root wanted) (ord.reading.order.root wanted) refl left a.left_id (hand first a.first_id ∷ hand right a.right_id ∷ []) a.hands.held.0
 
   pub adds_right : target_at t.slots right ≡ node_of right a.right_id
   adds_right = target_of_hand slots t.slots right a.right_id [] a.hands.held.1.1.0

@@ -25,7 +25,7 @@ allowed_lawful : {N : Type 0} (ord : Ordering N) (seen es : List (Event N)) → 
     → IsLawfulFrom (run_heap ord.reading.numbers seen) es
 allowed_lawful ord seen [] all = tt
 allowed_lawful {N} ord seen (e ∷ es) all = (
-  ord.fits seen e all.0,
+  ord.owes.fits seen e all.0,
   subst (λ (h : Heap). IsLawfulFrom h es) (run_heap-snoc ord.reading.numbers seen e) (allowed_lawful ord (seen ++ e ∷ []) es all.1),
 )
 

@@ -63,7 +63,7 @@ module _ {N S : Type 0} (ord : Ordering N) (agents : ℕ) (agent_of : S → ℕ)
         → Adds agent_of_set_entry (λ (a : ℕ). a < agents) s.agent (noted_entries ord.reading.entries_in (events j)) es (noted_entries ord.reading.entries_in (events m))
     call_adds own es p entries_are =
         let others = of_crowd s.agent agents p.part (below_right agents s.seen p.part (subst (λ z. IsBelow agents z) p.is below)) in
-        let a = entries_added ord.reading.entries_in agent_of_set_entry ord.may (λ es e may. ord.own es e may) (λ (x : ℕ). x < agents) s.agent s.seen p.part
+        let a = entries_added ord.reading.entries_in agent_of_set_entry ord.may (λ es e may. ord.owes.own es e may) (λ (x : ℕ). x < agents) s.agent s.seen p.part
         (part_allowed ord.may s u own p all) others in
         let mine : noted_entries ord.reading.entries_in (events_by s.agent p.part) ≡ es = ap (λ z. noted_entries ord.reading.entries_in z) p.own_is ∙ entries_are in
         subst (λ z. Adds agent_of_set_entry (λ (x : ℕ). x < agents) s.agent (noted_entries ord.reading.entries_in (events j)) es (noted_entries ord.reading.entries_in z)) (sym p.is ∙ is_u)

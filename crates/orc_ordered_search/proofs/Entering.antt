@@ -14,7 +14,7 @@ use Rattle.orc_heap.specs.declared.events.Act.TheVariants.{Look, Miss}
 use Rattle.orc_heap.specs.declared.events.Event.{Event}
 use Rattle.orc_heap.specs.declared.events.Link.{Link}
 use Rattle.orc_heap.specs.declared.events.Place.{Place}
-use Rattle.orc_heap.specs.declared.events.Place.TheVariants.{Next}
+use Rattle.orc_heap.specs.declared.events.Place.TheVariants.{Next, Root}
 use Rattle.orc_heap.specs.declared.holds.At.{At}
 use Rattle.orc_heap.specs.declared.holds.Want.{Want}
 use Rattle.orc_history.specs.declared.set.SetEntry.{SetEntry}
@@ -82,10 +82,10 @@ tested_hand {N} ord slots left first at next where_at want noted done t u tests 
 
 -- by what is in hand: the link that the left place showed
 
-pub place_of_hand : (before after : Slots) (root : ℕ) (o : Option Hold) (id : ℕ) (hs : List Hand) → IsHeldApart before after o id hs
-    → place_at after root o ≡ left_place root o id
-place_of_hand before after root None id hs k = refl
-place_of_hand before after root (Some h) id hs k = ap (λ (x : ℕ). Next x) (holds_of after h id k.0).1
+pub place_of_hand : (before after : Slots) (root of_rank : ℕ) → root ≡ of_rank → (o : Option Hold) (id : ℕ) (hs : List Hand)
+    → IsHeldApart before after o id hs → place_at after root o ≡ left_place of_rank o id
+place_of_hand before after root of_rank is None id hs k = ap (λ (x : ℕ). Root x) is
+place_of_hand before after root of_rank is (Some h) id hs k = ap (λ (x : ℕ). Next x) (holds_of after h id k.0).1
 
 pub target_of_hand : (before after : Slots) (o : Option Hold) (id : ℕ) (hs : List Hand) → IsHeldApart before after o id hs → target_at after o ≡ node_of o
     id

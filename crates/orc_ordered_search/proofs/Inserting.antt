@@ -95,7 +95,7 @@ keeps_answer r value kind node slots entry s t k a = (
 pub seen_holds : {N : Type 0} (ord : Ordering N) (s t : Seat N) (own : List (Event N)) → Puts s own t → AllAllowed ord.may [] t.seen → ord.holds s.seen
 seen_holds ord s t own p all =
     let whole : AllAllowed ord.may [] (s.seen ++ p.part) = subst (λ es. AllAllowed ord.may [] es) p.is all in
-    holds_later ord [] s.seen ord.begins (allowed-left ord.may [] s.seen p.part whole)
+    holds_later ord [] s.seen ord.owes.begins (allowed-left ord.may [] s.seen p.part whole)
 
 -- slots 2 to 5 are free beside the node
 pub has_room : {N : Type 0} (r : Reading N) (value kind : ℕ) (node : Option Hold) (slots : Slots) (s : Seat N) → HasRoomFor slots

@@ -6,6 +6,7 @@ pub mod Stepping
 pub mod Walking
 pub mod Running
 pub mod Starting
+pub mod Ranking
 pub mod Alone
 pub mod Making
 pub mod Tiring

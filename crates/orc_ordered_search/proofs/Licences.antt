@@ -68,6 +68,6 @@ learns {N} {S} ord events agent1 agent2 s1 s2 t1 j1 j2 k1 k2 one longer all1 all
         → own_of agent_of_set_entry agent (noted_entries ord.reading.entries_in (events k1)) ≡ own_of agent_of_set_entry agent (noted_entries ord.reading.entries_in (events j))
     own agent s j all_s is_j same =
         ap (λ z. own_of agent_of_set_entry agent (noted_entries ord.reading.entries_in z)) (sym is)
-        ∙ (own_of_events ord.reading.entries_in agent_of_set_entry ord.may (λ es e may. ord.own es e may) agent [] t1.seen all ∙
-        (ap (λ z. noted_entries ord.reading.entries_in z) same ∙ (sym (own_of_events ord.reading.entries_in agent_of_set_entry ord.may (λ es e may. ord.own es e may) agent [] s.seen all_s) ∙ ap
+        ∙ (own_of_events ord.reading.entries_in agent_of_set_entry ord.may (λ es e may. ord.owes.own es e may) agent [] t1.seen all ∙
+        (ap (λ z. noted_entries ord.reading.entries_in z) same ∙ (sym (own_of_events ord.reading.entries_in agent_of_set_entry ord.may (λ es e may. ord.owes.own es e may) agent [] s.seen all_s) ∙ ap
         (λ z. own_of agent_of_set_entry agent (noted_entries ord.reading.entries_in z)) is_j)))

@@ -85,7 +85,7 @@ pub node_after : {N : Type 0} (ord : Ordering N) (value kind : ℕ) (h : Hold) (
     → list_any (λ (e : Event N). points_to e.act id) own ≡ false
     → slice_get (heap_of ord.reading.numbers t).nodes id ≡ Some (touched_by id own (node_to_link s.agent value kind k.to))
 node_after ord value kind h id s t own k p holds all away =
-    (own_node_puts ord.reading.numbers ord.holds ord.may (λ es e a m. ord.keeps es e a m) (λ es e a m. ord.fits es e m) (λ es e a m. ord.moves es e a m)
+    (own_node_puts ord.reading.numbers ord.holds ord.may (λ es e a m. ord.owes.keeps es e a m) (λ es e a m. ord.owes.fits es e m) (λ es e a m. ord.owes.moves es e a m)
     s t own p holds all id (node_to_link s.agent value kind k.to)
     (record { there = k.node; own = record { mine = refl; unnamed = refl; unlinked = refl } }) away).there
 

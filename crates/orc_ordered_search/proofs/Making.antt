@@ -62,7 +62,7 @@ pub missed : {N : Type 0} (ord : Ordering N) (s t u : Seat N) (own zs : List (Ev
 missed {N} ord s t u own zs place link p some still linked m all w = elim still [
   | inl shows ↦
       let e : Event N = event_of t (Miss place link m.found) None in
-      let moved = miss_moved ord.reading.numbers ord.may ord.fits t u place link m.found [] e [] m.puts refl all linked m.other shows in
+      let moved = miss_moved ord.reading.numbers ord.may ord.owes.fits t u place link m.found [] e [] m.puts refl all linked m.other shows in
       let begun = from_own-begun s.agent p.part m.puts.part (rw p.own_is some) in
       rw (new_is s t u own (e ∷ []) zs p m.puts w, begun) (omega (arith, moved, moves_in-append (from_own s.agent p.part) m.puts.part))
   | inr before ↦ omega (arith, before, own_moves_left s t u own (event_of t (Miss place link m.found) None ∷ []) zs p m.puts w)

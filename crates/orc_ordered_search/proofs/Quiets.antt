@@ -28,15 +28,15 @@ use Rattle.orc_ordered_search.proofs.Seen.{counts_left, loads-append, sees_left,
 
 -- events without a note enter nothing
 pub silent_one : {N : Type 0} (x : Ordering N) (agent : ℕ) (act : Act) → noted_entries x.reading.entries_in (event_by agent act None ∷ []) ≡ []
-silent_one x agent act = rw x.silent refl
+silent_one x agent act = rw x.owes.silent refl
 
 pub silent_two : {N : Type 0} (x : Ordering N) (agent by : ℕ) (act other : Act)
     → noted_entries x.reading.entries_in (event_by agent act None ∷ event_by by other None ∷ []) ≡ []
-silent_two x agent by act other = rw x.silent refl
+silent_two x agent by act other = rw x.owes.silent refl
 
 pub silent_three : {N : Type 0} (x : Ordering N) (agent : ℕ) (one two three : Act)
     → noted_entries x.reading.entries_in (event_by agent one None ∷ event_by agent two None ∷ event_by agent three None ∷ []) ≡ []
-silent_three x agent one two three = rw x.silent refl
+silent_three x agent one two three = rw x.owes.silent refl
 
 -- a node of a kind that isn't counted stays one
 pub uncounted_later : {N : Type 0} (x : Ordering N) (seen more : List (Event N)) (id : ℕ) → IsUncounted x.reading (run_heap x.reading.numbers seen) id
@@ -44,7 +44,7 @@ pub uncounted_later : {N : Type 0} (x : Ordering N) (seen more : List (Event N))
 uncounted_later x seen more id u all =
     stays x.may (λ es. IsUncounted x.reading (run_heap x.reading.numbers es) id)
     (λ es e (l, is) may.
-    let (m, first, second) = (values_after e.agent e.act (run_heap x.reading.numbers es) (x.fits es e may)).stays id l in
+    let (m, first, second) = (values_after e.agent e.act (run_heap x.reading.numbers es) (x.owes.fits es e may)).stays id l in
     rw (run_heap-snoc x.reading.numbers es e) (
       m,
       ap (λ (o : Option ℕ). x.reading.counts o m.node.second) first
@@ -76,27 +76,27 @@ module _ {N : Type 0} (x : Ordering N) (t u : Seat N) (ys : List (Event N)) (q :
   new_allowed = part_allowed x.may t u ys q all
 
   pub linked_puts : (id : ℕ) → IsLinkedNode (heap_of x.reading.numbers t) id → IsLinkedNode (heap_of x.reading.numbers u) id
-  linked_puts id l = subst (λ es. IsLinkedNode (run_heap x.reading.numbers es) id) (sym q.is) (linked_later x.reading.order x.reading.numbers x.may x.fits x.marked t.seen q.part id l new_allowed)
+  linked_puts id l = subst (λ es. IsLinkedNode (run_heap x.reading.numbers es) id) (sym q.is) (linked_later x.reading.order x.reading.numbers x.may x.owes.fits x.owes.marked t.seen q.part id l new_allowed)
 
   pub linked_on : (o : Option Hold) (id : ℕ) → IsLinkedIfAny x.reading t o id → IsLinkedIfAny x.reading u o id
   linked_on None id l = tt
   linked_on (Some h) id l = linked_puts id l
 
   pub key_puts : (id key : ℕ) → HasRank x.reading.order (heap_of x.reading.numbers t) id key → HasRank x.reading.order (heap_of x.reading.numbers u) id key
-  key_puts id key k = subst (λ es. HasRank x.reading.order (run_heap x.reading.numbers es) id key) (sym q.is) (rank_later x.reading.order x.reading.numbers x.may x.fits x.marked t.seen q.part id key k new_allowed)
+  key_puts id key k = subst (λ es. HasRank x.reading.order (run_heap x.reading.numbers es) id key) (sym q.is) (rank_later x.reading.order x.reading.numbers x.may x.owes.fits x.owes.marked t.seen q.part id key k new_allowed)
 
   pub marked_puts : (id : ℕ) (link : Link) → HasLink (heap_of x.reading.numbers t) id link → link.mark ≡ true → HasLink (heap_of x.reading.numbers u) id link
-  marked_puts id link l mark = subst (λ es. HasLink (run_heap x.reading.numbers es) id link) (sym q.is) (marked_later x.reading.order x.reading.numbers x.may x.fits x.marked t.seen q.part id link l mark new_allowed)
+  marked_puts id link l mark = subst (λ es. HasLink (run_heap x.reading.numbers es) id link) (sym q.is) (marked_later x.reading.order x.reading.numbers x.may x.owes.fits x.owes.marked t.seen q.part id link l mark new_allowed)
 
   pub run_puts : (from : Link) (over : List ℕ) (to : Option ℕ) → IsRun (heap_of x.reading.numbers t) from over to → IsRun (heap_of x.reading.numbers u) from over to
-  run_puts from over to r = subst (λ es. IsRun (run_heap x.reading.numbers es) from over to) (sym q.is) (run_later x.reading.order x.reading.numbers x.may x.fits x.marked t.seen q.part from over to r new_allowed)
+  run_puts from over to r = subst (λ es. IsRun (run_heap x.reading.numbers es) from over to) (sym q.is) (run_later x.reading.order x.reading.numbers x.may x.owes.fits x.owes.marked t.seen q.part from over to r new_allowed)
 
   pub below_puts : (place : Place) (key : ℕ) → FollowsOn x.reading.order (heap_of x.reading.numbers t) place key → FollowsOn x.reading.order (heap_of x.reading.numbers u) place key
   below_puts place key f = subst (λ es. FollowsOn x.reading.order (run_heap x.reading.numbers es) place key) (sym q.is)
-      (follows_later x.reading.order x.reading.numbers x.may x.fits x.marked t.seen q.part place key f new_allowed)
+      (follows_later x.reading.order x.reading.numbers x.may x.owes.fits x.owes.marked t.seen q.part place key f new_allowed)
 
   pub above_puts : (to : Option ℕ) (key : ℕ) → IsAbove x.reading.order (heap_of x.reading.numbers t) to key → IsAbove x.reading.order (heap_of x.reading.numbers u) to key
-  above_puts to key a = subst (λ es. IsAbove x.reading.order (run_heap x.reading.numbers es) to key) (sym q.is) (above_later x.reading.order x.reading.numbers x.may x.fits x.marked t.seen q.part to key a new_allowed)
+  above_puts to key a = subst (λ es. IsAbove x.reading.order (run_heap x.reading.numbers es) to key) (sym q.is) (above_later x.reading.order x.reading.numbers x.may x.owes.fits x.owes.marked t.seen q.part to key a new_allowed)
 
   pub is_of_puts : (wanted id key : ℕ) → IsOf x.reading wanted id key t → IsOf x.reading wanted id key u
   is_of_puts wanted id key k = record { has_key = key_puts id key k.has_key; same_root = k.same_root }
@@ -140,7 +140,7 @@ module _ {N : Type 0} (x : Ordering N) (t u : Seat N) (ys : List (Event N)) (q :
       → ShowsOrMoved x.reading.numbers place link s t p.part → ShowsOrMoved x.reading.numbers place link s u w.part
   shows_on s own zs p w place link some linked shows =
       subst (λ es. ShowsOrMoved x.reading.numbers place link s u es) (sym (new_is s t u own ys zs p q w))
-      (still_puts x.reading.numbers x.may x.fits s t u own ys p q all place link some linked shows)
+      (still_puts x.reading.numbers x.may x.owes.fits s t u own ys p q all place link some linked shows)
 
   pub quiet_puts : (s : Seat N) (own : List (Event N)) → Quiet x.reading s own t → AreLoads ys → u.fresh ≡ t.fresh → noted_entries x.reading.entries_in ys ≡ []
       → gives_in ys ≡ 0 → moves_in ys ≡ 0 → Quiet x.reading s (own ++ ys) u
@@ -243,6 +243,6 @@ values_on {N} x t u ys q all =
     step es e k may = record {
       stays = λ id l.
           let (m, a, b) = k.stays id l in
-          let (o, c, d) = (values_after e.agent e.act (run_heap x.reading.numbers es) (x.fits es e may)).stays id m in
+          let (o, c, d) = (values_after e.agent e.act (run_heap x.reading.numbers es) (x.owes.fits es e may)).stays id m in
           rw (run_heap-snoc x.reading.numbers es e) (o, c ∙ a, d ∙ b);
     }

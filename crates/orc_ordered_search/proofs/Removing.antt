@@ -37,10 +37,10 @@ marked_at : {N : Type 0} (ord : Ordering N) (es : List (Event N)) (e : Event N) 
     → HasRank ord.reading.order (run_heap ord.reading.numbers es) id rank → HasLink (run_heap ord.reading.numbers (es ++ e ∷ [])) id to
 marked_at {N} ord es e id rank from to act_is may own =
     let n = ord.reading.numbers in
-    let fits : Fits e.agent (Move (Next id) from to) (run_heap n es) = subst (λ (a : Act). Fits e.agent a (run_heap n es)) act_is (ord.fits es e may) in
+    let fits : Fits e.agent (Move (Next id) from to) (run_heap n es) = subst (λ (a : Act). Fits e.agent a (run_heap n es)) act_is (ord.owes.fits es e may) in
     let m = move_moves e.agent (Next id) from to (run_heap n es) fits in
     let after : shown (run_heap n (es ++ e ∷ [])) (Next id) ≡ Some to = rw (run_heap-snoc n es e, act_is) m.moved in
-    let there = rank_later ord.reading.order n ord.may ord.fits ord.marked es (e ∷ []) id rank own (may, tt) in
+    let there = rank_later ord.reading.order n ord.may ord.owes.fits ord.owes.marked es (e ∷ []) id rank own (may, tt) in
     has_link (run_heap n (es ++ e ∷ [])) id to (rank_linked ord.reading.order (run_heap n (es ++ e ∷ [])) id rank there) after
 
 pub marked_link : {N : Type 0} (ord : Ordering N) (t u : Seat N) (id rank : ℕ) (from to : Link) (noted : Option N)
@@ -50,10 +50,10 @@ marked_link {N} ord t u id rank from to noted p all own mark =
     let n = ord.reading.numbers in
     let e : Event N = event_of t (Move (Next id) from to) noted in
     let m = Puts-stood ord.may t u [] e [] p all in
-    let there = marked_at ord (t.seen ++ m.before) e id rank from to refl m.here (rank_later ord.reading.order n ord.may ord.fits ord.marked t.seen m.before id rank
+    let there = marked_at ord (t.seen ++ m.before) e id rank from to refl m.here (rank_later ord.reading.order n ord.may ord.owes.fits ord.owes.marked t.seen m.before id rank
     own m.first) in
     subst (λ es. HasLink (run_heap n es) id to) (sym m.is)
-    (marked_later ord.reading.order n ord.may ord.fits ord.marked ((t.seen ++ m.before) ++ e ∷ []) m.later id to there mark m.last)
+    (marked_later ord.reading.order n ord.may ord.owes.fits ord.owes.marked ((t.seen ++ m.before) ++ e ∷ []) m.later id to there mark m.last)
 
 -- the run that ends with the marked node
 
@@ -176,7 +176,7 @@ module _ {N : Type 0} (ord : Ordering N) (start : Place) (wanted passed : ℕ) (
       let at_t : id_in t.slots h ≡ run_head first f.first_id f.id = some_same (target ∙ head_is first f.first_id f.id) in
       record {
         place_is = ap (λ (z : Slots). place_at z (ord.reading.order.root wanted) left) same
-            ∙ place_of_hand s.slots t.slots (ord.reading.order.root wanted) left f.left_id (hand first f.first_id ∷ ks) f.hands.held.0;
+            ∙ place_of_hand s.slots t.slots (ord.reading.order.root wanted) (ord.reading.order.root wanted) refl left f.left_id (hand first f.first_id ∷ ks) f.hands.held.0;
         id_is = ap (λ (z : Slots). id_in z h) same ∙ at_t;
         to_is = ap (λ (z : Slots). target_at z next) same ∙ r.next_is;
       }

@@ -8,7 +8,6 @@ use Rattle.orc_heap.proofs.Moments.{look_found, looks_differ, seen_is, since}
 use Rattle.orc_heap.specs.Allowed.{AllAllowed, events_by}
 use Rattle.orc_heap.specs.Calls.{Looks, Tells, event_of}
 use Rattle.orc_heap.specs.Hands.{Hand, Hands, IsApart, IsApartOf, hand}
-use Rattle.orc_heap.specs.Heap.{shown}
 use Rattle.orc_heap.specs.Journals.{noted_entries, run_heap}
 use Rattle.orc_heap.specs.Moves.{ShowsOrMoved, from_own, gives_in, moves_in}
 use Rattle.orc_heap.specs.OwnEvents.{Puts}
@@ -27,15 +26,11 @@ use Rattle.orc_ordered_chains.specs.Chains.{FollowsOn, HasRank, IsChainPlace}
 use Rattle.orc_ordered_search.specs.Ways.{AreLoads, IsFew, Sees}
 use Rattle.orc_ordered_search.specs.Reading.{Ordering}
 use Rattle.orc_ordered_search.specs.Searches.{Begins, FindsMoved, HasRoom, IsLinkedIfAny, LetsGo, NextIsOf, Passed, Quiet, left_place, node_of, slot_in}
+use Rattle.orc_ordered_search.specs.Steps.{IsNeverMarked}
 use Rattle.orc_ordered_search.proofs.Held.{FreshIs, goes_fresh, goes_hands, room_at}
 use Rattle.orc_ordered_search.proofs.Quiets.{below_puts, linked_on, quiet_puts, silent_one, silent_two}
 use Rattle.orc_ordered_search.proofs.Seen.{sees_right}
 use Rattle.orc_ordered_search.proofs.Stepping.{holds_later}
-
--- the place's link is never marked
-abbrev pub IsNeverMarked : {N : Type 0} → Ordering N → List (Event N) → Place → Type 0
-IsNeverMarked {N} ord seen place = (more : List (Event N)) → AllAllowed ord.may seen more → (link : Link)
-    → shown (run_heap ord.reading.numbers (seen ++ more)) place ≡ Some link → link.mark ≡ false
 
 -- what a Look of the place tells: the link is unmarked, and the next node is of the same root
 record TellsStart {N : Type 0} (ord : Ordering N) (wanted : ℕ) (link : Link) (u : Seat N) : Type 0 where
@@ -44,7 +39,7 @@ record TellsStart {N : Type 0} (ord : Ordering N) (wanted : ℕ) (link : Link) (
       ≡ ord.reading.order.root wanted)
 
 start_tells : {N : Type 0} (ord : Ordering N) (t u : Seat N) (start : Place) (wanted : ℕ) (link : Link) (before rest : List (Event N)) → ord.holds t.seen
-    → IsNeverMarked ord t.seen start
+    → IsNeverMarked ord.reading ord.may t.seen start
     → IsChainPlace ord.reading.order (heap_of ord.reading.numbers t) start → FollowsOn ord.reading.order (heap_of ord.reading.numbers t) start wanted
     → Puts t (before ++ event_of t (Look start link) None ∷ rest) u → AllAllowed ord.may [] u.seen → TellsStart ord wanted link u
 start_tells {N} ord t u start wanted link before rest holds plain begins below p all =
@@ -52,18 +47,18 @@ start_tells {N} ord t u start wanted link before rest holds plain begins below p
     let m = Puts-stood ord.may t u before e rest p all in
     let es : List (Event N) = t.seen ++ m.before in
     let now = holds_later ord t.seen m.before holds m.first in
-    let fits = ord.fits es e m.here in
-    let on = chain_place_later ord.reading.order ord.reading.numbers ord.may ord.fits ord.marked t.seen m.before start begins m.first in
-    let low = follows_later ord.reading.order ord.reading.numbers ord.may ord.fits ord.marked t.seen m.before start wanted below m.first in
+    let fits = ord.owes.fits es e m.here in
+    let on = chain_place_later ord.reading.order ord.reading.numbers ord.may ord.owes.fits ord.owes.marked t.seen m.before start begins m.first in
+    let low = follows_later ord.reading.order ord.reading.numbers ord.may ord.owes.fits ord.owes.marked t.seen m.before start wanted below m.first in
     let later = since m in
     let is = sym (p.is ∙ seen_is m) in
     record {
       plain = plain m.before m.first link fits;
       next = λ id to_is.
-          let (rank, own, follows) = (ord.chains es now).leads start id on (record { link = link; at = fits; to_is = to_is }) in (
+          let (rank, own, follows) = (ord.owes.chains es now).leads start id on (record { link = link; at = fits; to_is = to_is }) in (
             rank,
             subst (λ z. HasRank ord.reading.order (run_heap ord.reading.numbers z) id rank) is
-                (rank_later ord.reading.order ord.reading.numbers ord.may ord.fits ord.marked es (e ∷ m.later) id rank own later),
+                (rank_later ord.reading.order ord.reading.numbers ord.may ord.owes.fits ord.owes.marked es (e ∷ m.later) id rank own later),
             same es start low rank follows,
           );
     }
@@ -76,7 +71,7 @@ start_tells {N} ord t u start wanted link before rest holds plain begins below p
     same es (Side d) f rank g = absurd f
 
 module _ {N : Type 0} (ord : Ordering N) (start : Place) (wanted : ℕ) (left : Option Hold) (s t u : Seat N) (b : Begins ord.reading start wanted left s t)
-    (holds : ord.holds t.seen) (plain : IsNeverMarked ord t.seen start) (all : AllAllowed ord.may [] u.seen) where
+    (holds : ord.holds t.seen) (plain : IsNeverMarked ord.reading ord.may t.seen start) (all : AllAllowed ord.may [] u.seen) where
   -- the pass's events from there on are those from the beginning on
   puts_from : (ys : List (Event N)) → Puts t ys u → Puts s ys u
   puts_from ys p = record {
@@ -107,7 +102,7 @@ module _ {N : Type 0} (ord : Ordering N) (start : Place) (wanted : ℕ) (left : 
       let told = start_tells ord t u start wanted link before [] holds plain b.begins b.below p all in
       let q = puts_from (before ++ e ∷ []) p in
       let seen : Sees (before ++ e ∷ []) start link = sees_right before (e ∷ []) start link (inl refl) in
-      let shows = look_found ord.reading.numbers ord.may ord.fits t u start link None before [] p all
+      let shows = look_found ord.reading.numbers ord.may ord.owes.fits t u start link None before [] p all
       (chain_place_linked ord.reading.order (heap_of ord.reading.numbers t) start b.begins) in
       record {
         own = before ++ e ∷ [];
@@ -181,7 +176,7 @@ start_few {N} ord start wanted slot left s t u v b looks all g fresh all_v =
     let (one, two, other, slots, puts, some) = looks.tells in
     let es : List (Event N) = event_of t (Look start one) None ∷ event_of t (Look start two) None ∷ [] in
     let linked = chain_place_linked ord.reading.order (heap_of ord.reading.numbers t) start b.begins in
-    let moved = looks_differ ord.reading.numbers ord.may ord.fits t u start one two puts all linked other in
+    let moved = looks_differ ord.reading.numbers ord.may ord.owes.fits t u start one two puts all linked other in
     let hands : Hands s.slots u.slots (hand left b.left_id ∷ []) = subst (λ (z : Slots). Hands s.slots z (hand left b.left_id ∷ [])) (sym slots) b.hands in
     let same = goes_fresh ord s.slots u v left b.left_id [] fresh g hands (linked_on ord t u es puts all left b.left_id (start_linked left b.start_is)) in
     let q : Puts s es u = record {

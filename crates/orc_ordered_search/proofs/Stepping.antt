@@ -31,7 +31,7 @@ use Rattle.orc_ordered_search.proofs.Quiets.{behind_on, behind_puts, is_of_puts,
 use Rattle.orc_ordered_search.proofs.Seen.{sees_right}
 
 pub holds_later : {N : Type 0} (ord : Ordering N) (seen more : List (Event N)) → ord.holds seen → AllAllowed ord.may seen more → ord.holds (seen ++ more)
-holds_later ord seen more holds all = stays ord.may ord.holds (λ es e h may. ord.keeps es e h may) seen more holds all
+holds_later ord seen more holds all = stays ord.may ord.holds (λ es e h may. ord.owes.keeps es e h may) seen more holds all
 
 -- a Look of the node's link, at which the discipline holds: the next node may follow, and a marked link stays
 pub record TellsNext {N : Type 0} (ord : Ordering N) (id : ℕ) (link : Link) (u : Seat N) : Type 0 where
@@ -44,7 +44,7 @@ next_at : {N : Type 0} (ord : Ordering N) (es : List (Event N)) (id rank : ℕ) 
     ord.reading.order (run_heap ord.reading.numbers es) (Next id) key)
 next_at ord es id rank link None is holds own at = inl refl
 next_at ord es id rank link (Some next) is holds own at =
-    let (key, has, follows) = (ord.chains es holds).leads (Next id) next (rank, own) (record { link = link; at = at; to_is = is }) in
+    let (key, has, follows) = (ord.owes.chains es holds).leads (Next id) next (rank, own) (record { link = link; at = at; to_is = is }) in
     inr (next, refl, key, has, follows)
 
 pub look_tells : {N : Type 0} (ord : Ordering N) (t u : Seat N) (id rank : ℕ) (link : Link) (before rest : List (Event N)) → ord.holds t.seen
@@ -53,16 +53,16 @@ pub look_tells : {N : Type 0} (ord : Ordering N) (t u : Seat N) (id rank : ℕ) 
 look_tells {N} ord t u id rank link before rest holds own p all =
     let e : Event N = event_of t (Look (Next id) link) None in
     let m = Puts-stood ord.may t u before e rest p all in
-    let there = rank_later ord.reading.order ord.reading.numbers ord.may ord.fits ord.marked t.seen m.before id rank own m.first in
+    let there = rank_later ord.reading.order ord.reading.numbers ord.may ord.owes.fits ord.owes.marked t.seen m.before id rank own m.first in
     let now = holds_later ord t.seen m.before holds m.first in
-    let fits = ord.fits (t.seen ++ m.before) e m.here in
+    let fits = ord.owes.fits (t.seen ++ m.before) e m.here in
     let later = since m in
     let is = sym (p.is ∙ seen_is m) in
     let linked = rank_linked ord.reading.order (run_heap ord.reading.numbers (t.seen ++ m.before)) id rank there in
     record {
       follows = tell (t.seen ++ m.before) (e ∷ m.later) (next_at ord (t.seen ++ m.before) id rank link link.to refl now there fits) later is;
       frozen = λ mark. subst (λ es. HasLink (run_heap ord.reading.numbers es) id link) is
-          (marked_later ord.reading.order ord.reading.numbers ord.may ord.fits ord.marked (t.seen ++ m.before) (e ∷ m.later) id link
+          (marked_later ord.reading.order ord.reading.numbers ord.may ord.owes.fits ord.owes.marked (t.seen ++ m.before) (e ∷ m.later) id link
           (has_link (run_heap ord.reading.numbers (t.seen ++ m.before)) id link linked fits) mark later);
     }
   where
@@ -76,9 +76,9 @@ look_tells {N} ord t u id rank link before rest holds own p all =
         rw to_is (
           key,
           subst (λ z. HasRank ord.reading.order (run_heap ord.reading.numbers z) next key) is
-              (rank_later ord.reading.order ord.reading.numbers ord.may ord.fits ord.marked es more next key own later),
+              (rank_later ord.reading.order ord.reading.numbers ord.may ord.owes.fits ord.owes.marked es more next key own later),
           subst (λ z. FollowsOn ord.reading.order (run_heap ord.reading.numbers z) (Next id) key) is
-              (follows_later ord.reading.order ord.reading.numbers ord.may ord.fits ord.marked es more (Next id) key follows later),
+              (follows_later ord.reading.order ord.reading.numbers ord.may ord.owes.fits ord.owes.marked es more (Next id) key follows later),
         )
 
 -- a run, and one marked node more
@@ -120,7 +120,7 @@ looking_at {N} ord start wanted left first at key counted passed mark next s t u
     let ys : List (Event N) = before ++ e ∷ [] in
     let linked = rank_linked ord.reading.order (heap_of ord.reading.numbers t) w.id key w.is_of.has_key in
     let told = look_tells ord t u w.id key link before [] holds w.is_of.has_key p all in
-    let found = look_found ord.reading.numbers ord.may ord.fits t u (Next w.id) link None before [] p all linked in
+    let found = look_found ord.reading.numbers ord.may ord.owes.fits t u (Next w.id) link None before [] p all linked in
     let b = behind_puts ord t u ys p all start wanted left first w.left_id w.first_id (Some w.id) s w.own w.behind loads fresh entries gives moves in
     record {
       behind = b;

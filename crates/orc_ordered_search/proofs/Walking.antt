@@ -100,7 +100,7 @@ walk_differs {N} ord start wanted left first at key counted passed s t u one two
     let linked = rank_linked ord.reading.order (heap_of ord.reading.numbers t) w.id key w.is_of.has_key in
     let ys : List (Event N) = event_of t (Look (Next w.id) one) None ∷ event_of t (Look (Next w.id) two) None ∷ [] in
     let p : Puts t ys u = subst (λ (i : ℕ). Puts t (event_of t (Look (Next i) one) None ∷ event_of t (Look (Next i) two) None ∷ []) u) id_is puts in
-    let moved = looks_differ ord.reading.numbers ord.may ord.fits t u (Next w.id) one two p all linked other in
+    let moved = looks_differ ord.reading.numbers ord.may ord.owes.fits t u (Next w.id) one two p all linked other in
     let b = behind_puts ord t u ys p all start wanted left first w.left_id w.first_id (Some w.id) s w.own w.behind (tt, (tt, tt)) fresh
     (silent_two ord t.agent t.agent (Look (Next w.id) one) (Look (Next w.id) two)) refl refl in (
       b,

@@ -1,6 +1,7 @@
 pub mod Ways
 pub mod Reading
 pub mod Searches
+pub mod Steps
 pub mod Turns
 pub mod Inserts
 pub mod Causes

@@ -18,11 +18,17 @@ pub record Reading (N : Type 0) : Type 0 where
   pub entries_in : Option N → List SetEntry
   pub counts : Option ℕ → Option ℕ → Bool
 
--- and what a discipline owes to a search along its chains
-pub record Ordering (N : Type 0) : Type 1 where
-  pub reading : Reading N
-  pub holds : List (Event N) → Type 0
-  pub may : List (Event N) → Event N → Type 0
+-- the same without the numbers, on which the order may rest
+pub record Manner (N : Type 0) : Type 0 where
+  pub order : Order
+  pub entries_in : Option N → List SetEntry
+  pub counts : Option ℕ → Option ℕ → Bool
+
+abbrev pub reading_by : {N : Type 0} → HeapNumbers → (HeapNumbers → Manner N) → Reading N
+reading_by n manner = record { numbers = n; order = (manner n).order; entries_in = (manner n).entries_in; counts = (manner n).counts }
+
+-- what a discipline, by what holds of events and which it allows, owes to a search along its chains
+pub record Orders {N : Type 0} (reading : Reading N) (holds : List (Event N) → Type 0) (may : List (Event N) → Event N → Type 0) : Type 0 where
   -- an event that is allowed fits, and keeps the discipline and each marked link
   pub keeps : (es : List (Event N)) (e : Event N) → holds es → may es e → holds (es ++ e ∷ [])
   pub fits : (es : List (Event N)) (e : Event N) → may es e → FitsAfter reading.numbers es e
@@ -36,3 +42,14 @@ pub record Ordering (N : Type 0) : Type 1 where
   -- the empty list obeys it, and a Move leads to linked nodes alone
   pub begins : holds []
   pub moves : (es : List (Event N)) (e : Event N) → holds es → may es e → MovesLinked e.act (run_heap reading.numbers es)
+
+-- a discipline that does
+pub record Ordering (N : Type 0) : Type 1 where
+  pub reading : Reading N
+  pub holds : List (Event N) → Type 0
+  pub may : List (Event N) → Event N → Type 0
+  pub owes : Orders reading holds may
+
+abbrev pub ordering_of : {N : Type 0} {reading : Reading N} {holds : List (Event N) → Type 0} {may : List (Event N) → Event N → Type 0}
+    → Orders reading holds may → Ordering N
+ordering_of {N} {reading} {holds} {may} owes = record { reading = reading; holds = holds; may = may; owes = owes }

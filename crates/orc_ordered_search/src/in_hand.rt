@@ -5,8 +5,10 @@ ghost use mathlib.Core.List.{IsPrefix};
 ghost use Rattle.orc_heap.specs.Heap.{HeapNumbers};
 ghost use Rattle.orc_heap.specs.Slots.{Holds, Slots};
 ghost use Rattle.orc_heap.specs.Seats.{HoldsPlace, HoldsWant, link_in, place_in};
-ghost use Rattle.orc_ordered_search.specs.Searches.{HoldsIfAny, KeepsFirst, LetsGo, first_or, place_at, slot_in, target_at};
+ghost use Rattle.orc_ordered_search.specs.Reading.{reading_by};
+ghost use Rattle.orc_ordered_search.specs.Searches.{AllGone, HoldsIfAny, InHand, KeepsFirst, LetsGo, first_or, place_at, slot_in, target_at};
 
+use crate::rank::Rank;
 use orc_heap::{At, Held, Links, Want};
 
 /// Lets a node go, if there is one.
@@ -20,6 +22,28 @@ pub fn let_go<L: Links>(links: &L, p: &mut L::Pass, node: Option<Held>)
     if let Some(node) = node {
         links.release(p, node);
     }
+}
+
+/// Lets four nodes go, as far as there are so many.
+pub fn let_all_go<K: Rank, L: Links<Rule = K::Rule>>(
+    links: &L,
+    p: &mut L::Pass,
+    left: Option<Held>,
+    first: Option<Held>,
+    at: Option<Held>,
+    next: Option<Held>,
+)
+    requires pass { L.belongs links.now p.old }
+    requires hands { (slots : Slots) × InHand (reading_by (L.numbers links.now) K.manner) slots left first at next (L.seat links.now p.old) }
+    ensures pass { L.belongs links.now p.new }
+    ensures later { IsPrefix (L.journal p.old) (L.journal p.new) }
+    ensures gone { (slots : Slots) → InHand (reading_by (L.numbers links.now) K.manner) slots left first at next (L.seat links.now p.old)
+        → AllGone slots (L.seat links.now p.old) (L.seat links.now p.new) }
+{
+    let_go(links, p, left);
+    let_go(links, p, first);
+    let_go(links, p, at);
+    let_go(links, p, next);
 }
 
 /// The first of the marked nodes: this one, or the other, where there is none yet. The other is let go if it isn't.

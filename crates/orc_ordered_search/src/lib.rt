@@ -1,9 +1,17 @@
-//! What a search along ordered chains has seen and has in hand, and what the turns of a set's calls do, whatever discipline the
-//! chains obey.
+//! What a search along ordered chains has seen and has in hand, the search itself, and what the turns of a set's calls do, whatever
+//! discipline the chains obey.
 #![tactic(auto)]
 
 mod in_hand;
+mod rank;
+mod search;
 mod turn;
+mod walk;
 
-pub use in_hand::{keep_first, let_go, link_of, link_to, node_or, place_of, slot_of, spare_slot};
+pub use in_hand::{
+    keep_first, let_all_go, let_go, link_of, link_to, node_or, place_of, slot_of, spare_slot,
+};
+pub use rank::Rank;
+pub use search::search_chain;
 pub use turn::InsertTurn;
+pub use walk::{Searched, Stepped, Walk};

@@ -41,7 +41,7 @@ absence_allowed n agent place from over to key entry seen (inr is) holds out =
 module _ (n : HeapNumbers) (start : Place) (key passed : ℕ) (left first right : Option Hold) (s t : Seat SplitNote)
     (f : FindsAbsent (split_reading n) start (key_place key) passed left first right s t) where
   pub left_is : place_at t.slots 0 left ≡ left_place 0 left f.left_id
-  left_is = place_of_hand s.slots t.slots 0 left f.left_id (hand first f.first_id ∷ hand right f.right_id ∷ []) f.hands.held.0
+  left_is = place_of_hand s.slots t.slots 0 0 refl left f.left_id (hand first f.first_id ∷ hand right f.right_id ∷ []) f.hands.held.0
 
   pub left_link : link_over (target_at t.slots (first_or first right)) ≡ f.behind.leads.from
   left_link =

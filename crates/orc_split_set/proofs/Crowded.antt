@@ -42,7 +42,8 @@ use Rattle.orc_split_set.specs.declared.bucket.Rooted.{Rooted}
 use Rattle.orc_split_set.specs.declared.bucket.Rooted.TheVariants.{Done, Moved, NoNode, Spent}
 use Rattle.orc_split_set.proofs.Crowding.{own_later, own_seen, own_set, own_sooner, puts_grow}
 use Rattle.orc_split_set.proofs.Growing.{grow_left, grow_right}
-use Rattle.orc_split_set.proofs.Ordered.{goes_on, split_ordering}
+use Rattle.orc_heap.proofs.Pieces.{goes_on}
+use Rattle.orc_split_set.proofs.Ordered.{split_ordering}
 use Rattle.orc_split_set.proofs.Preparing.{power_some, undisturbed_left}
 
 -- a power of two below another is at most half of it

@@ -51,7 +51,8 @@ use Rattle.orc_split_set.specs.SplitSearches.{split_reading}
 use Rattle.orc_split_set.specs.declared.bucket.Rooted.{Rooted}
 use Rattle.orc_split_set.specs.declared.bucket.Rooted.TheVariants.{Done, Moved, NoNode, Spent}
 use Rattle.orc_split_set.proofs.Crowding.{own_later, own_not_moved, own_part, own_seen, own_shows, own_size, own_sooner, own_unmoved, puts_grow}
-use Rattle.orc_split_set.proofs.Ordered.{goes_on, split_ordering}
+use Rattle.orc_heap.proofs.Pieces.{goes_on}
+use Rattle.orc_split_set.proofs.Ordered.{split_ordering}
 use Rattle.orc_split_set.proofs.Preparing.{nothing}
 use Rattle.orc_split_set.proofs.Sizes.{SizeHeld, values_puts}
 

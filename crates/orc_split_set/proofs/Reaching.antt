@@ -31,7 +31,8 @@ use Rattle.orc_split_set.specs.declared.bucket.Rooted.{Rooted}
 use Rattle.orc_split_set.proofs.Crowded.{begun_puts}
 use Rattle.orc_split_set.proofs.Crowding.{own_seen, own_sooner, puts_grow}
 use Rattle.orc_split_set.proofs.Looking.{few_heap, few_of, few_then, few_trans}
-use Rattle.orc_split_set.proofs.Ordered.{goes_on, split_ordering}
+use Rattle.orc_heap.proofs.Pieces.{goes_on}
+use Rattle.orc_split_set.proofs.Ordered.{split_ordering}
 use Rattle.orc_split_set.proofs.Preparing.{size_told, undisturbed_left}
 
 -- what is new, where these events were seen first, and then own ones

@@ -57,7 +57,8 @@ use Rattle.orc_split_set.specs.declared.bucket.Rooted.TheVariants.{Moved, NoNode
 use Rattle.orc_split_set.specs.declared.node.NewNode.{NewNode}
 use Rattle.orc_split_set.specs.declared.node.NewNode.TheVariants.{Dummy, Key}
 use Rattle.orc_split_set.proofs.Crowding.{own_later, own_seen, own_sooner, puts_grow}
-use Rattle.orc_split_set.proofs.Ordered.{goes_on, split_ordering}
+use Rattle.orc_heap.proofs.Pieces.{goes_on}
+use Rattle.orc_split_set.proofs.Ordered.{split_ordering}
 use Rattle.orc_split_set.proofs.Rooting.{dummy_held, found_dummy, let_go_call, missed_roots, refused_roots}
 use Rattle.orc_split_set.proofs.Sizes.{values_puts}
 

@@ -1,2 +1,3 @@
 -- Proofs of the laws that the set owes to its traits.
+pub mod Ordered
 pub mod SetLaws

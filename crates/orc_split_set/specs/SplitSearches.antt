@@ -1,5 +1,5 @@
 -- What a search in split order has seen.
-use Rattle.std.specs.Prelude.{Bool, Err, List, None, Ok, Option, Result, Some, false, length, true, ℕ, ◌<◌, ◌==◌, ◌≡◌, ◌≢◌, ◌≤◌, ◌^◌, ◌⊎◌}
+use Rattle.std.specs.Prelude.{Bool, Err, List, None, Ok, Option, Result, Some, false, length, true, ℕ, ◌==◌, ◌≡◌, ◌≢◌, ◌≤◌, ◌⊎◌}
 use Rattle.orc_fault.specs.declared.Again.{Again as AgainFault}
 use Rattle.orc_heap.specs.Heap.{Heap, HeapNumbers}
 use Rattle.orc_heap.specs.Moves.{from_own, moves_in}
@@ -9,17 +9,13 @@ use Rattle.orc_heap.specs.declared.events.Event.{Event}
 use Rattle.orc_heap.specs.declared.events.Place.{Place}
 use Rattle.orc_history.specs.declared.set.SetEntry.{SetEntry}
 use Rattle.orc_history.specs.declared.set.SetEntry.TheVariants.{Added, Asked, Removed}
-use Rattle.orc_ordered_search.specs.Reading.{Reading}
-use Rattle.orc_ordered_search.specs.Searches.{Begins, FindsAbsent, FindsMoved, FindsPresent, Quiet, Walks}
+use Rattle.orc_ordered_search.specs.Reading.{Manner, Reading, reading_by}
+use Rattle.orc_ordered_search.specs.Searches.{Begins, FindsMoved, Quiet}
 use Rattle.orc_ordered_search.specs.Turns.{Tires}
 use Rattle.orc_split_rule.specs.SplitDiscipline.{IsDummy, IsSize, entries_in, greatest, size_of}
 use Rattle.orc_split_rule.specs.SplitOrder.{dummy_place, key_place, split_order}
 use Rattle.orc_split_rule.specs.declared.split.SplitNote.{SplitNote}
 use Rattle.orc_split_set.specs.declared.order.SplitPlace.{SplitPlace}
-use Rattle.orc_split_set.specs.declared.search.Searched.{Searched}
-use Rattle.orc_split_set.specs.declared.search.Searched.TheVariants.{Absent, Over, Present}
-use Rattle.orc_split_set.specs.declared.search.Stepped.{Stepped}
-use Rattle.orc_split_set.specs.declared.search.Stepped.TheVariants.{End, On}
 
 -- the second value of a node says that it has a key
 abbrev pub says_key : Option ℕ → Bool
@@ -27,8 +23,11 @@ says_key None = false
 says_key (Some second) = second == 1
 
 -- the events of a split-ordered set, where nodes with keys are counted
+abbrev pub split_manner : HeapNumbers → Manner SplitNote
+split_manner n = record { order = split_order; entries_in = entries_in; counts = λ first second. says_key second }
+
 abbrev pub split_reading : HeapNumbers → Reading SplitNote
-split_reading n = record { numbers = n; order = split_order; entries_in = entries_in; counts = λ first second. says_key second }
+split_reading n = reading_by n split_manner
 
 -- a place in split order as a number
 abbrev pub split_place : ℕ → Bool → ℕ
@@ -47,19 +46,6 @@ IsDummyIfAny h (Some hold) id = (bucket : ℕ) × IsDummy h id bucket
 pub record BeginsAt (n : HeapNumbers) (start : Place) (wanted : ℕ) (left : Option Hold) (s t : Seat SplitNote) : Type 0 where
   pub begins : Begins (split_reading n) start wanted left s t
   pub dummy : IsDummyIfAny (heap_of n t) left begins.left_id
-
--- how a search ended
-abbrev pub Finds : HeapNumbers → Place → ℕ → Seat SplitNote → Searched → Seat SplitNote → Type 0
-Finds n start wanted s Over t = FindsMoved (split_reading n) s t
-Finds n start wanted s (Absent left first right passed) t = FindsAbsent (split_reading n) start wanted passed left first right s t
-Finds n start wanted s (Present left first node next passed) t = FindsPresent (split_reading n) start wanted passed left first node next s t
-
--- what a step of a search came to: a node with no lower place than this, or the end
-abbrev pub StepsTo : HeapNumbers → Place → ℕ → ℕ → Seat SplitNote → Stepped → Seat SplitNote → Type 0
-StepsTo n start wanted least s (On walk) t =
-    Walks (split_reading n) start wanted walk.left walk.first walk.at (rank_of walk.place) walk.place.has_key walk.passed s t × (least ≤ rank_of walk.place)
-    × (rank_of walk.place < 2 ^ 128)
-StepsTo n start wanted least s (End found) t = Finds n start wanted s found t
 
 -- a read of the size: two Looks at the most, and the pass holds what it held; or the link moved meanwhile
 pub record SizeRead (n : HeapNumbers) (size : ℕ) (s t : Seat SplitNote) : Type 0 where

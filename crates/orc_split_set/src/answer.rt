@@ -16,12 +16,12 @@ ghost use Rattle.orc_split_set.specs.SplitSearches.{BeginsAt, IsAbsence, IsPrese
 
 use crate::begin::{Begun, begin};
 use crate::node::NewNode;
-use crate::search::{Searched, search_for};
-use crate::spot::let_all_go;
+use crate::order::SplitPlace;
+use crate::search::search_for;
 use orc_fault::Again;
 use orc_heap::{At, Held, Links};
 use orc_history::SetEntry;
-use orc_ordered_search::{link_of, link_to, place_of};
+use orc_ordered_search::{Searched, let_all_go, link_of, link_to, place_of};
 use orc_split_rule::{Split, SplitNote};
 
 // Enters an answer that rests on the key's absence, if the left place still shows its link.
@@ -52,7 +52,7 @@ pub(crate) fn enter_absent<L: Links<Rule = Split>>(
         &link_of(&first, &right),
         Some(SplitNote::Entry(entry)),
     );
-    let_all_go(links, p, left, first, right, None);
+    let_all_go::<SplitPlace, L>(links, p, left, first, right, None);
     entered
 }
 
@@ -84,7 +84,7 @@ pub(crate) fn enter_present<L: Links<Rule = Split>>(
         &link_to(&next, false),
         Some(SplitNote::Entry(entry)),
     );
-    let_all_go(links, p, left, first, Some(node), next);
+    let_all_go::<SplitPlace, L>(links, p, left, first, Some(node), next);
     entered
 }
 

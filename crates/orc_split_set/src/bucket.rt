@@ -24,11 +24,12 @@ ghost use Rattle.orc_split_set.specs.SplitSearches.{BeginsAt, split_reading};
 use crate::begin::{Begun, begin_near};
 use crate::insert::add_node;
 use crate::node::NewNode;
-use crate::search::{Searched, search_for};
+use crate::order::SplitPlace;
+use crate::search::search_for;
 use crate::size::read_size;
-use crate::spot::let_all_go;
 use orc_fault::Spent;
 use orc_heap::{At, Held, Links, Looked, Want};
+use orc_ordered_search::{Searched, let_all_go};
 use orc_split_rule::{Split, SplitNote};
 
 /// What came of a root that was to name a node: the dummy of its bucket, or a node of twice the size.
@@ -126,7 +127,7 @@ fn anchor_found<L: Links<Rule = Split>>(
         (L.worn links.now (L.seat links.now p.old).agent why (L.journal p.new)) }
 {
     let anchored = anchor(links, p, bucket, &dummy);
-    let_all_go(links, p, left, first, Some(dummy), next);
+    let_all_go::<SplitPlace, L>(links, p, left, first, Some(dummy), next);
     rooted_of(anchored)
 }
 
@@ -190,7 +191,7 @@ fn add_dummy<L: Links<Rule = Split>>(
     match links.give(p, 1, u64::from(bucket), 0) {
         Ok(dummy) => link_dummy(links, p, bucket, left, first, right, dummy),
         Err(_) => {
-            let_all_go(links, p, left, first, right, None);
+            let_all_go::<SplitPlace, L>(links, p, left, first, right, None);
             Rooted::NoNode
         }
     }

@@ -25,12 +25,12 @@ ghost use Rattle.orc_split_set.specs.Stops.{IsUnnamed};
 use crate::answer::enter_present;
 use crate::begin::{Begun, begin};
 use crate::node::NewNode;
-use crate::search::{Searched, search_for};
-use crate::spot::let_all_go;
+use crate::order::SplitPlace;
+use crate::search::search_for;
 use orc_fault::Spent;
 use orc_heap::{Held, Links, Want};
 use orc_history::{ListRefused, SetEntry};
-use orc_ordered_search::{InsertTurn, let_go, link_of, place_of};
+use orc_ordered_search::{InsertTurn, Searched, let_all_go, let_go, link_of, place_of};
 use orc_split_rule::Split;
 
 // The node, if there is one.
@@ -136,7 +136,7 @@ pub(crate) fn add_node<L: Links<Rule = Split>>(
         → IsUnnamed (heap_of (L.numbers links.now) (L.seat links.now p.new)) new }
 {
     let linked = link_node(links, p, new, &left, &first, &right, node);
-    let_all_go(links, p, left, first, right, None);
+    let_all_go::<SplitPlace, L>(links, p, left, first, right, None);
     linked
 }
 
@@ -179,7 +179,7 @@ fn add_at<L: Links<Rule = Split>>(
             (turn_of(passed, linked), Some(node))
         }
         Err(_) => {
-            let_all_go(links, p, left, first, right, None);
+            let_all_go::<SplitPlace, L>(links, p, left, first, right, None);
             (InsertTurn::NoNode, None)
         }
     }

@@ -12,7 +12,6 @@ mod remove;
 mod search;
 mod set;
 mod size;
-mod spot;
 mod stop;
 
 pub use set::SplitSet;

@@ -1,8 +1,13 @@
 //! Split order.
 
-ghost use Rattle.std.specs.Prelude.{◌≡◌, ◌≢◌, ◌<◌, ◌≤◌, true, false};
+ghost use Rattle.std.specs.Prelude.{◌≡◌, ◌≢◌, ◌<◌, true, false};
 ghost use Rattle.orc_split_rule.specs.SplitOrder.{reversed};
-ghost use Rattle.orc_split_set.specs.SplitSearches.{rank_of};
+ghost use Rattle.orc_split_set.specs.Laws.Ordered.{split_ordered};
+ghost use Rattle.orc_split_set.specs.SplitSearches.{rank_of, split_manner};
+
+use orc_heap::{Held, Links};
+use orc_ordered_search::Rank;
+use orc_split_rule::Split;
 
 /// A place in split order: that of this key, or of the dummy of this bucket.
 #[derive(Clone, Copy)]
@@ -21,15 +26,35 @@ fn is_lower(number: u64, other: u64) -> bool
     (number >> differing.trailing_zeros()) % 2 == 0
 }
 
-impl SplitPlace {
-    // Whether this place comes before another one. The dummy of a number comes right before its key.
-    pub(crate) fn is_before(self, other: SplitPlace) -> bool
-        ensures yes { result ≡ true → rank_of self < rank_of other }
-        ensures no { result ≡ false → rank_of other ≤ rank_of self }
-    {
+impl Rank for SplitPlace {
+    type Rule = Split;
+
+    ghost manner = { split_manner };
+
+    ghost number = { rank_of };
+
+    ghost counted = { λ place. place.has_key };
+
+    #[inline(always)]
+    fn read<L: Links<Rule = Split>>(links: &L, p: &mut L::Pass, node: &Held) -> SplitPlace {
+        let value = links.value(p, node, 0);
+        let kind = links.value(p, node, 1);
+        let has_key = kind == 1;
+        SplitPlace { value, has_key }
+    }
+
+    // The dummy of a number comes right before its key.
+    fn is_before(self, other: SplitPlace) -> bool {
         if self.value == other.value {
             return !self.has_key && other.has_key;
         }
         is_lower(self.value, other.value)
     }
+
+    #[inline(always)]
+    fn is_counted(self) -> bool {
+        self.has_key
+    }
+
+    ghost ordered = { split_ordered };
 }

@@ -17,12 +17,12 @@ ghost use Rattle.orc_split_set.specs.SplitSearches.{BeginsAt, split_reading};
 use crate::answer::enter_absent;
 use crate::begin::{Begun, begin};
 use crate::node::NewNode;
-use crate::search::{Searched, search_for};
-use crate::spot::let_all_go;
+use crate::order::SplitPlace;
+use crate::search::search_for;
 use orc_fault::Again;
 use orc_heap::{At, Held, Links, Want};
 use orc_history::SetEntry;
-use orc_ordered_search::{link_to, node_or, place_of};
+use orc_ordered_search::{Searched, let_all_go, link_to, node_or, place_of};
 use orc_split_rule::{Split, SplitNote};
 
 // Marks the link of the node with the key. A swing that changes the mark alone is never refused.
@@ -111,11 +111,11 @@ fn take_out<L: Links<Rule = Split>>(
         → Enters (split_reading (L.numbers links.now)) (SetEntry.Removed (L.seat links.now p.old).agent key true) s result (L.seat links.now p.new) }
 {
     if !mark_node(links, p, key, &node, &next) {
-        let_all_go(links, p, left, first, Some(node), next);
+        let_all_go::<SplitPlace, L>(links, p, left, first, Some(node), next);
         return false;
     }
     unlink_run(links, p, &left, node_or(&first, &node), &next);
-    let_all_go(links, p, left, first, Some(node), next);
+    let_all_go::<SplitPlace, L>(links, p, left, first, Some(node), next);
     true
 }
 

@@ -18,10 +18,10 @@ ghost use Rattle.orc_split_set.specs.Stops.{StopsUnnamed, linked_by};
 
 use crate::insert::{add_node, turn_of};
 use crate::node::NewNode;
-use crate::search::{Searched, search_for};
-use crate::spot::let_all_go;
+use crate::order::SplitPlace;
+use crate::search::search_for;
 use orc_heap::{Held, Links};
-use orc_ordered_search::InsertTurn;
+use orc_ordered_search::{InsertTurn, Searched, let_all_go};
 use orc_split_rule::Split;
 
 // Links a new dummy where a search found its place, and lets it go.
@@ -55,7 +55,7 @@ fn add_and_stop<L: Links<Rule = Split>>(
             turn_of(passed, linked)
         }
         Err(_) => {
-            let_all_go(links, p, left, first, right, None);
+            let_all_go::<SplitPlace, L>(links, p, left, first, right, None);
             InsertTurn::NoNode
         }
     }
@@ -94,7 +94,7 @@ pub(crate) fn stop_a_bucket<L: Links<Rule = Split>>(
             next,
             passed,
         } => {
-            let_all_go(links, p, left, first, Some(node), next);
+            let_all_go::<SplitPlace, L>(links, p, left, first, Some(node), next);
             InsertTurn::Answered(false, passed)
         }
     }

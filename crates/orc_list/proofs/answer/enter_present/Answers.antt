@@ -5,8 +5,9 @@ use Rattle.orc_heap.specs.declared.events.Place.TheVariants.{Next, Root}
 use Rattle.orc_chain_rule.specs.declared.chain.ChainNote.{ChainNote}
 use Rattle.orc_ordered_chains.specs.Chains.{link_over}
 use Rattle.orc_ordered_search.proofs.Held.{present_hand}
+use Rattle.orc_ordered_search.proofs.Entering.{tested_hand}
 use Rattle.orc_list.specs.Searches.{FindsPresent, InHand}
-use Rattle.orc_list.proofs.Answering.{present_allowed, present_entered, reads_node, tested_hand}
+use Rattle.orc_list.proofs.Answering.{present_allowed, present_entered, reads_node}
 use Rattle.orc_list.proofs.Ordered.{list_ordering}
 use Rattle.orc_list.proofs.answer.enter_present.Given.{Over}
 use Rattle.orc_list.proofs.answer.enter_present.Goals.{After-same-entered}
@@ -22,7 +23,7 @@ hands g c = λ s f.
     let t = g.L.Links.seat d a.p.now in
     let e = c.same-entered.ensures in
     let n = g.L.Links.numbers d in
-    tested_hand n s.slots a.left a.first (Some a.node) a.next _ _ _ _ t (g.L.Links.seat d c.same-entered.new.p) e.tested
+    tested_hand (list_ordering n) s.slots a.left a.first (Some a.node) a.next _ _ _ _ t (g.L.Links.seat d c.same-entered.new.p) e.tested
     (g.met.L.Links.allowed d c.same-entered.new.p e.pass) (present_hand (list_ordering n) (Root a.root) a.key 0 a.left a.first s t a.node a.next f)
 
 pub same-entered-requires-clause-place : goal.same-entered-requires-clause-place

@@ -48,7 +48,7 @@ add_node-turn-requires-clause-adds g c =
       0,
       s.slots,
       s,
-      absent_adds n a.root a.key a.spot.left a.spot.first a.spot.right c.in-Some.node slots s t c.requires.root.1 some f
+      absent_adds n a.root a.key a.left a.first a.right c.in-Some.node slots s t c.requires.root.1 some f
           (seen_holds (list_ordering n) s t f.own f.behind.quiet.puts all) all,
     )
 
@@ -63,10 +63,10 @@ returns-in-Some-clause-added g c = λ slots s room k f.
     let all = g.met.L.Links.allowed d a.p.now c.requires.pass in
     let node = c.in-Some.node in
     let holds = seen_holds (list_ordering n) s t f.own f.behind.quiet.puts all in
-    let adds = absent_adds n a.root a.key a.spot.left a.spot.first a.spot.right node slots s t c.requires.root.1 some f holds all in
+    let adds = absent_adds n a.root a.key a.left a.first a.right node slots s t c.requires.root.1 some f holds all in
     let done = c.add_node-turn.ensures.added 0 s.slots s adds in
     let there = adds_inserts n a.key node adds.id 0 s.slots slots (Some node) s u c.add_node-turn.result done
-    (some.slots_are ∙ ap (λ (i : ℕ). slots_with slots (Some node) i) (sym (absent_id n a.root a.key a.spot.left a.spot.first a.spot.right node slots s
+    (some.slots_are ∙ ap (λ (i : ℕ). slots_with slots (Some node) i) (sym (absent_id n a.root a.key a.left a.first a.right node slots s
     t c.requires.root.1 some f holds all))) some.slot_is refl in
     subst (λ (o : Option Hold). Inserts n a.key 1 slots o s c.add_node-turn.result (Some node) u) (sym c.in-Some.is) there
 
@@ -78,7 +78,7 @@ returns-in-Some-clause-lacking g c = λ is.
     let n = g.L.Links.numbers d in
     let t = g.L.Links.seat d c.args.p.now in
     let all = g.met.L.Links.allowed d c.args.p.now c.requires.pass in
-    let adds = absent_adds n c.args.root c.args.key c.args.spot.left c.args.spot.first c.args.spot.right c.in-Some.node slots s t c.requires.root.1 some f
+    let adds = absent_adds n c.args.root c.args.key c.args.left c.args.first c.args.right c.in-Some.node slots s t c.requires.root.1 some f
     (seen_holds (list_ordering n) s t f.own f.behind.quiet.puts all) all in
     absurd (adds_given n c.args.key c.in-Some.node adds.id 0 s.slots s (g.L.Links.seat d c.add_node-turn.new.p) c.add_node-turn.result
     (c.add_node-turn.ensures.added 0 s.slots s adds) is)

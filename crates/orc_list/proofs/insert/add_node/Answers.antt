@@ -19,23 +19,23 @@ use Rattle.orc_list.proofs.insert.add_node.Goals as goal
 -- what came of the link
 linked : (g : Over) (c : After-link_node-linked g) → let d = c.args.links.now in let n = g.L.Links.numbers d in let a = c.args in
     let t = g.L.Links.seat d a.p.now in (given : ℕ) (slots : Slots) (s : Seat ChainNote)
-    (w : AddsAt n a.root a.key a.spot.left a.spot.first a.spot.right a.node.now given slots s t) (r : Result Bool Spent) → c.link_node-linked.result ≡ r
-    → LinksTo n a.key a.node.now w.id (place_at t.slots a.root a.spot.left) (link_over (target_at t.slots (first_or a.spot.first a.spot.right)))
-    (target_at t.slots a.spot.right) t r (g.L.Links.seat d c.link_node-linked.new.p)
+    (w : AddsAt n a.root a.key a.left a.first a.right a.node.now given slots s t) (r : Result Bool Spent) → c.link_node-linked.result ≡ r
+    → LinksTo n a.key a.node.now w.id (place_at t.slots a.root a.left) (link_over (target_at t.slots (first_or a.first a.right)))
+    (target_at t.slots a.right) t r (g.L.Links.seat d c.link_node-linked.new.p)
 linked g c = λ given slots s w r is.
     let d = c.args.links.now in
     let a = c.args in
     let t = g.L.Links.seat d a.p.now in
     let u = g.L.Links.seat d c.link_node-linked.new.p in
-    subst (λ (r : Result Bool Spent). LinksTo (g.L.Links.numbers d) a.key a.node.now w.id (place_at t.slots a.root a.spot.left)
-    (link_over (target_at t.slots (first_or a.spot.first a.spot.right))) (target_at t.slots a.spot.right) t r u) is
+    subst (λ (r : Result Bool Spent). LinksTo (g.L.Links.numbers d) a.key a.node.now w.id (place_at t.slots a.root a.left)
+    (link_over (target_at t.slots (first_or a.first a.right))) (target_at t.slots a.right) t r u) is
     (c.link_node-linked.ensures.linked w.id w.holds)
 
 -- the nodes of the search are in hand on
 hands : (g : Over) (c : After-link_node-linked g) → let d = c.args.links.now in let n = g.L.Links.numbers d in let a = c.args in
     (given : ℕ) (slots : Slots) (s : Seat ChainNote)
-    (w : AddsAt n a.root a.key a.spot.left a.spot.first a.spot.right a.node.now given slots s (g.L.Links.seat d a.p.now))
-    → InHand n slots a.spot.left a.spot.first a.spot.right None (g.L.Links.seat d c.link_node-linked.new.p)
+    (w : AddsAt n a.root a.key a.left a.first a.right a.node.now given slots s (g.L.Links.seat d a.p.now))
+    → InHand n slots a.left a.first a.right None (g.L.Links.seat d c.link_node-linked.new.p)
 hands g c = λ given slots s w.
     let d = c.args.links.now in
     let e = c.link_node-linked.ensures in

@@ -13,8 +13,7 @@ let_all_go-requires-clause-hands g c =
     let d = c.args.links.now in
     let s = g.L.Links.seat d c.args.p.now in
     let t = g.L.Links.seat d c.search.new.p in
-    let spot = c.in-Absent.field-0 in
-    (s.slots, absent_hand (list_ordering (g.L.Links.numbers d)) (Root c.args.root) c.args.key 0 spot.left spot.first s t spot.right c.in-Absent.ensures.found)
+    (s.slots, absent_hand (list_ordering (g.L.Links.numbers d)) (Root c.args.root) c.args.key 0 c.in-Absent.left c.in-Absent.first s t c.in-Absent.right c.in-Absent.ensures.found)
 
 pub returns-in-Over-clause-stopped : goal.returns-in-Over-clause-stopped
 returns-in-Over-clause-stopped g c =
@@ -32,10 +31,9 @@ returns-in-Absent-clause-stopped g c =
     let s = g.L.Links.seat d c.args.p.now in
     let t = g.L.Links.seat d c.search.new.p in
     let y = g.L.Links.seat d c.let_all_go.new.p in
-    let spot = c.in-Absent.field-0 in
     let found = c.in-Absent.ensures.found in
-    let gone = c.let_all_go.ensures.gone s.slots (absent_hand (list_ordering (g.L.Links.numbers d)) (Root c.args.root) c.args.key 0 spot.left spot.first s t
-    spot.right found) in
+    let gone = c.let_all_go.ensures.gone s.slots (absent_hand (list_ordering (g.L.Links.numbers d)) (Root c.args.root) c.args.key 0 c.in-Absent.left c.in-Absent.first s t
+    c.in-Absent.right found) in
     quiet_stops (g.L.Links.numbers d) c.args.key s t y found.own found.behind.quiet gone.puts gone.slots_are gone.fresh
     (λ w alone. sees_absent found y gone.puts (g.met.L.Links.allowed d c.let_all_go.new.p c.let_all_go.ensures.pass))
 

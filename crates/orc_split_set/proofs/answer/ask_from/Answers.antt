@@ -78,7 +78,7 @@ enter_present-requires-clause-present g c =
 pub returns-in-Over-clause-asked : goal.returns-in-Over-clause-asked
 returns-in-Over-clause-asked g c = λ start s room b.
     let d = c.args.links.now in
-    found_over (split_reading (g.L.Links.numbers d)) s (g.L.Links.seat d c.search_for.new.p) (c.in-Over.ensures.found start s room b)
+    found_over (split_reading (g.L.Links.numbers d)) s (g.L.Links.seat d c.search_for.new.p) (c.in-Over.ensures.found start s room b).0
 
 pub returns-then-enter_absent-clause-asked : goal.returns-then-enter_absent-clause-asked
 returns-then-enter_absent-clause-asked g c = λ start s room b.
@@ -105,7 +105,7 @@ returns-else-enter_present-clause-asked g c = λ start s room b.
 pub returns-in-Over-clause-few : goal.returns-in-Over-clause-few
 returns-in-Over-clause-few g c = λ start s room b nodes to path ends sees.
     let d = c.args.links.now in
-    absurd (own_not_moved (g.L.Links.numbers d) s (g.L.Links.seat d c.search_for.new.p) (c.in-Over.ensures.found start s room b) sees)
+    absurd (own_not_moved (g.L.Links.numbers d) s (g.L.Links.seat d c.search_for.new.p) (c.in-Over.ensures.found start s room b).0 sees)
 
 pub returns-then-enter_absent-clause-few : goal.returns-then-enter_absent-clause-few
 returns-then-enter_absent-clause-few g c = few_absent g (goal.at.returns-then-enter_absent-clause-few g c).After-enter_absent

@@ -4,7 +4,7 @@ use Rattle.orc_heap.specs.declared.events.Place.TheVariants.{Root}
 use Rattle.orc_split_rule.specs.SplitOrder.{bucket_of}
 use Rattle.orc_split_set.specs.NewNodes.{value_of}
 use Rattle.orc_split_set.proofs.Looking.{half_same, look_agent, none_new, root_few, start_shown}
-use Rattle.orc_split_set.proofs.Ordered.{looks_from}
+use Rattle.orc_ordered_search.proofs.Ranking.{looks_from}
 use Rattle.orc_split_set.proofs.Beginning.{root_at, root_moved, root_null}
 use Rattle.orc_split_set.proofs.Sizes.{looks_none, looks_some}
 use Rattle.orc_split_set.proofs.begin.begin_at.Goals as goal

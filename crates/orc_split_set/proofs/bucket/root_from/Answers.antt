@@ -12,7 +12,7 @@ search_for-requires-clause-begins g c =
 pub returns-in-Over-clause-rooted : goal.returns-in-Over-clause-rooted
 returns-in-Over-clause-rooted g c = λ start s room fresh b.
     let d = c.args.links.now in
-    moved_roots (g.L.Links.numbers d) c.args.bucket s (g.L.Links.seat d c.search_for.new.p) (c.in-Over.ensures.found start s room.room b) fresh
+    moved_roots (g.L.Links.numbers d) c.args.bucket s (g.L.Links.seat d c.search_for.new.p) (c.in-Over.ensures.found start s room.room b).0 fresh
 
 pub add_dummy-requires-clause-absent : goal.add_dummy-requires-clause-absent
 add_dummy-requires-clause-absent g c =

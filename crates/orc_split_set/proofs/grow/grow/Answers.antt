@@ -12,7 +12,7 @@ use Rattle.orc_split_set.specs.Beginnings.{Held}
 use Rattle.orc_split_set.specs.Growths.{ShowsSize}
 use Rattle.orc_split_set.specs.declared.bucket.Rooted.TheVariants.{Moved}
 use Rattle.orc_split_set.proofs.Growing.{doubles_after, doubles_held, doubles_idle, doubles_moved, free_beside, null_shows, still_shows}
-use Rattle.orc_split_set.proofs.Ordered.{looks_from}
+use Rattle.orc_ordered_search.proofs.Ranking.{looks_from}
 use Rattle.orc_split_set.proofs.Preparing.{null_held}
 use Rattle.orc_split_set.proofs.Sizes.{SizeHeld, looks_none, looks_some, size_held, size_moved}
 use Rattle.orc_split_set.proofs.grow.grow.Given.{Over}

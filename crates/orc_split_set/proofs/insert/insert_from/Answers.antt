@@ -24,7 +24,7 @@ returns-in-Over-clause-inserted g c = λ start slots s room k b.
     let n = g.L.Links.numbers d in
     let t = g.L.Links.seat d c.search_for.new.p in
     let rooms = has_room (split_reading n) c.args.key 1 c.args.node slots s room k in
-    let over = found_over (split_reading n) s t (c.in-Over.ensures.found start s rooms b) in
+    let over = found_over (split_reading n) s t (c.in-Over.ensures.found start s rooms b).0 in
     let all = g.met.L.Links.allowed d c.search_for.new.p c.in-Over.ensures.pass in
     keeps_on (split_ordering n) c.args.key 1 c.args.node slots s t k over (seen_holds (split_ordering n) s t over.own over.over.made.puts all) all
 

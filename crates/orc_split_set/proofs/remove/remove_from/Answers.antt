@@ -20,7 +20,7 @@ enter_absent-requires-clause-absent g c =
 pub returns-in-Over-clause-removed : goal.returns-in-Over-clause-removed
 returns-in-Over-clause-removed g c = λ start s room b.
     let d = c.args.links.now in
-    found_over (split_reading (g.L.Links.numbers d)) s (g.L.Links.seat d c.search_for.new.p) (c.in-Over.ensures.found start s room b)
+    found_over (split_reading (g.L.Links.numbers d)) s (g.L.Links.seat d c.search_for.new.p) (c.in-Over.ensures.found start s room b).0
 
 pub returns-then-enter_absent-clause-removed : goal.returns-then-enter_absent-clause-removed
 returns-then-enter_absent-clause-removed g c = λ start s room b.

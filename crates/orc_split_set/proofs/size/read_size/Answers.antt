@@ -1,7 +1,7 @@
 -- By what the look of the size's root found.
 use Rattle.std.proofs.Common.{ap, arith, subst, ◌≤◌, ℕ}
 use Rattle.orc_heap.specs.declared.events.Place.TheVariants.{Root}
-use Rattle.orc_split_set.proofs.Ordered.{looks_from}
+use Rattle.orc_ordered_search.proofs.Ranking.{looks_from}
 use Rattle.orc_split_set.proofs.Sizes.{looks_none, looks_some, size_given, size_moved, size_one}
 use Rattle.orc_split_set.proofs.size.read_size.Goals as goal
 

@@ -43,7 +43,7 @@ returns-in-Over-clause-stopped g c =
     let n = g.L.Links.numbers d in
     let s = g.L.Links.seat d c.args.p.now in
     let t = g.L.Links.seat d c.search_for.new.p in
-    let over = c.in-Over.ensures.found (Root 0) s (idle_room s c.requires.idle).room (begins_first n c.args.bucket s) in
+    let over = (c.in-Over.ensures.found (Root 0) s (idle_room s c.requires.idle).room (begins_first n c.args.bucket s)).0 in
     moved_stops n c.args.bucket s t (moved_roots n c.args.bucket s t over c.requires.idle.fresh)
 
 pub add_and_stop-requires-clause-absent : goal.add_and_stop-requires-clause-absent

@@ -1,0 +1,12 @@
+-- The first value is the key.
+use Rattle.std.proofs.Common.{arith}
+use Rattle.orc_list.proofs.Starting.{key_read}
+use Rattle.orc_list.proofs.key.KeyRank.read.Goals as goal
+
+pub returns-clause-rank : goal.returns-clause-rank
+returns-clause-rank g c =
+    let d = c.args.links.now in
+    key_read (g.L.Links.numbers d) _ c.value.result (g.L.Links.seat d c.value.new.p) c.value.ensures.value
+
+pub returns-clause-fits : goal.returns-clause-fits
+returns-clause-fits g c = omega (arith, c.value.type_inv)

@@ -1,0 +1,40 @@
+//! Keys as ranks.
+
+ghost use Rattle.orc_list.specs.Laws.Ordered.{list_ordered};
+ghost use Rattle.orc_list.specs.Searches.{list_manner};
+ghost use Rattle.std.specs.Prelude.{false};
+
+use orc_chain_rule::Chain;
+use orc_heap::{Held, Links};
+use orc_ordered_search::Rank;
+
+/// A key, by which the nodes of a list stand in order.
+#[derive(Clone, Copy)]
+pub struct Key(pub u64);
+
+impl Rank for Key {
+    type Rule = Chain;
+
+    ghost manner = { list_manner };
+
+    ghost number = { λ key. key.0 };
+
+    ghost counted = { λ key. false };
+
+    #[inline(always)]
+    fn read<L: Links<Rule = Chain>>(links: &L, p: &mut L::Pass, node: &Held) -> Key {
+        Key(links.value(p, node, 0))
+    }
+
+    #[inline(always)]
+    fn is_before(self, other: Key) -> bool {
+        self.0 < other.0
+    }
+
+    #[inline(always)]
+    fn is_counted(self) -> bool {
+        false
+    }
+
+    ghost ordered = { list_ordered };
+}
