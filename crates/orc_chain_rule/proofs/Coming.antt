@@ -3,7 +3,7 @@ use Rattle.std.proofs.Common.{List, Option, Some, [], false, inl, refl, sym, tru
 use Rattle.std.proofs.lemmas.Bool.{false_from_ne_true}
 use Rattle.orc_heap.proofs.Fresh.{node_later}
 use Rattle.orc_heap.proofs.Sides.{null_side}
-use Rattle.orc_heap.specs.Allowed.{AllowedLater}
+use Rattle.orc_heap.specs.Allowed.{AllowedLater, Later}
 use Rattle.orc_heap.specs.Heap.{Heap, HeapNumbers, shown, link_to}
 use Rattle.orc_heap.specs.Journals.{event_by, run_heap}
 use Rattle.orc_heap.specs.declared.events.Act.TheVariants.{Look, Move}
@@ -121,29 +121,30 @@ unlink_allowed n agent place from first others to seen holds l plain run = λ mo
     }
 
 -- the answer that a key is absent
+absent_later : (n : HeapNumbers) (agent : ℕ) (place : Place) (from : Link) (over : List ℕ) (to : Option ℕ) (key : ℕ) (seen : List (Event ChainNote))
+    → ChainHolds n seen → FollowsOn n.roots (run_heap n seen) place key → from.mark ≡ false → IsRun (run_heap n seen) from over to
+    → IsAbove (run_heap n seen) to key
+    → (more : List (Event ChainNote)) → Later (ChainMay n) agent seen more → shown (run_heap n (seen ++ more)) place ≡ Some from
+    → has key (set_after (seen ++ more)) ≡ false
+absent_later n agent place from over to key seen holds f plain run above more later at =
+    key_absent n (seen ++ more) place from over to key (holds_later n seen more holds later.allowed)
+    (follows_later n seen more n.roots place key f later.allowed) at plain
+    (run_later n seen more from over to run later.allowed)
+    (above_later n seen more to key above later.allowed)
+
 pub removed_absent_allowed : (n : HeapNumbers) (agent : ℕ) (place : Place) (from : Link) (over : List ℕ) (to : Option ℕ) (key : ℕ)
     (seen : List (Event ChainNote)) → ChainHolds n seen
     → FollowsOn n.roots (run_heap n seen) place key → from.mark ≡ false → IsRun (run_heap n seen) from over to → IsAbove (run_heap n seen) to key
     → AllowedLater (ChainMay n) n agent seen place from (event_by agent (Look place from) (Some (Entry (Removed agent key false))))
 removed_absent_allowed n agent place from over to key seen holds f plain run above = λ more later at.
-    let now = holds_later n seen more holds later.allowed in
-    let none =
-    key_absent n (seen ++ more) place from over to key now (follows_later n seen more n.roots place key f later.allowed) at plain
-    (run_later n seen more from over to run later.allowed)
-    (above_later n seen more to key above later.allowed) in
-    record { fits = at; may_act = (refl, none); own = refl }
+    record { fits = at; may_act = (refl, absent_later n agent place from over to key seen holds f plain run above more later at); own = refl }
 
 pub asked_absent_allowed : (n : HeapNumbers) (agent : ℕ) (place : Place) (from : Link) (over : List ℕ) (to : Option ℕ) (key : ℕ)
     (seen : List (Event ChainNote)) → ChainHolds n seen
     → FollowsOn n.roots (run_heap n seen) place key → from.mark ≡ false → IsRun (run_heap n seen) from over to → IsAbove (run_heap n seen) to key
     → AllowedLater (ChainMay n) n agent seen place from (event_by agent (Look place from) (Some (Entry (Asked agent key false))))
 asked_absent_allowed n agent place from over to key seen holds f plain run above = λ more later at.
-    let now = holds_later n seen more holds later.allowed in
-    let none =
-    key_absent n (seen ++ more) place from over to key now (follows_later n seen more n.roots place key f later.allowed) at plain
-    (run_later n seen more from over to run later.allowed)
-    (above_later n seen more to key above later.allowed) in
-    record { fits = at; may_act = sym none; own = refl }
+    record { fits = at; may_act = sym (absent_later n agent place from over to key seen holds f plain run above more later at); own = refl }
 
 -- the answer that a key is present
 pub added_present_allowed : (n : HeapNumbers) (agent id key : ℕ) (link : Link) (seen : List (Event ChainNote)) → ChainHolds n seen

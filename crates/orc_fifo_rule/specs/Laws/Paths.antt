@@ -66,21 +66,20 @@ successor_linked n es t x holds link =
     ]
 
 -- a root that steps on leaves a once linked node for its successor
+root_steps : (h : Heap) (root id : ℕ) → IsLinkedNode h id → shown h (Root root) ≡ Some (link_to id) → (r : ℕ) (from to : Link) (s : StepsOn h from to)
+    → r ≡ root → shown h (Root r) ≡ Some from → (s.id ≡ id) × HasLink h s.id (link_to s.next)
+root_steps h root id linked leads r from to s is at =
+    let here : shown h (Root root) ≡ Some from = subst (λ (x : ℕ). shown h (Root x) ≡ Some from) is at in
+    let same : s.id ≡ id = link_same s.id id (sym s.from_is ∙ some_same (sym here ∙ leads)) in
+    (same, has_link h s.id (link_to s.next) (subst (λ (x : ℕ). IsLinkedNode h x) (sym same) linked) s.successor)
+
 pub tail_steps : (h : Heap) (es : List (Event FifoNote)) (run : IsRunning h es) (r : ℕ) (from to : Link) (s : StepsOn h from to) → r ≡ 1
-    → shown h (Root r) ≡ Some from
-    → (s.id ≡ run.tail) × HasLink h s.id (link_to s.next)
-tail_steps h es run r from to s one at =
-    let here : shown h (Root 1) ≡ Some from = subst (λ (x : ℕ). shown h (Root x) ≡ Some from) one at in
-    let same : s.id ≡ run.tail = link_same s.id run.tail (sym s.from_is ∙ some_same (sym here ∙ run.tail_is)) in
-    (same, has_link h s.id (link_to s.next) (subst (λ (x : ℕ). IsLinkedNode h x) (sym same) (tail_linked h es run)) s.successor)
+    → shown h (Root r) ≡ Some from → (s.id ≡ run.tail) × HasLink h s.id (link_to s.next)
+tail_steps h es run = root_steps h 1 run.tail (tail_linked h es run) run.tail_is
 
 pub head_steps : (h : Heap) (es : List (Event FifoNote)) (run : IsRunning h es) (r : ℕ) (from to : Link) (s : StepsOn h from to) → r ≡ 0
-    → shown h (Root r) ≡ Some from
-    → (s.id ≡ run.dummy) × HasLink h s.id (link_to s.next)
-head_steps h es run r from to s zero_root at =
-    let here : shown h (Root 0) ≡ Some from = subst (λ (x : ℕ). shown h (Root x) ≡ Some from) zero_root at in
-    let same : s.id ≡ run.dummy = link_same s.id run.dummy (sym s.from_is ∙ some_same (sym here ∙ run.head_is)) in
-    (same, has_link h s.id (link_to s.next) (subst (λ (x : ℕ). IsLinkedNode h x) (sym same) (dummy_linked h es run)) s.successor)
+    → shown h (Root r) ≡ Some from → (s.id ≡ run.dummy) × HasLink h s.id (link_to s.next)
+head_steps h es run = root_steps h 0 run.dummy (dummy_linked h es run) run.head_is
 
 -- a Put stands at the last node
 pub put_at_last : (h : Heap) (es : List (Event FifoNote)) (run : IsRunning h es) (t : ℕ) → shown h (Root 1) ≡ Some (link_to t) → shown h (Next t) ≡ Some null
