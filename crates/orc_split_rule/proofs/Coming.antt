@@ -3,6 +3,7 @@ use Rattle.std.proofs.Common.{List, None, Option, Some, [], ap, false, inl, refl
 use Rattle.std.proofs.lemmas.Bool.{false_from_ne_true}
 use Rattle.orc_heap.proofs.Known.{linked_known}
 use Rattle.orc_heap.proofs.Moved.{shown_node}
+use Rattle.orc_heap.specs.Acts.{IsKnown}
 use Rattle.orc_heap.specs.Allowed.{AllAllowed, AllowedLater, Later}
 use Rattle.orc_heap.specs.Heap.{Heap, HeapNumbers, Node, link_to, null, shown}
 use Rattle.orc_heap.specs.Journals.{event_by, run_heap}
@@ -89,6 +90,16 @@ link_later n agent place from over to rank fresh node seen holds out there mine 
       refl,
     )
 
+-- the agent's fresh node is known to it
+known_fresh : (n : HeapNumbers) (agent fresh : ℕ) (node : Node) (seen more : List (Event SplitNote)) → SplitHolds n seen
+    → slice_get (run_heap n seen).nodes fresh ≡ Some node → node.giver ≡ agent → node.named ≡ false → node.linked ≡ false
+    → Later (SplitMay n) agent seen more → IsKnown agent (run_heap n (seen ++ more)) fresh
+known_fresh n agent fresh node seen more holds there mine unnamed unlinked later = record {
+  node = node;
+  there = fresh_later n agent fresh node seen more holds there mine unnamed unlinked later;
+  known = inl mine;
+}
+
 -- an Added true of the agent's fresh node
 pub added_allowed : (n : HeapNumbers) (agent : ℕ) (place : Place) (from : Link) (over : List ℕ) (to : Option ℕ) (key fresh : ℕ)
     (seen : List (Event SplitNote)) → SplitHolds n seen → LeavesOut (run_heap n seen) place from over to (key_place key)
@@ -98,14 +109,7 @@ added_allowed n agent place from over to key fresh seen holds out there = λ mor
     let node : Node = node_to_link agent key 1 to in
     let (a, is) = link_later n agent place from over to (key_place key) fresh node seen holds out there refl refl refl refl refl refl more later at in
     record {
-      fits = (
-        at,
-        record {
-          node = node;
-          there = fresh_later n agent fresh node seen more holds there refl refl refl later;
-          known = inl refl;
-        },
-      );
+      fits = (at, known_fresh n agent fresh node seen more holds there refl refl refl later);
       may_act = (
         refl,
         record {
@@ -127,14 +131,7 @@ bucket_allowed n agent place from over to bucket fresh seen holds low high out t
     let node : Node = node_to_link agent bucket 0 to in
     let (a, is) = link_later n agent place from over to (dummy_place bucket) fresh node seen holds out there refl refl refl refl refl refl more later at in
     record {
-      fits = (
-        at,
-        record {
-          node = node;
-          there = fresh_later n agent fresh node seen more holds there refl refl refl later;
-          known = inl refl;
-        },
-      );
+      fits = (at, known_fresh n agent fresh node seen more holds there refl refl refl later);
       may_act = record {
         bucket = bucket;
         low = low;
