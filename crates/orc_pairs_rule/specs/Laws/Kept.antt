@@ -21,7 +21,7 @@ use Rattle.orc_pairs_rule.specs.declared.pairs.PairsNote.TheVariants.{Entry}
 use Rattle.orc_pairs_rule.specs.CellHistory.{Parts}
 use Rattle.orc_pairs_rule.specs.PairsDiscipline.{HasLinks, HasPart, IsNoMove, IsOfCell, IsPart, MayAct, MayEnter, PairsHolds, PairsMay, entries_in, entries_of, pairs_rank, rank_in}
 use Rattle.orc_pairs_rule.specs.Laws.Histories.{legal_more}
-use Rattle.orc_pairs_rule.specs.Laws.Kinds.{each_kind}
+use Rattle.orc_pairs_rule.specs.Laws.Kinds.{each_kind, unless_move}
 use Rattle.orc_pairs_rule.specs.Laws.Nodes.{MovesRoot, links_next, linked_stays, moves_root, names, parts_next, side_kept, target_after}
 use Rattle.orc_pairs_rule.specs.Laws.Lists.{split_more}
 use Rattle.orc_pairs_rule.specs.Laws.Shown.{marks_next, shows_next}
@@ -69,13 +69,8 @@ pairs_moves_linked n seen e holds may = root_linked e.act (run_heap n seen) (mov
 -- what kind of node a once linked node is
 
 none_to : (act : Act) (id : ℕ) → IsNoMove act → moves_to act id ≡ true → ⊥
-none_to Give id m e = cc
-none_to (Fill i which value) id m e = cc
-none_to (Aim i to) id m e = cc
-none_to (AimSide i to) id m e = cc
-none_to (Look place link) id m e = cc
-none_to (Move place from to) id m e = absurd m
-none_to (Miss place wanted found) id m e = cc
+none_to act id m = unless_move (λ act. moves_to act id ≡ true → ⊥) (λ e. cc) (λ id which value e. cc) (λ id to e. cc) (λ id to e. cc) (λ place link e. cc)
+    (λ place wanted found e. cc) act m
 
 null_names : (to : Link) (id : ℕ) → to ≡ null → names_node to.to id ≡ true → ⊥
 null_names to id is named = let bad : false ≡ true = subst (λ (l : Link). names_node l.to id ≡ true) is named in cc

@@ -18,7 +18,7 @@ use Rattle.orc_heap.specs.declared.events.Place.TheVariants.{Next, Root, Side}
 use Rattle.orc_pairs_rule.specs.declared.pairs.PairsNote.{PairsNote}
 use Rattle.orc_pairs_rule.specs.CellHistory.{Parts}
 use Rattle.orc_pairs_rule.specs.PairsDiscipline.{HasLinks, HasPair, HasPart, IsNoMove, IsPair, MayAct, PairsMay}
-use Rattle.orc_pairs_rule.specs.Laws.Kinds.{each_kind}
+use Rattle.orc_pairs_rule.specs.Laws.Kinds.{each_kind, unless_move}
 
 -- if the act is a Move, it is one of a root
 abbrev pub MovesRoot : Act → Type 0
@@ -27,13 +27,7 @@ MovesRoot (Move (Side id) from to) = ⊥
 MovesRoot act = Unit {0}
 
 no_move_moves_root : (act : Act) → IsNoMove act → MovesRoot act
-no_move_moves_root Give m = tt
-no_move_moves_root (Fill id which value) m = tt
-no_move_moves_root (Aim id to) m = tt
-no_move_moves_root (AimSide id to) m = tt
-no_move_moves_root (Look place link) m = tt
-no_move_moves_root (Move place from to) m = absurd m
-no_move_moves_root (Miss place wanted found) m = tt
+no_move_moves_root = unless_move MovesRoot tt (λ id which value. tt) (λ id to. tt) (λ id to. tt) (λ place link. tt) (λ place wanted found. tt)
 
 pub moves_root : (h : Heap) (agent : ℕ) (act : Act) (noted : Option PairsNote) → MayAct h agent act noted → MovesRoot act
 moves_root h agent act noted may =
@@ -41,27 +35,17 @@ moves_root h agent act noted may =
     (λ place link by x y. tt)
     act noted may
 
-link_stays : (act : Act) (id : ℕ) (link : Link) → MovesRoot act → moved_link act id link ≡ link
-link_stays Give id link m = refl
-link_stays (Fill i which value) id link m = refl
-link_stays (Aim i to) id link m = refl
-link_stays (AimSide i to) id link m = refl
-link_stays (Look place l) id link m = refl
-link_stays (Move (Root r) from to) id link m = refl
-link_stays (Move (Next i) from to) id link m = absurd m
-link_stays (Move (Side i) from to) id link m = absurd m
-link_stays (Miss place wanted found) id link m = refl
-
-side_stays : (act : Act) (id : ℕ) (link : Link) → MovesRoot act → moved_side act id link ≡ link
-side_stays Give id link m = refl
-side_stays (Fill i which value) id link m = refl
-side_stays (Aim i to) id link m = refl
-side_stays (AimSide i to) id link m = refl
-side_stays (Look place l) id link m = refl
-side_stays (Move (Root r) from to) id link m = refl
-side_stays (Move (Next i) from to) id link m = absurd m
-side_stays (Move (Side i) from to) id link m = absurd m
-side_stays (Miss place wanted found) id link m = refl
+-- then the links of a node stay
+links_stay : (act : Act) (id : ℕ) (link side : Link) → MovesRoot act → (moved_link act id link ≡ link) × (moved_side act id side ≡ side)
+links_stay Give id link side m = (refl, refl)
+links_stay (Fill i which value) id link side m = (refl, refl)
+links_stay (Aim i to) id link side m = (refl, refl)
+links_stay (AimSide i to) id link side m = (refl, refl)
+links_stay (Look place l) id link side m = (refl, refl)
+links_stay (Move (Root r) from to) id link side m = (refl, refl)
+links_stay (Move (Next i) from to) id link side m = absurd m
+links_stay (Move (Side i) from to) id link side m = absurd m
+links_stay (Miss place wanted found) id link side m = (refl, refl)
 
 module _ (n : HeapNumbers) (es : List (Event PairsNote)) (e : Event PairsNote) (may : PairsMay n es e) where
   -- a once linked node keeps its values and its first link
@@ -76,7 +60,7 @@ module _ (n : HeapNumbers) (es : List (Event PairsNote)) (e : Event PairsNote) (
         giver = s.giver;
         first = s.first;
         second = s.second;
-        link_is = s.link_is ∙ link_stays e.act id old.link (moves_root (run_heap n es) e.agent e.act e.note may.may_act);
+        link_is = s.link_is ∙ (links_stay e.act id old.link old.side (moves_root (run_heap n es) e.agent e.act e.note may.may_act)).0;
       })
 
   -- and its second link
@@ -88,7 +72,7 @@ module _ (n : HeapNumbers) (es : List (Event PairsNote)) (e : Event PairsNote) (
       some_same (sym (node-after e.agent e.act h id old there) ∙ (ap (λ g. slice_get g.nodes id) (sym (run_heap-snoc n es e)) ∙ now)) in
       ap (λ (x : Node). x.side) (sym is)
       ∙ (side_after e.agent e.act h id old may.fits there linked
-      ∙ side_stays e.act id old.side (moves_root h e.agent e.act e.note may.may_act))
+      ∙ (links_stay e.act id old.link old.side (moves_root h e.agent e.act e.note may.may_act)).1)
 
   pub links_next : (id : ℕ) (link side : Link) → HasLinks (run_heap n es) id link side → HasLinks (run_heap n (es ++ e ∷ [])) id link side
   links_next id link side l =
