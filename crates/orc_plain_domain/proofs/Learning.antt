@@ -20,7 +20,7 @@ use Rattle.orc_plain_board.specs.declared.machine.PlainOp.{PlainOp}
 use Rattle.orc_plain_board.specs.declared.machine.PlainStep.{PlainStep}
 use Rattle.orc_plain_board.specs.declared.pass.PlainBoardPass.{PlainBoardPass as BoardPass}
 use Rattle.orc_plain_board.specs.declared.shape.PlainShape.{PlainShape}
-use Rattle.orc_plain_domain.specs.Passes.{IsPassOf, domain_bounds, domain_numbers, seat_of}
+use Rattle.orc_plain_domain.specs.Passes.{IsPassOf, domain_bounds, seat_of}
 use Rattle.orc_plain_domain.specs.declared.domain.PlainDomain.{PlainDomain}
 use Rattle.orc_plain_domain.specs.declared.domain.PlainPass.{PlainPass}
 use Rattle.orc_plain_domain.specs.Rows.{seat_by}
@@ -60,12 +60,6 @@ module _ {D N : Type 0} {d : discipline.Ghosts D N} {m : machine.Ghosts Plain N 
     (q r : BoardPass D N (PlainShape N) PlainOp (PlainStep N) (Unit {0}) (Unit {0}) d m) (x : Belongs domain.board q) (y : Belongs domain.board r)
     (l : LearnsEvents (shows domain.board into.pass) (shows domain.board from.pass) (shows domain.board q) (shows domain.board r))
   where
-    abbrev b : Bounds
-    b = domain_bounds domain
-
-    abbrev may : List (Event N) → Event N → Type 0
-    may = d.may (domain_numbers domain)
-
     abbrev s : PlainView N
     s = shows domain.board into.pass
 
@@ -78,11 +72,11 @@ module _ {D N : Type 0} {d : discipline.Ghosts D N} {m : machine.Ghosts Plain N 
     abbrev w : PlainView N
     w = shows domain.board r
 
-    into_grows : Grows b s t
-    into_grows = grow_seen b may s t l.into.agent (first_more s u t l.longer) l.into.rows x.keeps.now.each
+    into_grows : Grows (domain_bounds domain) s t
+    into_grows = grow_seen _ _ s t l.into.agent (first_more s u t l.longer) l.into.rows x.keeps.now.each
 
-    from_grows : Grows b u w
-    from_grows = grow_seen b may u w l.from.agent (subst (IsPrefix u.events) (sym l.both.0) (second_more s u t l.longer)) l.from.rows y.keeps.now.each
+    from_grows : Grows (domain_bounds domain) u w
+    from_grows = grow_seen _ _ u w l.from.agent (subst (IsPrefix u.events) (sym l.both.0) (second_more s u t l.longer)) l.from.rows y.keeps.now.each
 
     pub still_into : IsPassOf domain (record { pass = q; slots = into.slots; next = into.next; shape = into.shape })
     still_into = still_of domain into h q x into_grows
@@ -108,10 +102,10 @@ module _ {D N : Type 0} {d : discipline.Ghosts D N} {m : machine.Ghosts Plain N 
         (seen_with z.0 into.pass) (seen_with z.1 from.pass) (seen_with z.0 q) (seen_with z.1 r))
         (λ i. (sym h.shape i, sym k.shape i)) record {
           agents = (l.into.agent, l.from.agent);
-          slots = (slots_stay b s t into.slots into_grows (held_given domain into h), slots_stay b u w from.slots from_grows (held_given domain from k));
+          slots = (slots_stay _ s t into.slots into_grows (held_given domain into h), slots_stay _ u w from.slots from_grows (held_given domain from k));
           fresh = (
-            ap (id_by t.rows) l.into.fresh ∙ fresh_stays b s t s.fresh into_grows (fresh_given domain into h),
-            ap (id_by w.rows) l.from.fresh ∙ fresh_stays b u w u.fresh from_grows (fresh_given domain from k),
+            ap (id_by t.rows) l.into.fresh ∙ fresh_stays _ s t s.fresh into_grows (fresh_given domain into h),
+            ap (id_by w.rows) l.from.fresh ∙ fresh_stays _ u w u.fresh from_grows (fresh_given domain from k),
           );
           one_journal = sym l.both.0;
           longer = longer_of s u t l.longer;
