@@ -1,22 +1,13 @@
 -- No record has neither a cause nor a line.
-use Rattle.std.proofs.Common.{◌≡◌, ◌≢◌, ◌<◌, ◌^◌, ◌⊎◌, List, [], ◌∷◌, ℕ, zero, suc, arith, codes, inl, inr, length}
+use Rattle.std.proofs.Common.{◌≡◌, ◌≢◌, ◌<◌, ◌^◌, List, [], ◌∷◌, ℕ, suc, arith, codes, inl, inr, length}
 use Rattle.std.specs.Fmt.{decimal}
-use Rattle.orc_jobs.specs.JobGrammar.{field}
+use Rattle.orc_jobs.proofs.FileLaws.{none-applies, whether}
+use Rattle.orc_jobs.specs.RecordFiles.{field}
 use Rattle.orc_watch.specs.WatchGrammar.{Applies, HasCause, IsLine, rank_of, record_of}
 use Rattle.orc_watch.specs.declared.fault.WatchCause.{WatchCause}
 use Rattle.orc_watch.specs.declared.fault.WatchCause.TheVariants as cause
 use Rattle.orc_watch.specs.declared.line.WatchLine.{WatchLine}
 use Rattle.orc_watch.specs.declared.line.WatchLine.TheVariants as line
-
--- where no cause is the first that applies, none applies
-none-applies : (fields : List (List ℕ)) → ((why : WatchCause) → ¬ HasCause fields why) → (n : ℕ) (why : WatchCause) → rank_of why < n → ¬ Applies why fields
-none-applies fields none zero why lt bad = omega (arith, lt)
-none-applies fields none (suc n) why lt bad =
-    none why (record { applies = bad; first = λ earlier before. none-applies fields none n earlier (omega (arith, lt, before)) })
-
--- to refute a claim, one may ask of any fact whether it holds
-whether : (P : Type 0) → ¬ ¬ (P ⊎ ¬ P)
-whether P k = k (inr (λ p. k (inl p)))
 
 one-field : (fields : List (List ℕ)) (a : List ℕ) → length fields ≡ 1 → field fields 0 ≡ a → fields ≡ a ∷ []
 one-field [] a n p = absurd (omega (arith, n))
@@ -77,4 +68,4 @@ not-neither fields none = none.causes cause.Verb (
 )
 
 pub cause-or-line : (fields : List (List ℕ)) → ((why : WatchCause) → ¬ HasCause fields why) → ¬ ((l : WatchLine) → IsLine l → fields ≢ record_of l)
-cause-or-line fields none lines = not-neither fields (record { causes = λ why. none-applies fields none (suc (rank_of why)) why (omega arith); lines = lines })
+cause-or-line fields none lines = not-neither fields (record { causes = λ why. none-applies Applies rank_of fields none (suc (rank_of why)) why (omega arith); lines = lines })

@@ -1,11 +1,13 @@
--- A file has one reading: a line has no cause, a record one cause and one line, and the first record with a cause one place.
-use Rattle.std.proofs.Common.{◌≡◌, ◌∙◌, ◌<◌, ◌^◌, ◌++◌, ◌⊎◌, All, List, [], ◌∷◌, ℕ, zero, suc, codes, map, refl, arith, ap, ap₂, sym, length, get_or, inl, inr, length-append, IsUtf8, rules, ◌==◌, if◌then◌else◌}
-use Rattle.std.proofs.lemmas.List.{length-map}
-use Rattle.std.proofs.lemmas.List.Elements.{All-cons, All-head, All-nil, All-tail}
+-- A line has no cause and is known by its record, and causes are in an order.
+use Rattle.std.proofs.Common.{◌≡◌, ◌∙◌, ◌<◌, ◌^◌, All, List, [], ◌∷◌, ℕ, codes, refl, arith, ap, ap₂, sym, get_or, inl, inr, IsUtf8, rules, ◌==◌, if◌then◌else◌}
+use Rattle.std.proofs.lemmas.List.Elements.{All-cons, All-nil}
 use Rattle.std.specs.Fmt.{decimal}
+use Rattle.orc_jobs.proofs.FileLaws.{AreFaults, one-cause}
 use Rattle.std.proofs.lemmas.Fmt.{IsAscii-decimal, decimal_injective}
 use Rattle.std.proofs.lemmas.Str.{IsUtf8-from_ascii}
-use Rattle.orc_watch.specs.WatchGrammar.{Applies, HasCause, IsFileOf, IsLine, Refuses, rank_of, record_of}
+use Rattle.orc_watch.specs.OneRecord.{RefusesRecord}
+use Rattle.orc_jobs.specs.RecordFiles.{BeginsWith}
+use Rattle.orc_watch.specs.WatchGrammar.{Applies, HasCause, IsLine, Refuses, rank_of, record_of}
 use Rattle.orc_watch.specs.declared.fault.WatchCause.{WatchCause}
 use Rattle.orc_watch.specs.declared.fault.WatchCause.TheVariants as cause
 use Rattle.orc_watch.specs.declared.fault.WatchFault.{WatchFault}
@@ -98,16 +100,6 @@ not-applies line.See h cause.Value (inr bad) = both-not-see (sym bad.0)
 pub no-cause : (l : WatchLine) (why : WatchCause) → IsLine l → ¬ HasCause (record_of l) why
 no-cause l why h bad = not-applies l h why bad.applies
 
--- two numbers in order
-in_order : (a b : ℕ) → (a < b) ⊎ ((a ≡ b) ⊎ (b < a))
-in_order zero zero = inr (inl refl)
-in_order zero (suc b) = inl (omega arith)
-in_order (suc a) zero = inr (inr (omega arith))
-in_order (suc a) (suc b) = elim (in_order a b) [
-  | inl lt ↦ inl (omega arith)
-  | inr more ↦ elim more [ inl e ↦ inr (inl (ap suc e)) | inr gt ↦ inr (inr (omega arith)) ]
-]
-
 cause_at : ℕ → WatchCause
 cause_at n = if n == 0 then cause.Fields else if n == 1 then cause.Utf8 else if n == 2 then cause.Verb else cause.Value
 
@@ -118,15 +110,8 @@ cause_at-rank_of cause.Utf8 = refl
 cause_at-rank_of cause.Verb = refl
 cause_at-rank_of cause.Value = refl
 
--- a record has one cause
-pub one-cause : (fields : List (List ℕ)) (a b : WatchCause) → HasCause fields a → HasCause fields b → a ≡ b
-one-cause fields a b h k = elim (in_order (rank_of a) (rank_of b)) [
-  | inl lt ↦ absurd (k.first a lt h.applies)
-  | inr more ↦ elim more [
-    | inl e ↦ sym (cause_at-rank_of a) ∙ ap cause_at e ∙ cause_at-rank_of b
-    | inr gt ↦ absurd (h.first b gt k.applies)
-  ]
-]
+same-rank : (a b : WatchCause) → rank_of a ≡ rank_of b → a ≡ b
+same-rank a b e = sym (cause_at-rank_of a) ∙ ap cause_at e ∙ cause_at-rank_of b
 
 same-number : (m n : ℕ) → m < 2 ^ 32 → n < 2 ^ 32 → decimal m ≡ decimal n → m ≡ n
 same-number m n h k e = decimal_injective m n (omega (arith, h)) (omega (arith, k)) e
@@ -151,111 +136,26 @@ same-line line.See (line.Left n) h k e = absurd (left-not-see (sym (first-field 
 same-line line.See (line.Right n) h k e = absurd (right-not-see (sym (first-field e)))
 same-line line.See (line.Both n j) h k e = absurd (both-not-see (sym (first-field e)))
 
--- ---- files
+-- ---- faults
 
-same-lines : (a b : List WatchLine) → All IsLine a → All IsLine b → map record_of a ≡ map record_of b → a ≡ b
-same-lines [] [] h k e = refl
-same-lines [] (y ∷ ys) h k e = cc e
-same-lines (x ∷ xs) [] h k e = cc e
-same-lines (x ∷ xs) (y ∷ ys) h k e =
-    let first : record_of x ≡ record_of y = cc e in
-    let rest : map record_of xs ≡ map record_of ys = cc e in
-    ap₂ (λ l ls. l ∷ ls) (same-line x y (All-head IsLine x xs h) (All-head IsLine y ys k) first)
-    (same-lines xs ys (All-tail IsLine x xs h) (All-tail IsLine y ys k) rest)
+by_cases : (P : WatchFault → Type 0) → ((at : ℕ) (why : WatchCause) → P (fault.Malformed at why)) → P fault.TooMany → P fault.NoMemory → (f : WatchFault) → P f
+by_cases P malformed many none (fault.Malformed at why) = malformed at why
+by_cases P malformed many none fault.TooMany = many
+by_cases P malformed many none fault.NoMemory = none
 
--- no record of a list of lines has a cause
-none-bad : (lines front : List WatchLine) (bad : List (List ℕ)) (rest : List (List (List ℕ))) (why : WatchCause) → All IsLine lines
-    → map record_of lines ≡ map record_of front ++ (bad ∷ rest) → ¬ HasCause bad why
-none-bad [] [] bad rest why each e h = cc e
-none-bad [] (f ∷ fs) bad rest why each e h = cc e
-none-bad (l ∷ ls) [] bad rest why each e h =
-    let same : record_of l ≡ bad = cc e in
-    no-cause l why (All-head IsLine l ls each) (rw same h)
-none-bad (l ∷ ls) (f ∷ fs) bad rest why each e h =
-    let same : map record_of ls ≡ map record_of fs ++ (bad ∷ rest) = cc e in
-    none-bad ls fs bad rest why (All-tail IsLine l ls each) same h
+pub faults : AreFaults record_of IsLine HasCause (λ at why. fault.Malformed at why) fault.TooMany fault.NoMemory Refuses
+faults = record {
+  by_cases = by_cases;
+  malformed_is = λ bytes at why refused. refused;
+  too_many_is = λ bytes refused. refused;
+  same_line = same-line;
+  no_cause = no-cause;
+  one_cause = one-cause Applies rank_of same-rank;
+}
 
--- nor has one that stands before the end of some lines
-none-bad-before : (lines front : List WatchLine) (bad : List (List ℕ)) (more rest : List (List (List ℕ))) (why : WatchCause) → All IsLine lines
-    → length front < length lines → map record_of lines ++ more ≡ map record_of front ++ (bad ∷ rest) → ¬ HasCause bad why
-none-bad-before [] front bad more rest why each lt e h = absurd (omega (arith, lt))
-none-bad-before (l ∷ ls) [] bad more rest why each lt e h =
-    let same : record_of l ≡ bad = cc e in
-    no-cause l why (All-head IsLine l ls each) (rw same h)
-none-bad-before (l ∷ ls) (f ∷ fs) bad more rest why each lt e h =
-    let same : map record_of ls ++ more ≡ map record_of fs ++ (bad ∷ rest) = cc e in
-    none-bad-before ls fs bad more rest why (All-tail IsLine l ls each) (omega (arith, lt)) same h
-
--- behind as many lines stands the same record
-same-place : (a b : List WatchLine) (x y : List (List ℕ)) (xs ys : List (List (List ℕ))) → length a ≡ length b
-    → map record_of a ++ (x ∷ xs) ≡ map record_of b ++ (y ∷ ys) → x ≡ y
-same-place [] [] x y xs ys n e = cc e
-same-place [] (b ∷ bs) x y xs ys n e = absurd (omega (arith, n))
-same-place (a ∷ as1) [] x y xs ys n e = absurd (omega (arith, n))
-same-place (a ∷ as1) (b ∷ bs) x y xs ys n e =
-    let same : map record_of as1 ++ (x ∷ xs) ≡ map record_of bs ++ (y ∷ ys) = cc e in
-    same-place as1 bs x y xs ys (omega (arith, n)) same
-
-pub file-read : (bytes : List ℕ) (a b : List WatchLine) → IsFileOf a bytes → IsFileOf b bytes → a ≡ b
-file-read bytes a b x y = same-lines a b x.each y.each (sym x.records ∙ y.records)
-
--- a file of lines is refused for want of memory alone
-pub file-refused : (bytes : List ℕ) (lines : List WatchLine) (f : WatchFault) → IsFileOf lines bytes → Refuses bytes f → f ≡ fault.NoMemory
-file-refused bytes lines (fault.Malformed at why) file refusal =
-    absurd (none-bad lines refusal.0 refusal.1 refusal.2 why file.each (sym file.records ∙ refusal.3.records) refusal.6)
-file-refused bytes lines fault.TooMany file refusal =
-    let sizes = ap length (sym file.records ∙ refusal.3.records) in
-    let few = file.few in
-    absurd (omega (
-      arith,
-      sizes,
-      few,
-      refusal.4,
-      length-map lines record_of,
-      length-map refusal.0 record_of,
-      length-append (map record_of refusal.0) (refusal.1 ∷ refusal.2),
-    ))
-file-refused bytes lines fault.NoMemory file refusal = refl
-
--- a file with a cause is no file of lines, and one with too many records neither
-pub not-read : (bytes : List ℕ) (lines : List WatchLine) (at : ℕ) (why : WatchCause) → Refuses bytes (fault.Malformed at why) → ¬ IsFileOf lines bytes
-not-read bytes lines at why bad file = none-bad lines bad.0 bad.1 bad.2 why file.each (sym file.records ∙ bad.3.records) bad.6
-
-pub not-few : (bytes : List ℕ) (lines : List WatchLine) → Refuses bytes fault.TooMany → ¬ IsFileOf lines bytes
-not-few bytes lines many file = let e = file-refused bytes lines fault.TooMany file many in cc e
-
--- it has not both
-not-too-many : (bytes : List ℕ) (at : ℕ) (why : WatchCause) → Refuses bytes (fault.Malformed at why) → ¬ Refuses bytes fault.TooMany
-not-too-many bytes at why bad many =
-    let place = bad.4 in
-    let below = bad.5 in
-    let long = many.4 in
-    none-bad-before many.0 bad.0 bad.1 (many.1 ∷ many.2) bad.2 why many.3.each (omega arith) (sym many.3.records ∙ bad.3.records) bad.6
-
--- and the first record with a cause is one
-same-refusal : (bytes : List ℕ) (at : ℕ) (why : WatchCause) (there : ℕ) (other : WatchCause) → Refuses bytes (fault.Malformed at why)
-    → Refuses bytes (fault.Malformed there other)
-    → fault.Malformed there other ≡ fault.Malformed at why
-same-refusal bytes at why there other x y =
-    let place = x.4 in
-    let place2 = y.4 in
-    elim (in_order at there) [
-      | inl lt ↦ absurd (none-bad-before y.0 x.0 x.1 (y.1 ∷ y.2) x.2 why y.3.each (omega arith) (sym y.3.records ∙ x.3.records) x.6)
-      | inr more ↦ elim more [
-        | inl e ↦
-            let same = same-place y.0 x.0 y.1 x.1 y.2 x.2 (omega arith) (sym y.3.records ∙ x.3.records) in
-            ap₂ (λ p c. fault.Malformed p c) (sym e) (one-cause x.1 other why (rw (← same) y.6) x.6)
-        | inr gt ↦ absurd (none-bad-before x.0 y.0 y.1 (x.1 ∷ x.2) y.2 other x.3.each (omega arith) (sym x.3.records ∙ y.3.records) y.6)
-      ]
-    ]
-
-pub refused-bad : (bytes : List ℕ) (at : ℕ) (why : WatchCause) (f : WatchFault) → Refuses bytes (fault.Malformed at why) → Refuses bytes f
-    → (f ≡ fault.Malformed at why) ⊎ (f ≡ fault.NoMemory)
-refused-bad bytes at why (fault.Malformed there other) bad found = inl (same-refusal bytes at why there other bad found)
-refused-bad bytes at why fault.TooMany bad found = absurd (not-too-many bytes at why bad found)
-refused-bad bytes at why fault.NoMemory bad found = inr refl
-
-pub refused-many : (bytes : List ℕ) (f : WatchFault) → Refuses bytes fault.TooMany → Refuses bytes f → (f ≡ fault.TooMany) ⊎ (f ≡ fault.NoMemory)
-refused-many bytes (fault.Malformed there other) many found = absurd (not-too-many bytes there other found many)
-refused-many bytes fault.TooMany many found = inl refl
-refused-many bytes fault.NoMemory many found = inr refl
+-- a file is refused as its next record is
+pub refused-here : (bytes : List ℕ) (front : List WatchLine) (fields : List (List ℕ)) (rest : List (List (List ℕ))) (f : WatchFault)
+    → BeginsWith record_of IsLine bytes front (fields ∷ rest) → RefusesRecord front fields f → Refuses bytes f
+refused-here bytes front fields rest (fault.Malformed at why) begins r = (front, fields, rest, begins, r.0, r.1, r.2)
+refused-here bytes front fields rest fault.TooMany begins r = (front, fields, rest, begins, r)
+refused-here bytes front fields rest fault.NoMemory begins r = tt

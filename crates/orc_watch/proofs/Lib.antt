@@ -1,3 +1,2 @@
-pub mod LineRecords
 pub mod GrammarLaws
 pub mod CauseOrLine

@@ -1,8 +1,7 @@
 -- What a watch file says: how each line is spelled as a record, and what is first amiss with a record that is the spelling of none.
--- The records are those of RFC 4180 as the crate `csv` reads them, with no header row, of any lengths, and all else at its defaults.
-use Rattle.std.specs.Prelude.{◌≡◌, ◌≢◌, ◌^◌, ◌<◌, ◌≤◌, ◌⊎◌, ◌∷◌, ◌++◌, All, IsUtf8, List, [], ℕ, codes, length, map, ⊤}
+use Rattle.std.specs.Prelude.{◌≡◌, ◌≢◌, ◌^◌, ◌<◌, ◌⊎◌, ◌∷◌, All, IsUtf8, List, [], ℕ, codes, length, ⊤}
 use Rattle.std.specs.Fmt.{decimal}
-use Rattle.orc_jobs.specs.JobGrammar.{field, records_of}
+use Rattle.orc_jobs.specs.RecordFiles.{HasFirst, HasTooMany, IsFile, IsMalformed, field}
 use Rattle.orc_jobs.specs.Numbers.{IsNumber}
 use Rattle.orc_watch.specs.declared.fault.WatchCause.{WatchCause}
 use Rattle.orc_watch.specs.declared.fault.WatchCause.TheVariants as cause
@@ -26,10 +25,8 @@ IsLine (line.Both left right) = (left < 2 ^ 32) × (right < 2 ^ 32)
 IsLine line.See = ⊤
 
 -- the bytes are the file of these lines
-pub record IsFileOf (lines : List WatchLine) (bytes : List ℕ) : Type 0 where
-  pub records : records_of bytes ≡ map record_of lines
-  pub each : All IsLine lines
-  pub few : length lines ≤ 65535
+abbrev pub IsFileOf : List WatchLine → List ℕ → Type 0
+IsFileOf lines bytes = IsFile record_of IsLine lines bytes
 
 -- a record with this first field has another number of fields than it should
 abbrev pub HasOtherSize : List ℕ → ℕ → Type 0
@@ -52,19 +49,11 @@ rank_of cause.Verb = 2
 rank_of cause.Value = 3
 
 -- the cause of a record: the first that applies
-pub record HasCause (fields : List (List ℕ)) (why : WatchCause) : Type 0 where
-  pub applies : Applies why fields
-  pub first : (earlier : WatchCause) → rank_of earlier < rank_of why → ¬ Applies earlier fields
-
--- the records of the bytes are these lines and then these others
-pub record BeginsWith (bytes : List ℕ) (front : List WatchLine) (rest : List (List (List ℕ))) : Type 0 where
-  pub records : records_of bytes ≡ map record_of front ++ rest
-  pub each : All IsLine front
+abbrev pub HasCause : List (List ℕ) → WatchCause → Type 0
+HasCause fields why = HasFirst Applies rank_of fields why
 
 -- the bytes are refused with this fault: some lines, and then a record with a cause within the first 65,535; or 65,535 lines, and then any record
 abbrev pub Refuses : List ℕ → WatchFault → Type 0
-Refuses bytes (fault.Malformed at why) = (front : List WatchLine) × (bad : List (List ℕ)) × (rest : List (List (List ℕ)))
-    × BeginsWith bytes front (bad ∷ rest) × (length front ≡ at) × (at < 65535) × HasCause bad why
-Refuses bytes fault.TooMany = (front : List WatchLine) × (more : List (List ℕ)) × (rest : List (List (List ℕ)))
-    × BeginsWith bytes front (more ∷ rest) × (length front ≡ 65535)
+Refuses bytes (fault.Malformed at why) = IsMalformed record_of IsLine HasCause bytes at why
+Refuses bytes fault.TooMany = HasTooMany record_of IsLine bytes
 Refuses bytes fault.NoMemory = ⊤

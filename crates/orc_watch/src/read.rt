@@ -1,6 +1,7 @@
 ghost use Rattle.std.specs.Prelude.{◌≡◌, ◌≤◌, ◌⊎◌, List, ℕ, IfErr, IfOk, MatchResult, OnOk, length};
-ghost use Rattle.orc_watch.specs.WatchGrammar.{IsFileOf, Refuses};
-ghost use Rattle.orc_watch.specs.OneRecord.{RefusesRecord, TakesRecord};
+ghost use Rattle.orc_jobs.specs.RecordFiles.{TakesRecord};
+ghost use Rattle.orc_watch.specs.WatchGrammar.{IsFileOf, IsLine, Refuses, record_of};
+ghost use Rattle.orc_watch.specs.OneRecord.{RefusesRecord};
 ghost use Rattle.csv.specs.Records.{fields_of};
 ghost use Rattle.csv.specs.Reading.{NotLengths, error_kind};
 ghost use Rattle.orc_watch.specs.declared.fault.WatchCause.{WatchCause as Cause};
@@ -67,7 +68,7 @@ fn fault_of(error: Error) -> WatchFault
 // Appends the line of a record, where there is room for one more.
 fn take_record(row: &ByteRecord, lines: &mut WatchLines) -> Result<(), WatchFault>
     requires { length lines.old ≤ 65535 }
-    ensures ok { OnOk result (TakesRecord lines.old lines.new (fields_of row.now)) }
+    ensures ok { OnOk result (TakesRecord record_of IsLine lines.old lines.new (fields_of row.now)) }
     ensures err { IfErr result (RefusesRecord lines.old (fields_of row.now)) }
 {
     let place = lines.len();

@@ -1,12 +1,12 @@
 use Rattle.orc_watch.proofs.CauseOrLine.{cause-or-line}
-use Rattle.orc_watch.proofs.GrammarLaws.{no-cause, one-cause, same-line}
+use Rattle.orc_watch.proofs.GrammarLaws.{faults, no-cause, same-line}
 use Rattle.orc_watch.proofs.laws.watch_records_are_determined.Goals as goal
 
 pub returns-clause-line : goal.returns-clause-line
 returns-clause-line c = same-line
 
 pub returns-clause-cause : goal.returns-clause-cause
-returns-clause-cause c = one-cause
+returns-clause-cause c = faults.one_cause
 
 pub returns-clause-not_both : goal.returns-clause-not_both
 returns-clause-not_both c line why is = no-cause line why is

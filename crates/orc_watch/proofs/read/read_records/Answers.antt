@@ -11,7 +11,8 @@ use Rattle.csv.specs.Records.{fields_of}
 use Rattle.csv.specs.declared.parser.State.TheVariants as st
 use Rattle.csv.proofs.ReadFacts.{rows-more}
 use Rattle.orc_watch.specs.WatchGrammar.{IsLine, record_of}
-use Rattle.orc_watch.proofs.LineRecords.{line-and-more, lines-end, refused-here}
+use Rattle.orc_jobs.proofs.LineRecords.{line-and-more, lines-end}
+use Rattle.orc_watch.proofs.GrammarLaws.{refused-here}
 use Rattle.orc_watch.proofs.read.read_records.Goals as goal
 
 pub loop-row-init : goal.loop-row-init
@@ -41,7 +42,7 @@ returns-in_err-take_record-clause-err c =
     let inv = c.loop-row.invariant in
     let s = rw (c.in-Some.is, c.in-Ok.is) at ((c.next.ensures.steps inv.2 inv.0).0 inv.1) in
     let m = line-and-more (λ (s : Bor (List ℕ)). Some s.now) c.loop-row.row-iterator.rdr c.next.new.self.rdr
-    (fields_of c.in-Ok.row) c.args.bytes.now c.loop-row.lines inv.4 inv.3 inv.5 inv.6 s.0 in
+    (fields_of c.in-Ok.row) c.args.bytes.now (map record_of c.loop-row.lines) inv.4 inv.3 inv.5 inv.6 s.0 in
     let p = err_from_is_err_and c.from_residual.result c.from_residual.ensures.1 in
     rw (p.1, p.2)
     (refused-here c.args.bytes.now c.loop-row.lines (fields_of c.in-Ok.row) m.0 c.in_err-take_record.field-0.0
@@ -74,7 +75,7 @@ returns-clause-ok c =
     let inv = c.loop-row.invariant in
     let s = rw c.in-None.is at ((c.next.ensures.steps inv.2 inv.0).0 inv.1) in
     record {
-      records = lines-end (λ (s : Bor (List ℕ)). Some s.now) c.loop-row.row-iterator.rdr c.next.new.self.rdr [] c.args.bytes.now c.loop-row.lines
+      records = lines-end (λ (s : Bor (List ℕ)). Some s.now) c.loop-row.row-iterator.rdr c.next.new.self.rdr [] c.args.bytes.now (map record_of c.loop-row.lines)
           inv.4 inv.3 inv.5 inv.6 s;
       each = inv.7;
       few = inv.8;
