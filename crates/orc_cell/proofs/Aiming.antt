@@ -27,7 +27,7 @@ use Rattle.orc_cell.specs.declared.publish.Half.{Half}
 use Rattle.orc_cell.specs.declared.publish.Half.TheVariants.{Left, Right}
 use Rattle.orc_cell.proofs.Pieces.{Known, finds_none, part_puts}
 use Rattle.orc_cell.proofs.Reading.{value_read}
-use Rattle.orc_cell.proofs.Staging.{Piece-trans, finds_staging, finds_stretch, found_answered, own_found, own_touched, root_kept, staging-trans}
+use Rattle.orc_cell.proofs.Staging.{Piece-trans, finds_staging, finds_piece, found_answered, own_found, own_touched, root_kept, staging-trans}
 
 -- the aim of a half at another node
 
@@ -60,7 +60,7 @@ half_moves Right root id to = refl
 
 -- what an aim leaves
 pub record AimLeaves (n : HeapNumbers) (half : Half) (id to : ℕ) (s t : Seat PairsNote) : Type 0 where
-  pub stretch : Piece 0 s [] t
+  pub piece : Piece 0 s [] t
   pub staging : KeepsStaging n s t
   pub node : Node
   pub there : slice_get (heap_of n t).nodes id ≡ Some node
@@ -81,7 +81,7 @@ aim_leaves n half id to s t o k all u ne =
     let away : list_any (λ x. points_to x.act id) (e ∷ []) ≡ false = or_false _ (half_away half id to ne) in
     let after = own_touched n s t (e ∷ []) id u.node o.puts k all u u.there away in
     record {
-      stretch = record { own = e ∷ []; puts = o.puts; entries_are = refl; gives = half_gives half s id to };
+      piece = record { own = e ∷ []; puts = o.puts; entries_are = refl; gives = half_gives half s id to };
       staging = λ root own. root_kept n s t (e ∷ []) root o.puts all own (or_false _ (half_moves half root id to));
       node = with_half half (link_to to) u.node;
       there = after ∙ ap (λ (x : Node). Some x) (half_touches half id to u.node ne);
@@ -138,7 +138,7 @@ module _ (n : HeapNumbers) (place : Place) (s a b : Seat PairsNote) (h pair : Ho
     part_not_fresh = linked_not_fresh n b (id_in b.slots h) untouched_b linked_b
 
     first : Piece 0 s [] b
-    first = Piece-trans 0 0 s a b [] [] (finds_stretch s a [] held.finds) (finds_stretch a b [] (finds_none a b o).finds)
+    first = Piece-trans 0 0 s a b [] [] (finds_piece s a [] held.finds) (finds_piece a b [] (finds_none a b o).finds)
 
     first_staging : KeepsStaging n s b
     first_staging = staging-trans n s a b held.finds.puts.agent (finds_staging n s a [] held.finds known_a.all)
@@ -173,7 +173,7 @@ module _ (n : HeapNumbers) (place : Place) (s a b : Seat PairsNote) (h pair : Ho
           pub kept_back : NotAimed n pair s t
           kept_back = record {
             answered = record {
-              stretch = Piece-trans 0 0 s c t [] [] (Piece-trans 0 0 s b c [] [] first bc) (finds_stretch c t [] last);
+              piece = Piece-trans 0 0 s c t [] [] (Piece-trans 0 0 s b c [] [] first bc) (finds_piece c t [] last);
               slots = back;
               staging = staging-trans n s c t agent_c (staging-trans n s b c agent_b first_staging st) (finds_staging n c t [] last all_t);
             };
@@ -211,22 +211,22 @@ module _ (n : HeapNumbers) (place : Place) (s a b : Seat PairsNote) (h pair : Ho
             let ne : id_in b.slots h ≢ id_in b.slots pair = λ e. part_not_fresh (holds_b.fresh ∙ ap (λ (i : ℕ). Some i) (sym e)) in
             let l = aim_leaves n half (id_in b.slots pair) (id_in b.slots h) b c q known_b known_c.all u ne in
             let own : List (Event PairsNote) = event_of b (aim_act half (id_in b.slots pair) (Some (id_in b.slots h))) None ∷ [] in
-            let k = kept_back own q l.stretch l.staging in
+            let k = kept_back own q l.piece l.staging in
             let value_is : value ≡ leads.value = value_read n b (id_in a.slots h) held.id leads.value value id_a part_at reads in
             record {
               answered = k.answered;
               fresh = k.fresh;
               node = l.node;
-              there = pair_t own q l.stretch l.staging l.node l.there;
+              there = pair_t own q l.piece l.staging l.node l.there;
               leads = l.leads ∙ ap link_to id_b;
-              keeps = λ old there. l.keeps old (pair_s own q l.stretch l.staging old there);
-              has = subst (λ (v : ℕ). HasPart (heap_of n t) held.id v) (sym value_is) (part_t own q l.stretch l.staging);
+              keeps = λ old there. l.keeps old (pair_s own q l.piece l.staging old there);
+              has = subst (λ (v : ℕ). HasPart (heap_of n t) held.id v) (sym value_is) (part_t own q l.piece l.staging);
             }
 
         pub kept_refused : Only [] b c → NotAimed n pair s t
         kept_refused q =
             let f = (finds_none b c q).finds in
-            kept_back [] q (finds_stretch b c [] f) (finds_staging n b c [] f known_c.all)
+            kept_back [] q (finds_piece b c [] f) (finds_staging n b c [] f known_c.all)
 
 -- the aim at a staged part
 
@@ -245,7 +245,7 @@ staged_aimed n half s t part pair root value staged fresh k all untouched q =
     λ e. staged_not_fresh n s part root value staged untouched (fresh.fresh ∙ ap (λ (i : ℕ). Some i) (sym e)) in
     let l = aim_leaves n half (id_in s.slots pair) (id_in s.slots part) s t q k all u ne in
     record {
-      answered = record { stretch = l.stretch; slots = q.slots; staging = l.staging };
+      answered = record { piece = l.piece; slots = q.slots; staging = l.staging };
       fresh = record {
         held = subst (λ (z : Slots). Holds z pair) (sym q.slots) fresh.held;
         fresh = q.fresh ∙ (fresh.fresh ∙ ap (λ z. Some (id_in z pair)) (sym q.slots));

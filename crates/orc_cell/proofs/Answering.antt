@@ -85,21 +85,21 @@ module _ (n : HeapNumbers) (s a : Seat PairsNote) (pair : Hold) (free : IsFree s
 
       released : (es : List CellEntry) → Answered n 0 a es b → Answered n 1 s es t
       released es x =
-          let puts = Puts-trans s b t _ [] (Puts-trans s a b _ _ given.puts x.stretch.puts) w.puts in
+          let puts = Puts-trans s b t _ [] (Puts-trans s a b _ _ given.puts x.piece.puts) w.puts in
           record {
-            stretch = record {
+            piece = record {
               own = _;
               puts = puts;
               entries_are = all_entries es x;
-              gives = omega (arith, x.stretch.gives, gives_in-append x.stretch.own []);
+              gives = omega (arith, x.piece.gives, gives_in-append x.piece.own []);
             };
             slots = back x.slots;
-            staging = staging-trans n s b t (x.stretch.puts.agent ∙ given.puts.agent) (staging-trans n s a b given.puts.agent given_staging x.staging)
+            staging = staging-trans n s b t (x.piece.puts.agent ∙ given.puts.agent) (staging-trans n s a b given.puts.agent given_staging x.staging)
                 (λ root own. root_kept n b t [] root w.puts all_t own refl);
           }
         where
-          all_entries : (es : List CellEntry) (x : Answered n 0 a es b) → entries_of (x.stretch.own ++ []) ≡ es
-          all_entries es x = ap entries_of (append-nil x.stretch.own) ∙ x.stretch.entries_are
+          all_entries : (es : List CellEntry) (x : Answered n 0 a es b) → entries_of (x.piece.own ++ []) ≡ es
+          all_entries es x = ap entries_of (append-nil x.piece.own) ∙ x.piece.entries_are
 
       none_fresh : HoldsFresh b pair → t.fresh ≡ None
       none_fresh f = w.fresh ∙ (ap (λ (o : Option ℕ). unless_node o (Some (id_in b.slots pair))) f.fresh ∙ unless_same (id_in b.slots pair))
@@ -115,10 +115,10 @@ module _ (n : HeapNumbers) (s a : Seat PairsNote) (pair : Hold) (free : IsFree s
       pub pair_over : (turns : ℕ) → PublishOver n turns pair a b → AnswersAgain n 1 turns s t
       pair_over turns d =
           let r = released [] d.answered in
-          let st = Puts-trans s a b _ _ given.puts d.answered.stretch.puts in
+          let st = Puts-trans s a b _ _ given.puts d.answered.piece.puts in
           record {
             answers = record { answered = r; fresh = none_fresh d.fresh };
-            moved = moved_before s b t turns _ _ _ st w.puts r.stretch.puts (moved_after s a b turns _ _ _ given.puts d.answered.stretch.puts st d.moved);
+            moved = moved_before s b t turns _ _ _ st w.puts r.piece.puts (moved_after s a b turns _ _ _ given.puts d.answered.piece.puts st d.moved);
           }
 
 -- no pair could be had
@@ -128,7 +128,7 @@ pair_lacking n most s t some none o all =
     let f = found_answered n s t [] (finds_none s t o) all in
     record {
       answered = record {
-        stretch = record { own = f.stretch.own; puts = f.stretch.puts; entries_are = f.stretch.entries_are; gives = omega (arith, f.stretch.gives, some) };
+        piece = record { own = f.piece.own; puts = f.piece.puts; entries_are = f.piece.entries_are; gives = omega (arith, f.piece.gives, some) };
         slots = f.slots;
         staging = f.staging;
       };
@@ -142,12 +142,12 @@ module _ (n : HeapNumbers) (slot root value : ℕ) (s a b t : Seat PairsNote) (h
     pub staged_join : (given : ℕ) (es : List CellEntry) → Answers n given a es b → Answers n (given + 1) s es t
     staged_join given es x =
         let y = x.answered in
-        let agent_a = first.stretch.puts.agent in
-        let agent_b = y.stretch.puts.agent ∙ agent_a in
-        let st = Piece-trans (1 + given) 0 s b t es [] (Piece-trans 1 given s a b [] es first.stretch y.stretch) last.stretch in
+        let agent_a = first.piece.puts.agent in
+        let agent_b = y.piece.puts.agent ∙ agent_a in
+        let st = Piece-trans (1 + given) 0 s b t es [] (Piece-trans 1 given s a b [] es first.piece y.piece) last.piece in
         record {
           answered = record {
-            stretch = record { own = st.own; puts = st.puts; entries_are = st.entries_are ∙ append-nil es; gives = omega (arith, st.gives) };
+            piece = record { own = st.own; puts = st.puts; entries_are = st.entries_are ∙ append-nil es; gives = omega (arith, st.gives) };
             slots = last.slots ∙
                 (ap (λ (z : Slots). slice_set z h.slot None) y.slots ∙ given-back s.slots a.slots slot first.id h free.empty first.in_slot.at first.in_slot.slots);
             staging = λ r staging. by_root r staging (r == root) refl;
@@ -161,8 +161,8 @@ module _ (n : HeapNumbers) (slot root value : ℕ) (s a b t : Seat PairsNote) (h
             ap (λ (q : ℕ). shown (heap_of n t) (Root q)) one ∙ (last.root_is ∙ (sym empty ∙ ap (λ (q : ℕ). shown (heap_of n s) (Root q)) (sym one)))
         by_root r staging false is =
             let ne = eqb-false r root is in
-            let at_a = subst (λ (i : ℕ). IsStaging i r) (sym first.stretch.puts.agent) staging in
-            let at_b = subst (λ (i : ℕ). IsStaging i r) (sym x.answered.stretch.puts.agent) at_a in
+            let at_a = subst (λ (i : ℕ). IsStaging i r) (sym first.piece.puts.agent) staging in
+            let at_b = subst (λ (i : ℕ). IsStaging i r) (sym x.answered.piece.puts.agent) at_a in
             last.others r at_b ne ∙ (x.answered.staging r at_a ∙ first.others r staging ne)
 
 pub given_slots : (n : HeapNumbers) (turns : ℕ) (left right : Option ℕ) (pair : Hold) (a b : Seat PairsNote) (turn : PublishTurn)
@@ -193,20 +193,20 @@ other_held n slot root k value v s a h x free all own ne r held =
     record {
       held = slot_other s a slot r.id h free r.in_slot x held.held;
       root_is = r.others k own ne ∙ (held.root_is ∙ ap (λ (i : ℕ). Some (link_to i)) (sym same));
-      part = subst (λ (i : ℕ). HasPart (heap_of n a) i v) (sym same) (part_puts n s a r.stretch.own r.stretch.puts all (id_in s.slots x) v held.part);
+      part = subst (λ (i : ℕ). HasPart (heap_of n a) i v) (sym same) (part_puts n s a r.piece.own r.piece.puts all (id_in s.slots x) v held.part);
     }
 
 other_stays : (n : HeapNumbers) (slot root k value : ℕ) (s a : Seat PairsNote) (h : Hold) (side : New) → IsFree s.slots slot
     → AllAllowed (PairsMay n) [] a.seen → IsStaging s.agent k → k ≢ root → Stages n slot root value s h a → SideHeld n k side s → SideHeld n k side a
 other_stays n slot root k value s a h (Given v x) free all own ne r held = other_held n slot root k value v s a h x free all own ne r held
 other_stays n slot root k value s a h (Zero x) free all own ne r held = other_held n slot root k value 0 s a h x free all own ne r held
-other_stays n slot root k value s a h Kept free all own ne r held = published_puts n s a r.stretch.own r.stretch.puts all held
+other_stays n slot root k value s a h Kept free all own ne r held = published_puts n s a r.piece.own r.piece.puts all held
 
 -- a part was made ready, and let go at the end
 
 pub ready_agent : (n : HeapNumbers) (slot root : ℕ) (s a : Seat PairsNote) (new : New) → Readies n slot root s new a → a.agent ≡ s.agent
-ready_agent n slot root s a (Given value h) r = r.stretch.puts.agent
-ready_agent n slot root s a (Zero h) r = r.stretch.puts.agent
+ready_agent n slot root s a (Given value h) r = r.piece.puts.agent
+ready_agent n slot root s a (Zero h) r = r.piece.puts.agent
 ready_agent n slot root s a Kept r = r.0.puts.agent
 
 pub ready_fresh : (n : HeapNumbers) (slot root : ℕ) (s a : Seat PairsNote) (new : New) → s.fresh ≡ None → Readies n slot root s new a → a.fresh ≡ None
@@ -248,11 +248,11 @@ go_slots n slot root s a b t Kept given es free own empty none r x l all_a all_t
     let w = Answered-trans n (0 + given) 0 s b t es [] (Answered-trans n 0 given s a b [] es first y) last in
     record {
       answered = record {
-        stretch = record {
-          own = w.stretch.own;
-          puts = w.stretch.puts;
-          entries_are = w.stretch.entries_are ∙ append-nil es;
-          gives = omega (arith, w.stretch.gives);
+        piece = record {
+          own = w.piece.own;
+          puts = w.piece.puts;
+          entries_are = w.piece.entries_are ∙ append-nil es;
+          gives = omega (arith, w.piece.gives);
         };
         slots = w.slots;
         staging = w.staging;
@@ -261,13 +261,13 @@ go_slots n slot root s a b t Kept given es free own empty none r x l all_a all_t
     }
 
 ready_puts : (n : HeapNumbers) (slot root : ℕ) (s a : Seat PairsNote) (new : New) → Readies n slot root s new a → (xs : List (Event PairsNote)) × Puts s xs a
-ready_puts n slot root s a (Given value h) r = (r.stretch.own, r.stretch.puts)
-ready_puts n slot root s a (Zero h) r = (r.stretch.own, r.stretch.puts)
+ready_puts n slot root s a (Given value h) r = (r.piece.own, r.piece.puts)
+ready_puts n slot root s a (Zero h) r = (r.piece.own, r.piece.puts)
 ready_puts n slot root s a Kept r = ([], r.0.puts)
 
 gone_puts : (n : HeapNumbers) (root : ℕ) (b t : Seat PairsNote) (new : New) → LetsGo n root new b t → (xs : List (Event PairsNote)) × Puts b xs t
-gone_puts n root b t (Given value h) l = (l.stretch.own, l.stretch.puts)
-gone_puts n root b t (Zero h) l = (l.stretch.own, l.stretch.puts)
+gone_puts n root b t (Given value h) l = (l.piece.own, l.piece.puts)
+gone_puts n root b t (Zero h) l = (l.piece.own, l.piece.puts)
 gone_puts n root b t Kept l = ([], l.puts)
 
 -- of a publish, whatever it answered
@@ -279,18 +279,27 @@ any_answered n given turns left right s t (Err Again) x = ([], x.answers)
 any_answered n given turns left right s t (Err NoNode) x = ([], x)
 any_answered n given turns left right s t (Err (Spent why)) x = ([], x)
 
-pub answers_fresh : (n : HeapNumbers) (given turns : ℕ) (left right : Option ℕ) (s t : Seat PairsNote) (r : Result (ℕ × ℕ) CellRefused)
+answers_fresh : (n : HeapNumbers) (given turns : ℕ) (left right : Option ℕ) (s t : Seat PairsNote) (r : Result (ℕ × ℕ) CellRefused)
     → PublishAnswers n given turns left right s r t → t.fresh ≡ None
 answers_fresh n given turns left right s t r x = (any_answered n given turns left right s t r x).1.fresh
 
-pub side_answered : (n : HeapNumbers) (given turns : ℕ) (left right : Option ℕ) (s t : Seat PairsNote) (r : Result (ℕ × ℕ) CellRefused) (root : ℕ) (new : New)
+side_answered : (n : HeapNumbers) (given turns : ℕ) (left right : Option ℕ) (s t : Seat PairsNote) (r : Result (ℕ × ℕ) CellRefused) (root : ℕ) (new : New)
     → IsStaging s.agent root → AllAllowed (PairsMay n) [] t.seen → PublishAnswers n given turns left right s r t → SideHeld n root new s
     → IsStaging t.agent root × SideHeld n root new t
 side_answered n given turns left right s t r root new own all x held =
     let y = (any_answered n given turns left right s t r x).1.answered in (
-      subst (λ (i : ℕ). IsStaging i root) (sym y.stretch.puts.agent) own,
-      side_kept n s t root new y.stretch.own y.stretch.puts all own y.staging (same_slots s t y.slots) held,
+      subst (λ (i : ℕ). IsStaging i root) (sym y.piece.puts.agent) own,
+      side_kept n s t root new y.piece.own y.piece.puts all own y.staging (same_slots s t y.slots) held,
     )
+
+-- a part that was made ready stays ready to be let go, whatever the publish answered
+pub ready_answered : (n : HeapNumbers) (slot root given turns : ℕ) (left right : Option ℕ) (s a b : Seat PairsNote) (new : New)
+    (r : Result (ℕ × ℕ) CellRefused) → IsFree s.slots slot → IsStaging s.agent root → Readies n slot root s new a → AllAllowed (PairsMay n) [] b.seen
+    → PublishAnswers n given turns left right a r b → IsStaging b.agent root × SideHeld n root new b × (b.fresh ≡ None)
+ready_answered n slot root given turns left right s a b new r free own rd all x =
+    let own_a = subst (λ (i : ℕ). IsStaging i root) (sym (ready_agent n slot root s a new rd)) own in
+    let f = side_answered n given turns left right a b r root new own_a all x (ready_held n slot root s a new free rd) in
+    (f.0, f.1, answers_fresh n given turns left right a b r x)
 
 pub answers_join : (n : HeapNumbers) (slot root given turns : ℕ) (left right : Option ℕ) (s a b t : Seat PairsNote) (new : New) (r : Result (ℕ × ℕ) CellRefused)
     → IsFree s.slots slot → IsStaging s.agent root → shown (heap_of n s) (Root root) ≡ Some null → s.fresh ≡ None → Readies n slot root s new a
@@ -307,11 +316,11 @@ answers_join n slot root given turns left right s a b t new (Err Again) free own
     let w = go_slots n slot root s a b t new given [] free own empty none rd x.answers l all_a all_t in
     let first = ready_puts n slot root s a new rd in
     let last = gone_puts n root b t new l in
-    let y = x.answers.answered.stretch in
+    let y = x.answers.answered.piece in
     let to_b = Puts-trans s a b first.0 y.own first.1 y.puts in
     record {
       answers = w;
-      moved = moved_before s b t turns _ _ _ to_b last.1 w.answered.stretch.puts (moved_after s a b turns _ _ _ first.1 y.puts to_b x.moved);
+      moved = moved_before s b t turns _ _ _ to_b last.1 w.answered.piece.puts (moved_after s a b turns _ _ _ first.1 y.puts to_b x.moved);
     }
 
 -- the other staging root stays null
@@ -361,7 +370,7 @@ answers_after n given turns left right s a t (Err Again) f all x =
     let w = found_first n given s a t [] f all x.answers.answered in
     record {
       answers = record { answered = w; fresh = x.answers.fresh };
-      moved = moved_after s a t turns _ _ _ f.finds.puts x.answers.answered.stretch.puts w.stretch.puts x.moved;
+      moved = moved_after s a t turns _ _ _ f.finds.puts x.answers.answered.piece.puts w.piece.puts x.moved;
     }
 
 -- with no turn nothing is done
@@ -369,7 +378,7 @@ pub answers_none : (n : HeapNumbers) (turns : ℕ) (s : Seat PairsNote) → turn
 answers_none n turns s zero none = record {
   answers = record {
     answered = record {
-      stretch = record {
+      piece = record {
         own = [];
         puts = record { part = []; is = sym (append-nil s.seen); agent = refl; own_is = refl };
         entries_are = refl;
@@ -411,9 +420,9 @@ given_turns n turns left right pair s b t Over x y =
     record {
       answered = w;
       fresh = y.over.fresh;
-      moved = moved_after s b t turns _ _ _ x.stretch.puts y.over.answered.stretch.puts w.stretch.puts y.over.moved;
+      moved = moved_after s b t turns _ _ _ x.piece.puts y.over.answered.piece.puts w.piece.puts y.over.moved;
     }
 given_turns n turns left right pair s b t (Done u v) x y =
-    let z = subst (λ (i : ℕ). Answered n 0 b (Published i left right u v ∷ []) t) x.stretch.puts.agent y.answered in
+    let z = subst (λ (i : ℕ). Answered n 0 b (Published i left right u v ∷ []) t) x.piece.puts.agent y.answered in
     record { answered = Answered-trans n 0 0 s b t [] (Published s.agent left right u v ∷ []) x z; fresh = y.fresh }
 given_turns n turns left right pair s b t (Worn why) x y = record { answered = Answered-trans n 0 0 s b t [] [] x y.answered; fresh = y.fresh }

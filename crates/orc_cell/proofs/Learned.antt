@@ -44,30 +44,6 @@ pub staging_either : (n : HeapNumbers) (agent : ℕ) (xs ys : List (Event PairsN
 staging_either n agent xs ys root (inl begins) same all own empty = staging_learned n agent xs ys root begins same all own ∙ empty
 staging_either n agent xs ys root (inr one) same all own empty = ap (λ es. shown (run_heap n es) (Root root)) one ∙ empty
 
--- the entries of each of two agents in what both have seen
-pub learns : {S : Type 0} (n : HeapNumbers) (events : List S → List (Event PairsNote)) (agent1 agent2 : ℕ) (s1 s2 t1 : Seat PairsNote)
-    (j1 j2 k1 k2 : List S) → k1 ≡ k2 → (IsPrefix j1 j2 × (k1 ≡ j2)) ⊎ (IsPrefix j2 j1 × (k1 ≡ j1))
-    → AllAllowed (PairsMay n) [] s1.seen → AllAllowed (PairsMay n) [] s2.seen → AllAllowed (PairsMay n) [] t1.seen → s1.seen ≡ events j1
-    → s2.seen ≡ events j2 → t1.seen ≡ events k1
-    → events_by agent1 t1.seen ≡ events_by agent1 s1.seen → events_by agent2 t1.seen ≡ events_by agent2 s2.seen
-    → LearnsEntries (λ j. entries_of (events j)) agent_of_entry agent1 agent2 j1 j2 k1 k2
-learns {S} n events agent1 agent2 s1 s2 t1 j1 j2 k1 k2 one longer all1 all2 all is1 is2 is own1 own2 = record {
-  one = one;
-  longer = longer;
-  own1 = own agent1 s1 j1 all1 is1 own1;
-  own2 = own agent2 s2 j2 all2 is2 own2;
-}
-  where
-    own : (agent : ℕ) (s : Seat PairsNote) (j : List S) → AllAllowed (PairsMay n) [] s.seen → s.seen ≡ events j
-        → events_by agent t1.seen ≡ events_by agent s.seen
-        → own_of agent_of_entry agent (entries_of (events k1)) ≡ own_of agent_of_entry agent (entries_of (events j))
-    own agent s j all_s is_j same =
-        ap (λ z. own_of agent_of_entry agent (entries_of z)) (sym is)
-        ∙ (own_of_events entries_in agent_of_entry (PairsMay n) (entries_own n) agent [] t1.seen all
-        ∙ (ap entries_of same
-        ∙ (sym (own_of_events entries_in agent_of_entry (PairsMay n) (entries_own n) agent [] s.seen all_s)
-        ∙ ap (λ z. own_of agent_of_entry agent (entries_of z)) is_j)))
-
 null_there : (roots root : ℕ) → root < roots → slice_get (replicate roots null) root ≡ Some null
 null_there zero root low = absurd (omega (arith, low))
 null_there (suc roots) zero low = refl

@@ -16,6 +16,7 @@ use Rattle.orc_heap.specs.Moves.{IsLinkedPlace, moves_place}
 use Rattle.orc_heap.specs.OwnEvents.{Only, Puts}
 use Rattle.orc_heap.specs.Seats.{IsUntouched, Seat, heap_of}
 use Rattle.orc_heap.specs.Slots.{Hold, id_in}
+use Rattle.orc_heap.specs.declared.links.Links.{Ghosts as LinksOf}
 use Rattle.orc_heap.specs.declared.events.Act.{Act}
 use Rattle.orc_heap.specs.declared.events.Act.TheVariants.{Aim, AimSide, Fill, Give, Look, Miss, Move}
 use Rattle.orc_heap.specs.declared.events.Event.{Event}
@@ -34,6 +35,13 @@ use Rattle.orc_cell.specs.Turns.{Finds, FindsOnly, IsFinding}
 pub record Known (n : HeapNumbers) (es : List (Event PairsNote)) : Type 0 where
   pub holds : PairsHolds n es
   pub all : AllAllowed (PairsMay n) [] es
+
+-- by the laws of the domain
+pub pass_known : {L D P S : Type 0} (m : LinksOf L D P S PairsNote)
+    → ((links : L) (p : P) → m.belongs links p → PairsHolds (m.numbers links) (m.seat links p).seen)
+    → ((links : L) (p : P) → m.belongs links p → AllAllowed (PairsMay (m.numbers links)) [] (m.seat links p).seen)
+    → (links : L) (p : P) → m.belongs links p → Known (m.numbers links) (m.seat links p).seen
+pass_known m obeys allowed links p pass = record { holds = obeys links p pass; all = allowed links p pass }
 
 -- a link of a once linked node
 abbrev pub IsNodePlace : Heap → Place → Type 0

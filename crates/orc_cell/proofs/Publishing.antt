@@ -30,7 +30,7 @@ use Rattle.orc_cell.proofs.Others.{found_or_others, looks_differ_by_others, othe
 use Rattle.orc_cell.proofs.Pieces.{Known, pair_puts}
 use Rattle.orc_cell.proofs.Readying.{keeps_found, keeps_trans}
 use Rattle.orc_cell.proofs.Reading.{moved_more, null_seen, pair_seen}
-use Rattle.orc_cell.proofs.Staging.{Answered-trans, Piece-trans, finds_staging, finds_stretch, found_answered, staging-trans}
+use Rattle.orc_cell.proofs.Staging.{Answered-trans, Piece-trans, finds_staging, finds_piece, found_answered, staging-trans}
 use Rattle.orc_cell.proofs.Swinging.{published_later, side_kept}
 
 -- where a look found null, both parts are staged
@@ -63,7 +63,7 @@ first_turn n s a t left right pair Over r fresh all known node x =
       over = record {
         answered = w;
         fresh = x.fresh;
-        moved = turn_moved s a t _ _ _ r.puts x.answered.stretch.puts w.stretch.puts (omega arith) (shown (heap_of n a) (Root 0) ≡ Some null)
+        moved = turn_moved s a t _ _ _ r.puts x.answered.piece.puts w.piece.puts (omega arith) (shown (heap_of n a) (Root 0) ≡ Some null)
             (found_or_others n s a null None [] [] r.puts all refl) x.moved;
       };
       halves = keeps_trans n left right pair s a t
@@ -92,7 +92,7 @@ module _ (n : HeapNumbers) (s a b t : Seat PairsNote) (old pair : Hold) (free : 
     old_linked : (es : List CellEntry) → Answered n 0 a es b → IsLinkedNode (heap_of n b) (id_in b.slots old)
     old_linked es x =
         let (l, r, parts, has) = p.pair in
-        let in_b = pair_puts n a b x.stretch.own x.stretch.puts all_b p.id l r parts has in
+        let in_b = pair_puts n a b x.piece.own x.piece.puts all_b p.id l r parts has in
         let id_b : id_in b.slots old ≡ p.id = ap (λ z. id_in z old) x.slots ∙ slot_id s a 4 p.id old free p.in_slot in
         subst (λ (i : ℕ). IsLinkedNode (heap_of n b) i) (sym id_b) (record { node = in_b.node; there = in_b.there; linked = in_b.linked })
 
@@ -103,13 +103,13 @@ module _ (n : HeapNumbers) (s a b t : Seat PairsNote) (old pair : Hold) (free : 
     last es x = record { own = []; puts = w.puts; finding = tt; entries_are = refl; fresh = release_fresh n b t old untouched (old_linked es x) w }
 
     to_b : (es : List CellEntry) → Answered n 0 a es b → Piece 0 s es b
-    to_b es x = Piece-trans 0 0 s a b [] es (finds_stretch s a [] looked) x.stretch
+    to_b es x = Piece-trans 0 0 s a b [] es (finds_piece s a [] looked) x.piece
 
     whole : (es : List CellEntry) → Answered n 0 a es b → Answered n 0 s es t
     whole es x =
-        let st = Piece-trans 0 0 s b t es [] (to_b es x) (finds_stretch b t [] (last es x)) in
+        let st = Piece-trans 0 0 s b t es [] (to_b es x) (finds_piece b t [] (last es x)) in
         record {
-          stretch = record { own = st.own; puts = st.puts; entries_are = st.entries_are ∙ append-nil es; gives = st.gives };
+          piece = record { own = st.own; puts = st.puts; entries_are = st.entries_are ∙ append-nil es; gives = st.gives };
           slots = back es x;
           staging = staging-trans n s b t (to_b es x).puts.agent
               (staging-trans n s a b looked.puts.agent (finds_staging n s a [] looked all_a) x.staging) (finds_staging n b t [] (last es x) all_t);
@@ -129,13 +129,13 @@ module _ (n : HeapNumbers) (s a b t : Seat PairsNote) (old pair : Hold) (free : 
     next_turn left right Over x =
         let o = whole [] x.answered in
         let first = to_b [] x.answered in
-        let moved = turn_moved s a b _ _ _ p.puts x.answered.stretch.puts first.puts (omega arith) (shown (heap_of n a) (Root 0) ≡ Some (link_to p.id))
+        let moved = turn_moved s a b _ _ _ p.puts x.answered.piece.puts first.puts (omega arith) (shown (heap_of n a) (Root 0) ≡ Some (link_to p.id))
         (found_or_others n s a (link_to p.id) None (event_of s (Look (Root 0) p.one) None ∷ []) [] p.puts all_a refl) x.moved in
         let same_a : id_in a.slots pair ≡ id_in s.slots pair = slot_other_id s a 4 p.id old free p.in_slot pair held.held in
         let same_t : id_in t.slots pair ≡ id_in b.slots pair =
         ap (λ z. id_in z pair) (back [] x.answered) ∙ sym (ap (λ z. id_in z pair) x.answered.slots ∙ same_a) in
         record {
-          over = record { answered = o; fresh = fresh_t x.answered x.fresh; moved = moved_more s b t 1 _ _ _ first.puts w.puts o.stretch.puts moved };
+          over = record { answered = o; fresh = fresh_t x.answered x.fresh; moved = moved_more s b t 1 _ _ _ first.puts w.puts o.piece.puts moved };
           halves = keeps_trans n left right pair s a t (keeps_found n left right pair s a _ p.puts known_s all_a (tt, (tt, tt)) node same_a)
               (keeps_trans n left right pair a b t x.halves
               (keeps_found n left right pair b t [] w.puts known_b all_t tt (untouched (id_in b.slots pair) x.fresh.fresh) same_t));
@@ -156,7 +156,7 @@ moved_turn n s t pair one two held p all ne slots fresh =
     let f : FindsOnly s [] t = record { finds = record { own = _; puts = p; finding = (tt, (tt, tt)); entries_are = refl; fresh = fresh }; slots = slots } in
     record {
       answered = record {
-        stretch = record { own = _; puts = p; entries_are = refl; gives = omega arith };
+        piece = record { own = _; puts = p; entries_are = refl; gives = omega arith };
         slots = slots;
         staging = finds_staging n s t [] f.finds all;
       };
@@ -185,7 +185,7 @@ from_slots n from left right pair a b (Worn why) x = x.answered.slots
 pub published_none : (n : HeapNumbers) (s : Seat PairsNote) (pair : Hold) → HoldsFresh s pair → PublishOver n 0 pair s s
 published_none n s pair held = record {
   answered = record {
-    stretch = record {
+    piece = record {
       own = [];
       puts = record { part = []; is = sym (append-nil s.seen); agent = refl; own_is = refl };
       entries_are = refl;
@@ -202,21 +202,21 @@ pub published_next_turn : (n : HeapNumbers) (k : ℕ) (pair : Hold) (s a t : Sea
     → PublishOver n (k + 1) pair s t
 published_next_turn n k pair s a t x y =
     let w = Answered-trans n 0 0 s a t [] [] x.answered y.answered in
-    let agent = x.answered.stretch.puts.agent in
-    let moved : 1 ≤ others_moves s.agent (from_own s.agent y.answered.stretch.puts.part) =
-    subst (λ (i : ℕ). 1 ≤ others_moves i (from_own i y.answered.stretch.puts.part)) agent y.moved in
+    let agent = x.answered.piece.puts.agent in
+    let moved : 1 ≤ others_moves s.agent (from_own s.agent y.answered.piece.puts.part) =
+    subst (λ (i : ℕ). 1 ≤ others_moves i (from_own i y.answered.piece.puts.part)) agent y.moved in
     record {
       answered = w;
       fresh = y.fresh;
-      moved = rw (new_is s a t _ _ _ x.answered.stretch.puts y.answered.stretch.puts w.stretch.puts)
-          (omega (arith, x.moved, moved, others_from_own-append s.agent x.answered.stretch.puts.part y.answered.stretch.puts.part));
+      moved = rw (new_is s a t _ _ _ x.answered.piece.puts y.answered.piece.puts w.piece.puts)
+          (omega (arith, x.moved, moved, others_from_own-append s.agent x.answered.piece.puts.part y.answered.piece.puts.part));
     }
 
 pub published_done : (n : HeapNumbers) (k turns : ℕ) (left right : Option ℕ) (pair : Hold) (s a t : Seat PairsNote) (turn : PublishTurn) → turn ≢ Over
     → PublishOver n k pair s a → PublishesTurns n 1 left right pair a turn t → PublishesTurns n turns left right pair s turn t
 published_done n k turns left right pair s a t Over ne x y = absurd (ne refl)
 published_done n k turns left right pair s a t (Done u v) ne x y =
-    let z = subst (λ (i : ℕ). Answered n 0 a (Published i left right u v ∷ []) t) x.answered.stretch.puts.agent y.answered in
+    let z = subst (λ (i : ℕ). Answered n 0 a (Published i left right u v ∷ []) t) x.answered.piece.puts.agent y.answered in
     record { answered = Answered-trans n 0 0 s a t [] (Published s.agent left right u v ∷ []) x.answered z; fresh = y.fresh }
 published_done n k turns left right pair s a t (Worn why) ne x y =
     record { answered = Answered-trans n 0 0 s a t [] [] x.answered y.answered; fresh = y.fresh }

@@ -26,7 +26,7 @@ use Rattle.orc_cell.proofs.Staging.{own_found}
 -- nothing was done
 pub answered_none : (n : HeapNumbers) (s : Seat PairsNote) → Answered n 0 s [] s
 answered_none n s = record {
-  stretch = record {
+  piece = record {
     own = [];
     puts = record { part = []; is = sym (append-nil s.seen); agent = refl; own_is = refl };
     entries_are = refl;

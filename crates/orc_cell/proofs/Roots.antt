@@ -128,7 +128,7 @@ module _ (n : HeapNumbers) (slot root value : ℕ) (s a : Seat PairsNote) (h : H
     part_stages t x all =
         let puts = subst (λ (i : ℕ). Puts a (event_of a (Move (Root root) null (link_to i)) (Some Stage) ∷ []) t) id_is x.puts in
         record {
-          stretch = record { own = _; puts = Puts-trans s a t _ _ given.puts puts; entries_are = refl; gives = omega arith };
+          piece = record { own = _; puts = Puts-trans s a t _ _ given.puts puts; entries_are = refl; gives = omega arith };
           id = given.id;
           in_slot = record { at = given.slot_is; slots = x.slots ∙ given.slots };
           fresh = x.fresh ∙ (ap (λ (o : Option ℕ). unless_node o (Some (id_in a.slots h))) given_fresh.fresh ∙ unless_same (id_in a.slots h));
@@ -146,7 +146,7 @@ part_unstages n root h s a t from staging none x all_a w all_t =
     let fresh_a : a.fresh ≡ None = x.fresh ∙ unless_fresh s.fresh None none in
     let own_a = subst (λ (i : ℕ). IsStaging i root) (sym x.puts.agent) staging in
     record {
-      stretch = record { own = _; puts = puts_released s a t _ x.puts w.puts; entries_are = refl; gives = omega arith };
+      piece = record { own = _; puts = puts_released s a t _ x.puts w.puts; entries_are = refl; gives = omega arith };
       slots = w.slots ∙ ap (λ (z : Slots). slice_set z h.slot None) x.slots;
       fresh = w.fresh ∙ unless_fresh a.fresh (Some (id_in a.slots h)) fresh_a;
       root_is = root_kept n a t [] root w.puts all_t own_a refl ∙ root_set n s a root from null Unstage staging x.puts all_a;

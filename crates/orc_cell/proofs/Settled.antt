@@ -21,10 +21,11 @@ use Rattle.orc_cell.specs.Publishes.{Piece}
 use Rattle.orc_cell.specs.Turns.{FindsOnly}
 use Rattle.orc_cell.specs.declared.refused.CellRefused.{CellRefused}
 use Rattle.orc_cell.specs.declared.refused.CellRefused.TheVariants.{Again, NoNode, Spent}
-use Rattle.orc_cell.proofs.Answering.{moved_before}
-use Rattle.orc_cell.proofs.Journals.{CallSeen, call_adds, uses_turns}
+use Rattle.orc_cell.proofs.Answering.{any_answered, moved_before}
+use Rattle.orc_cell.proofs.Journals.{call_adds, uses_turns}
+use Rattle.orc_heap.proofs.InJournal.{CallSeen}
 use Rattle.orc_cell.proofs.Pieces.{FindsOnly-trans, finds_none}
-use Rattle.orc_cell.proofs.Staging.{Answered-trans, finds_stretch, found_answered}
+use Rattle.orc_cell.proofs.Staging.{Answered-trans, finds_piece, found_answered}
 
 -- a publish
 
@@ -34,11 +35,11 @@ answers_settled n given s t u es x o all =
     let w = Answered-trans n given 0 s t u es [] x.answered (found_answered n t u [] (finds_none t u o) all) in
     record {
       answered = record {
-        stretch = record {
-          own = w.stretch.own;
-          puts = w.stretch.puts;
-          entries_are = w.stretch.entries_are ∙ append-nil es;
-          gives = omega (arith, w.stretch.gives);
+        piece = record {
+          own = w.piece.own;
+          puts = w.piece.puts;
+          entries_are = w.piece.entries_are ∙ append-nil es;
+          gives = omega (arith, w.piece.gives);
         };
         slots = w.slots;
         staging = w.staging;
@@ -53,7 +54,7 @@ publish_settled n given turns left right s t u (Err NoNode) x o all = answers_se
 publish_settled n given turns left right s t u (Err (Spent why)) x o all = answers_settled n given s t u [] x o all
 publish_settled n given turns left right s t u (Err Again) x o all =
     let w = answers_settled n given s t u [] x.answers o all in
-    record { answers = w; moved = moved_before s t u turns _ _ _ x.answers.answered.stretch.puts o.puts w.answered.stretch.puts x.moved }
+    record { answers = w; moved = moved_before s t u turns _ _ _ x.answers.answered.piece.puts o.puts w.answered.piece.puts x.moved }
 
 -- a read
 
@@ -74,55 +75,73 @@ read_answers n turns s t r x none all =
     let y = any_read turns s t r x in
     (y.0, record { answered = found_answered n s t y.0 y.1 all; fresh = y.1.finds.fresh ∙ none })
 
--- the pass after a call
-pub idle_after : (n : HeapNumbers) (given : ℕ) (s t : Seat PairsNote) (es : List CellEntry) → IsIdle s → Answers n given s es t → IsIdle t
-idle_after n given s t es idle x = record { slots = x.answered.slots ∙ idle.slots; fresh = x.fresh }
+-- a call and the settling at its end
+pub record CallEnds (n : HeapNumbers) (given : ℕ) (s t u : Seat PairsNote) (OnAnswer : Type 0) : Type 0 where
+  pub before : t.agent ≡ s.agent
+  pub entries : List CellEntry
+  pub after : Answers n given s entries u
+  pub answers : OnAnswer
 
-pub staging_after : (n : HeapNumbers) (given : ℕ) (s t : Seat PairsNote) (es : List CellEntry) → Answers n given s es t
+pub publish_ends : (n : HeapNumbers) (given turns : ℕ) (left right : Option ℕ) (s t u : Seat PairsNote) → Only [] t u → AllAllowed (PairsMay n) [] u.seen
+    → (r : Result (ℕ × ℕ) CellRefused) → PublishAnswers n given turns left right s r t
+    → CallEnds n given s t u (PublishAnswers n given turns left right s r u)
+publish_ends n given turns left right s t u o all r x =
+    let y = publish_settled n given turns left right s t u r x o all in
+    let any = any_answered n given turns left right s u r y in
+    record { before = (any_answered n given turns left right s t r x).1.answered.piece.puts.agent; entries = any.0; after = any.1; answers = y }
+
+pub read_ends : (n : HeapNumbers) (turns : ℕ) (s t u : Seat PairsNote) → Only [] t u → AllAllowed (PairsMay n) [] u.seen → s.fresh ≡ None
+    → (r : Result (ℕ × ℕ) AgainFault) → ReadAnswers turns s r t → CallEnds n 0 s t u (ReadAnswers turns s r u)
+read_ends n turns s t u o all none r x =
+    let y = read_settled turns s t u r x o in
+    let any = read_answers n turns s u r y none all in
+    record { before = (any_read turns s t r x).1.finds.puts.agent; entries = any.0; after = any.1; answers = y }
+
+-- the pass after a call
+pub idle_after : {n : HeapNumbers} {given : ℕ} {s t : Seat PairsNote} {es : List CellEntry} → IsIdle s → Answers n given s es t → IsIdle t
+idle_after idle x = record { slots = x.answered.slots ∙ idle.slots; fresh = x.fresh }
+
+pub staging_after : {n : HeapNumbers} {given : ℕ} {s t : Seat PairsNote} {es : List CellEntry} → Answers n given s es t
     → ((root : ℕ) → IsStaging s.agent root → shown (heap_of n s) (Root root) ≡ Some null)
     → (root : ℕ) → IsStaging t.agent root → shown (heap_of n t) (Root root) ≡ Some null
-staging_after n given s t es x empty root own =
-    let own_s = subst (λ (i : ℕ). IsStaging i root) x.answered.stretch.puts.agent own in
+staging_after x empty root own =
+    let own_s = subst (λ (i : ℕ). IsStaging i root) x.answered.piece.puts.agent own in
     x.answered.staging root own_s ∙ empty root own_s
 
 -- the entries, by the answer
 
 module _ {S : Type 0} {n : HeapNumbers} {agents : ℕ} {agent_of : S → ℕ} {events : List S → List (Event PairsNote)} {s t : Seat PairsNote} {j k : List S}
-    (o : CallSeen n agents agent_of events s t j k)
+    (o : CallSeen PairsMay n agents agent_of events s t j k)
   where
-    entered : (given : ℕ) (es : List CellEntry) → Piece given s es t
-        → Adds agent_of_entry (λ (a : ℕ). a < agents) s.agent (entries_of (events j)) es (entries_of (events k))
-    entered given es x = call_adds o x.own es x.puts x.entries_are
-
     pub publish_ok : (given turns : ℕ) (left right : Option ℕ) (r : Result (ℕ × ℕ) CellRefused) → PublishAnswers n given turns left right s r t
         → IfOk r (λ now. Adds agent_of_entry (λ (a : ℕ). a < agents) s.agent (entries_of (events j)) (Published s.agent left right now.0 now.1 ∷ [])
         (entries_of (events k)))
-    publish_ok given turns left right (Ok now) x = entered given (Published s.agent left right now.0 now.1 ∷ []) x.answered.stretch
+    publish_ok given turns left right (Ok now) x = call_adds o given (Published s.agent left right now.0 now.1 ∷ []) x.answered.piece
     publish_ok given turns left right (Err why) x = tt
 
     pub publish_err : (given turns : ℕ) (left right : Option ℕ) (r : Result (ℕ × ℕ) CellRefused) → PublishAnswers n given turns left right s r t
         → IfErr r (λ e. Adds agent_of_entry (λ (a : ℕ). a < agents) s.agent (entries_of (events j)) [] (entries_of (events k)))
     publish_err given turns left right (Ok now) x = tt
-    publish_err given turns left right (Err Again) x = entered given [] x.answers.answered.stretch
-    publish_err given turns left right (Err NoNode) x = entered given [] x.answered.stretch
-    publish_err given turns left right (Err (Spent why)) x = entered given [] x.answered.stretch
+    publish_err given turns left right (Err Again) x = call_adds o given [] x.answers.answered.piece
+    publish_err given turns left right (Err NoNode) x = call_adds o given [] x.answered.piece
+    publish_err given turns left right (Err (Spent why)) x = call_adds o given [] x.answered.piece
 
     pub publish_again : (given turns : ℕ) (left right : Option ℕ) (r : Result (ℕ × ℕ) CellRefused) → PublishAnswers n given turns left right s r t
         → r ≡ Err Again → UsesTurns events s.agent turns k (part_begin agent_of s.agent j k) (length k)
-    publish_again given turns left right (Err Again) x is = uses_turns o turns _ x.answers.answered.stretch.puts x.moved
+    publish_again given turns left right (Err Again) x is = uses_turns o turns _ x.answers.answered.piece.puts x.moved
     publish_again given turns left right (Ok now) x is = cc
     publish_again given turns left right (Err NoNode) x is = cc
     publish_again given turns left right (Err (Spent why)) x is = cc
 
     pub read_ok : (turns : ℕ) (r : Result (ℕ × ℕ) AgainFault) → ReadAnswers turns s r t
         → IfOk r (λ now. Adds agent_of_entry (λ (a : ℕ). a < agents) s.agent (entries_of (events j)) (Seen s.agent now.0 now.1 ∷ []) (entries_of (events k)))
-    read_ok turns (Ok got) x = entered 0 (Seen s.agent got.0 got.1 ∷ []) (finds_stretch s t (Seen s.agent got.0 got.1 ∷ []) x.finds)
+    read_ok turns (Ok got) x = call_adds o 0 (Seen s.agent got.0 got.1 ∷ []) (finds_piece s t (Seen s.agent got.0 got.1 ∷ []) x.finds)
     read_ok turns (Err again) x = tt
 
     pub read_err : (turns : ℕ) (r : Result (ℕ × ℕ) AgainFault) → ReadAnswers turns s r t
         → IfErr r (λ e. Adds agent_of_entry (λ (a : ℕ). a < agents) s.agent (entries_of (events j)) [] (entries_of (events k)))
     read_err turns (Ok got) x = tt
-    read_err turns (Err again) x = entered 0 [] (finds_stretch s t [] x.only.finds)
+    read_err turns (Err again) x = call_adds o 0 [] (finds_piece s t [] x.only.finds)
 
     pub read_again : (turns : ℕ) (r : Result (ℕ × ℕ) AgainFault) → ReadAnswers turns s r t
         → IfErr r (λ e. UsesTurns events s.agent turns k (part_begin agent_of s.agent j k) (length k))

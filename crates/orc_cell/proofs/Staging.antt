@@ -25,6 +25,7 @@ use Rattle.orc_heap.specs.declared.events.Act.{Act}
 use Rattle.orc_heap.specs.declared.events.Act.TheVariants.{Aim, AimSide, Fill, Give, Look, Miss, Move}
 use Rattle.orc_heap.specs.declared.events.Event.{Event}
 use Rattle.orc_heap.specs.declared.events.Place.TheVariants.{Root}
+use Rattle.orc_heap.specs.declared.links.Links.{Ghosts as LinksOf}
 use Rattle.orc_history.specs.Journals.{Within}
 use Rattle.orc_history.specs.Parts.{InPart}
 use Rattle.orc_pairs_rule.proofs.Later.{staging_next}
@@ -58,9 +59,9 @@ staging-trans n s a t agent p q = λ root own. q root (subst (λ (x : ℕ). IsSt
 pub Answered-trans : (n : HeapNumbers) (g k : ℕ) (s a t : Seat PairsNote) (xs ys : List CellEntry) → Answered n g s xs a → Answered n k a ys t
     → Answered n (g + k) s (xs ++ ys) t
 Answered-trans n g k s a t xs ys p q = record {
-  stretch = Piece-trans g k s a t xs ys p.stretch q.stretch;
+  piece = Piece-trans g k s a t xs ys p.piece q.piece;
   slots = q.slots ∙ p.slots;
-  staging = staging-trans n s a t p.stretch.puts.agent p.staging q.staging;
+  staging = staging-trans n s a t p.piece.puts.agent p.staging q.staging;
 }
 
 -- a staging root that the own events don't move
@@ -140,14 +141,14 @@ finding_touches id (e ∷ es) x f = ap (touched_by id es) (cases e.act f.0) ∙ 
     cases (AimSide i to) y = absurd y
     cases (Move place from to) y = absurd y
 
-pub finds_stretch : (s t : Seat PairsNote) (es : List CellEntry) → Finds s es t → Piece 0 s es t
-finds_stretch s t es f = record { own = f.own; puts = f.puts; entries_are = f.entries_are; gives = omega (arith, finding_gives f.own f.finding) }
+pub finds_piece : (s t : Seat PairsNote) (es : List CellEntry) → Finds s es t → Piece 0 s es t
+finds_piece s t es f = record { own = f.own; puts = f.puts; entries_are = f.entries_are; gives = omega (arith, finding_gives f.own f.finding) }
 
 pub finds_staging : (n : HeapNumbers) (s t : Seat PairsNote) (es : List CellEntry) → Finds s es t → AllAllowed (PairsMay n) [] t.seen → KeepsStaging n s t
 finds_staging n s t es f all = λ root own. root_kept n s t f.own root f.puts all own (finding_moves root f.own f.finding)
 
 pub found_answered : (n : HeapNumbers) (s t : Seat PairsNote) (es : List CellEntry) → FindsOnly s es t → AllAllowed (PairsMay n) [] t.seen → Answered n 0 s es t
-found_answered n s t es f all = record { stretch = finds_stretch s t es f.finds; slots = f.slots; staging = finds_staging n s t es f.finds all }
+found_answered n s t es f all = record { piece = finds_piece s t es f.finds; slots = f.slots; staging = finds_staging n s t es f.finds all }
 
 -- the fresh node
 
@@ -182,15 +183,18 @@ ok_of P is p = subst (λ z. IfOk z P) is p
 pub err_of : {A E : Type 0} {r : Result A E} {e : E} (P : E → Type 0) → r ≡ Err e → IfErr r P → P e
 err_of P is p = subst (λ z. IfErr z P) is p
 
--- a cause in a piece of a call is one in the call
-pub within_more : {E S : Type 0} (agent by : ℕ) (i j k m : List S) (Fact : ℕ → E → List S → ℕ → ℕ → Type 0)
-    → ((who : ℕ) (why : E) (seen more : List S) (from to : ℕ) → Fact who why seen from to → Fact who why (seen ++ more) from to)
-    → (why : E) → by ≡ agent → IsPrefix i j → IsPrefix k m → Within (length j) (length k) (Fact by why k) → Within (length i) (length m) (Fact agent why m)
-within_more agent by i j k m Fact stays why same (us, one) (vs, two) (from, to, begin, order, end, fact) = (
+-- a fact of a piece of a call is one of the call
+pub within_call : {L D P S N : Type 0} (m : LinksOf L D P S N) (links : L) (p q r u : P) (Fact : ℕ → List S → ℕ → ℕ → Type 0)
+    → ((who : ℕ) (seen more : List S) (from to : ℕ) → Fact who seen from to → Fact who (seen ++ more) from to)
+    → (m.seat links q).agent ≡ (m.seat links p).agent → IsPrefix (m.journal p) (m.journal q) → IsPrefix (m.journal r) (m.journal u)
+    → Within (length (m.journal q)) (length (m.journal r)) (Fact (m.seat links q).agent (m.journal r))
+    → Within (length (m.journal p)) (length (m.journal u)) (Fact (m.seat links p).agent (m.journal u))
+within_call {S = S} m links p q r u Fact stays same (us, one) (vs, two) (from, to, begin, order, end, fact) = (
   from,
   to,
-  omega (arith, begin, length-append i us, ap length one),
+  omega (arith, begin, length-append (m.journal p) us, ap (λ (z : List S). length z) one),
   order,
-  omega (arith, end, length-append k vs, ap length two),
-  subst (λ (z : List _). Fact agent why z from to) two (stays agent why k vs from to (subst (λ (a : ℕ). Fact a why k from to) same fact)),
+  omega (arith, end, length-append (m.journal r) vs, ap (λ (z : List S). length z) two),
+  subst (λ (z : List S). Fact (m.seat links p).agent z from to) two
+      (stays (m.seat links p).agent (m.journal r) vs from to (subst (λ (a : ℕ). Fact a (m.journal r) from to) same fact)),
 )

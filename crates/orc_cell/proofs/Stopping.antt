@@ -15,8 +15,8 @@ use Rattle.orc_cell.specs.Publishes.{Piece, Unstages}
 use Rattle.orc_cell.proofs.Staging.{root_kept}
 
 -- a piece of a call, and a settling
-pub stretch_settled : (given : ℕ) (s a t : Seat PairsNote) (es : List CellEntry) → Piece given s es a → Only [] a t → Piece given s es t
-stretch_settled given s a t es x o = record {
+pub piece_settled : {given : ℕ} {s a t : Seat PairsNote} {es : List CellEntry} → Piece given s es a → Only [] a t → Piece given s es t
+piece_settled {s = s} {a = a} {t = t} x o = record {
   own = x.own;
   puts = subst (λ (own : List (Event PairsNote)). Puts s own t) (append-nil x.own) (Puts-trans s a t x.own [] x.puts o.puts);
   entries_are = x.entries_are;
@@ -29,7 +29,7 @@ pub unstaged_null : (n : HeapNumbers) (first : ℕ) (h : Hold) (s a t : Seat Pai
     → (root : ℕ) → IsStaging t.agent root → shown (heap_of n t) (Root root) ≡ Some null
 unstaged_null n first h s a t is u o all empty root own =
     let own_a = subst (λ (i : ℕ). IsStaging i root) o.puts.agent own in
-    let own_s = subst (λ (i : ℕ). IsStaging i root) u.stretch.puts.agent own_a in
+    let own_s = subst (λ (i : ℕ). IsStaging i root) u.piece.puts.agent own_a in
     root_kept n a t [] root o.puts all own_a refl ∙ cases own_s
   where
     cases : IsStaging s.agent root → shown (heap_of n a) (Root root) ≡ Some null

@@ -80,7 +80,7 @@ module _ (n : HeapNumbers) (s a b : Seat PairsNote) (pair : Hold) (l r x y : ℕ
           pair = record {
             link_is = right.keeps left.node left.there ∙ left.leads;
             side_is = right.leads;
-            left_part = part_puts n a b right.answered.stretch.own right.answered.stretch.puts known_b.all l x left.has;
+            left_part = part_puts n a b right.answered.piece.own right.answered.piece.puts known_b.all l x left.has;
             right_part = right.has;
           };
         }
@@ -95,7 +95,7 @@ module _ (n : HeapNumbers) (s a b : Seat PairsNote) (pair : Hold) (l r x y : ℕ
     both_aimed = Answered-trans n 0 0 s a b [] [] left.answered right.answered
 
     pub agents : b.agent ≡ s.agent
-    agents = right.answered.stretch.puts.agent ∙ left.answered.stretch.puts.agent
+    agents = right.answered.piece.puts.agent ∙ left.answered.piece.puts.agent
 
     module _ (t : Seat PairsNote) (from : Link) (given_left given_right : Option ℕ) (done : Bool)
         (w : SwingsPair from (id_in b.slots pair) given_left given_right x y b done t) (all_t : AllAllowed (PairsMay n) [] t.seen)
@@ -106,7 +106,7 @@ module _ (n : HeapNumbers) (s a b : Seat PairsNote) (pair : Hold) (l r x y : ℕ
             event_of b (Move (Root 0) from (link_to (id_in b.slots pair))) (Some (Entry (Published b.agent given_left given_right x y))) in
             let puts : Puts b (e ∷ []) t = subst (λ (v : Bool). MatchBool v (Puts b (e ∷ []) t) (Misses (Root 0) from b t)) is w.puts in
             let swing : Answered n 0 b (Published s.agent given_left given_right x y ∷ []) t = record {
-              stretch = record {
+              piece = record {
                 own = e ∷ [];
                 puts = puts;
                 entries_are = ap (λ (i : ℕ). Published i given_left given_right x y ∷ []) agents;
@@ -127,7 +127,7 @@ module _ (n : HeapNumbers) (s a b : Seat PairsNote) (pair : Hold) (l r x y : ℕ
             let m : Misses (Root 0) from b t = subst (λ (v : Bool). MatchBool v (Puts b (e ∷ []) t) (Misses (Root 0) from b t)) is w.puts in
             let fresh_t : t.fresh ≡ b.fresh = w.fresh ∙ ap (λ (v : Bool). if v then None else b.fresh) is in
             let miss : Answered n 0 b [] t = record {
-              stretch = record { own = _; puts = m.puts; entries_are = refl; gives = omega arith };
+              piece = record { own = _; puts = m.puts; entries_are = refl; gives = omega arith };
               slots = w.slots;
               staging = λ root own. root_kept n b t _ root m.puts all_t own refl;
             } in
@@ -143,11 +143,11 @@ module _ (n : HeapNumbers) (s a b : Seat PairsNote) (pair : Hold) (l r x y : ℕ
                   (keeps_found n given_left given_right pair b t _ m.puts known_b all_t (tt, tt) (untouched (id_in b.slots pair) right.fresh.fresh)
                   (ap (λ z. id_in z pair) w.slots));
               moved = λ at.
-                  let count : others_moves s.agent whole.stretch.puts.part
-                  ≡ others_moves s.agent both_aimed.stretch.puts.part + others_moves s.agent m.puts.part =
-                  ap (others_moves s.agent) (new_is s b t _ _ _ both_aimed.stretch.puts m.puts whole.stretch.puts)
-                  ∙ others-append s.agent both_aimed.stretch.puts.part m.puts.part in
-                  elim (still_or_others n s b from both_aimed.stretch.own both_aimed.stretch.puts known_b.all both_aimed.stretch.entries_are at) [
+                  let count : others_moves s.agent whole.piece.puts.part
+                  ≡ others_moves s.agent both_aimed.piece.puts.part + others_moves s.agent m.puts.part =
+                  ap (others_moves s.agent) (new_is s b t _ _ _ both_aimed.piece.puts m.puts whole.piece.puts)
+                  ∙ others-append s.agent both_aimed.piece.puts.part m.puts.part in
+                  elim (still_or_others n s b from both_aimed.piece.own both_aimed.piece.puts known_b.all both_aimed.piece.entries_are at) [
                     | inl still ↦
                         let moved = subst (λ (i : ℕ). 1 ≤ others_moves i m.puts.part) agents (missed_by_others n b t from m.found m.puts all_t m.other still) in
                         omega (arith, count, moved)
@@ -196,8 +196,8 @@ pub follows_pair : (n : HeapNumbers) (s a b : Seat PairsNote) (pair : Hold) (lef
     → IsNewPart (heap_of n s) (Next old) left l x → IsNewPart (heap_of n a) (Side old) right r y
     → Follows (heap_of n b) (given_of left) (given_of right) (link_to old) l r (record { left = x; right = y })
 follows_pair n s a b pair left right old l r x y two (l0, r0, was, has) one second all_a all_b is_left is_right =
-    let to_a = one.answered.stretch in
-    let to_b = second.answered.stretch in
+    let to_a = one.answered.piece in
+    let to_b = second.answered.piece in
     let in_a = pair_puts n s a to_a.own to_a.puts all_a old l0 r0 was has in
     let in_b = pair_puts n a b to_b.own to_b.puts all_b old l0 r0 was in_a in
     let x_has = part_puts n a b to_b.own to_b.puts all_b l x one.has in
@@ -285,18 +285,18 @@ swung_fresh fresh id done is = ap (λ (o : Option ℕ). if done then o else fres
 -- the pair before stays one
 pub before_kept : (n : HeapNumbers) (s a : Seat PairsNote) (old : ℕ) (es : List CellEntry) → Answered n 0 s es a → AllAllowed (PairsMay n) [] a.seen
     → IsPairOf (heap_of n s) old → IsPairOf (heap_of n a) old
-before_kept n s a old es x all (l, r, parts, has) = (l, r, parts, pair_puts n s a x.stretch.own x.stretch.puts all old l r parts has)
+before_kept n s a old es x all (l, r, parts, has) = (l, r, parts, pair_puts n s a x.piece.own x.piece.puts all old l r parts has)
 
 -- a staged part, after the other half was aimed
 pub right_kept : (n : HeapNumbers) (s a : Seat PairsNote) (right : New) (es : List CellEntry) → Answered n 0 s es a → AllAllowed (PairsMay n) [] a.seen
     → SideHeld n (2 + 2 * s.agent) right s → SideHeld n (2 + 2 * a.agent) right a
 right_kept n s a right es x all held =
-    subst (λ (i : ℕ). SideHeld n (2 + 2 * i) right a) (sym x.stretch.puts.agent)
-    (side_kept n s a (2 + 2 * s.agent) right x.stretch.own x.stretch.puts all (inr refl) x.staging (same_slots s a x.slots) held)
+    subst (λ (i : ℕ). SideHeld n (2 + 2 * i) right a) (sym x.piece.puts.agent)
+    (side_kept n s a (2 + 2 * s.agent) right x.piece.own x.piece.puts all (inr refl) x.staging (same_slots s a x.slots) held)
 
 -- the same of the left one
 pub left_kept : (n : HeapNumbers) (s a : Seat PairsNote) (left : New) (es : List CellEntry) → Answered n 0 s es a → AllAllowed (PairsMay n) [] a.seen
     → SideHeld n (1 + 2 * s.agent) left s → SideHeld n (1 + 2 * a.agent) left a
 left_kept n s a left es x all held =
-    subst (λ (i : ℕ). SideHeld n (1 + 2 * i) left a) (sym x.stretch.puts.agent)
-    (side_kept n s a (1 + 2 * s.agent) left x.stretch.own x.stretch.puts all (inl refl) x.staging (same_slots s a x.slots) held)
+    subst (λ (i : ℕ). SideHeld n (1 + 2 * i) left a) (sym x.piece.puts.agent)
+    (side_kept n s a (1 + 2 * s.agent) left x.piece.own x.piece.puts all (inl refl) x.staging (same_slots s a x.slots) held)

@@ -21,7 +21,7 @@ pub record Answers (n : HeapNumbers) (given : ℕ) (s : Seat PairsNote) (entries
 -- all turns were used: as many Moves of root 0 by others stand in it
 pub record AnswersAgain (n : HeapNumbers) (given turns : ℕ) (s t : Seat PairsNote) : Type 0 where
   pub answers : Answers n given s [] t
-  pub moved : turns ≤ others_moves s.agent (from_own s.agent answers.answered.stretch.puts.part)
+  pub moved : turns ≤ others_moves s.agent (from_own s.agent answers.answered.piece.puts.part)
 
 -- by the answer
 abbrev pub PublishAnswers : HeapNumbers → ℕ → ℕ → Option ℕ → Option ℕ → Seat PairsNote → Result (ℕ × ℕ) CellRefused → Seat PairsNote → Type 0

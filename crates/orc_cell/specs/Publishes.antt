@@ -71,7 +71,7 @@ KeepsStaging n s t = (root : ℕ) → IsStaging s.agent root → shown (heap_of 
 
 -- a piece after which the pass holds what it held, and its staging roots show what they showed
 pub record Answered (n : HeapNumbers) (given : ℕ) (s : Seat PairsNote) (entries : List CellEntry) (t : Seat PairsNote) : Type 0 where
-  pub stretch : Piece given s entries t
+  pub piece : Piece given s entries t
   pub slots : t.slots ≡ s.slots
   pub staging : KeepsStaging n s t
 
@@ -182,7 +182,7 @@ pub record SwingsPair (from : Link) (id : ℕ) (left right : Option ℕ) (x y : 
 pub record PublishOver (n : HeapNumbers) (turns : ℕ) (pair : Hold) (s t : Seat PairsNote) : Type 0 where
   pub answered : Answered n 0 s [] t
   pub fresh : HoldsFresh t pair
-  pub moved : turns ≤ others_moves s.agent (from_own s.agent answered.stretch.puts.part)
+  pub moved : turns ≤ others_moves s.agent (from_own s.agent answered.piece.puts.part)
 
 pub record PublishDone (n : HeapNumbers) (left right : Option ℕ) (x y : ℕ) (s t : Seat PairsNote) : Type 0 where
   pub answered : Answered n 0 s (Published s.agent left right x y ∷ []) t
@@ -213,7 +213,7 @@ pub record PublishMissed (n : HeapNumbers) (from : Link) (left right : Option �
   pub answered : Answered n 0 s [] t
   pub fresh : HoldsFresh t pair
   pub halves : KeepsHalves n left right pair s t
-  pub moved : shown (heap_of n s) (Root 0) ≡ Some from → 1 ≤ others_moves s.agent answered.stretch.puts.part
+  pub moved : shown (heap_of n s) (Root 0) ≡ Some from → 1 ≤ others_moves s.agent answered.piece.puts.part
 
 abbrev pub PublishesFrom : HeapNumbers → Link → Option ℕ → Option ℕ → Hold → Seat PairsNote → PublishTurn → Seat PairsNote → Type 0
 PublishesFrom n from left right pair s Over t = PublishMissed n from left right pair s t
@@ -237,7 +237,7 @@ KeepsOther n root s t = (r : ℕ) → IsStaging s.agent r → r ≢ root → sho
 
 -- a new part was given and staged
 pub record Stages (n : HeapNumbers) (slot root value : ℕ) (s : Seat PairsNote) (h : Hold) (t : Seat PairsNote) : Type 0 where
-  pub stretch : Piece 1 s [] t
+  pub piece : Piece 1 s [] t
   pub id : ℕ
   pub in_slot : InSlot s slot id h t
   pub fresh : t.fresh ≡ None
@@ -247,7 +247,7 @@ pub record Stages (n : HeapNumbers) (slot root value : ℕ) (s : Seat PairsNote)
 
 -- a staged part was let go
 pub record Unstages (n : HeapNumbers) (root : ℕ) (h : Hold) (s t : Seat PairsNote) : Type 0 where
-  pub stretch : Piece 0 s [] t
+  pub piece : Piece 0 s [] t
   pub slots : t.slots ≡ slice_set s.slots h.slot None
   pub fresh : t.fresh ≡ None
   pub root_is : shown (heap_of n t) (Root root) ≡ Some null

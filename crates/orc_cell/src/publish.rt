@@ -215,13 +215,25 @@ fn aim_first<L: Links<Rule = Pairs>>(
     }
 }
 
+// The value that is given.
+fn given(new: &New) -> Option<u64>
+    ensures { result ≡ given_of new.now }
+{
+    match new {
+        New::Given(value, _) => Some(*value),
+        New::Zero(_) => None,
+        New::Kept => None,
+    }
+}
+
 // Swings root 0 from this link to the new pair.
 fn swing_pair<L: Links<Rule = Pairs>>(
     links: &L,
     p: &mut L::Pass,
     from: &Want,
     pair: &Held,
-    given: (Option<u64>, Option<u64>),
+    left: &New,
+    right: &New,
     parts: (u64, u64),
 ) -> bool
     requires pass { L.belongs links.now p.old }
@@ -229,17 +241,17 @@ fn swing_pair<L: Links<Rule = Pairs>>(
     requires fresh { HoldsFresh (L.seat links.now p.old) pair.now }
     requires from { HoldsWant (L.seat links.now p.old).slots from.now }
     requires allowed { MayPublish (L.numbers links.now) (L.seat links.now p.old) (link_in (L.seat links.now p.old).slots from.now)
-        (id_in (L.seat links.now p.old).slots pair.now) given.0 given.1 parts.0 parts.1 }
+        (id_in (L.seat links.now p.old).slots pair.now) (given_of left.now) (given_of right.now) parts.0 parts.1 }
     ensures pass { L.belongs links.now p.new }
     ensures later { IsPrefix (L.journal p.old) (L.journal p.new) }
     ensures swung { SwingsPair (link_in (L.seat links.now p.old).slots from.now) (id_in (L.seat links.now p.old).slots pair.now)
-        given.0 given.1 parts.0 parts.1 (L.seat links.now p.old) result (L.seat links.now p.new) }
+        (given_of left.now) (given_of right.now) parts.0 parts.1 (L.seat links.now p.old) result (L.seat links.now p.new) }
 {
     let agent = links.agent(p);
     let note = PairsNote::Entry(CellEntry::Published {
         agent,
-        left: given.0,
-        right: given.1,
+        left: given(left),
+        right: given(right),
         now_left: parts.0,
         now_right: parts.1,
     });
@@ -252,17 +264,6 @@ fn swing_pair<L: Links<Rule = Pairs>>(
     ) {
         Ok(done) => done,
         Err(_) => unreachable!(),
-    }
-}
-
-// The value that is given.
-fn given(new: &New) -> Option<u64>
-    ensures { result ≡ given_of new.now }
-{
-    match new {
-        New::Given(value, _) => Some(*value),
-        New::Zero(_) => None,
-        New::Kept => None,
     }
 }
 
@@ -297,8 +298,7 @@ fn publish_first<L: Links<Rule = Pairs>>(
         Ok(y) => y,
         Err(spent) => return PublishTurn::Spent(spent),
     };
-    let parts = (given(left), given(right));
-    if swing_pair(links, p, &Want::Null(false), pair, parts, (x, y)) {
+    if swing_pair(links, p, &Want::Null(false), pair, left, right, (x, y)) {
         PublishTurn::Published(x, y)
     } else {
         PublishTurn::Over
@@ -339,8 +339,7 @@ fn publish_next<L: Links<Rule = Pairs>>(
         Ok(y) => y,
         Err(spent) => return PublishTurn::Spent(spent),
     };
-    let parts = (given(left), given(right));
-    if swing_pair(links, p, &Want::Node(old, false), pair, parts, (x, y)) {
+    if swing_pair(links, p, &Want::Node(old, false), pair, left, right, (x, y)) {
         PublishTurn::Published(x, y)
     } else {
         PublishTurn::Over

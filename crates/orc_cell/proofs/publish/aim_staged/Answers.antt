@@ -2,7 +2,7 @@
 use Rattle.std.proofs.Common.{refl}
 use Rattle.orc_heap.specs.Slots.{id_in}
 use Rattle.orc_cell.proofs.Aiming.{staged_aimed, staged_not_fresh, staged_refused}
-use Rattle.orc_cell.proofs.Pieces.{Known}
+use Rattle.orc_cell.proofs.Pieces.{pass_known}
 use Rattle.orc_cell.proofs.Staging.{err_of, ok_of}
 use Rattle.orc_cell.proofs.publish.aim_staged.Goals as goal
 
@@ -14,15 +14,12 @@ aim_half-requires-clause-other g c =
 pub returns-in-Ok-clause-aimed : goal.returns-in-Ok-clause-aimed
 returns-in-Ok-clause-aimed g c =
     let d = c.args.links.now in
-    let n = g.L.Links.numbers d in
-    let o = c.args.p.now in
-    let s = g.L.Links.seat d o in
-    let known : Known n s.seen = record { holds = g.met.L.Links.obeys d o c.requires.pass; all = g.met.L.Links.allowed d o c.requires.pass } in
+    let known = pass_known g.L.Links g.met.L.Links.obeys g.met.L.Links.allowed d c.args.p.now c.requires.pass in
     let e = c.aim_half.ensures in (
-      id_in s.slots c.args.part.now,
+      id_in (g.L.Links.seat d c.args.p.now).slots c.args.part.now,
       refl,
-      staged_aimed n c.args.half _ _ c.args.part.now c.args.pair.now _ c.args.value c.requires.staged c.requires.fresh known
-          (g.met.L.Links.allowed d c.aim_half.new.p e.pass) (λ i is. g.met.L.Links.fresh_is d o i c.requires.pass is) (ok_of _ c.in-Ok.is e.aimed),
+      staged_aimed _ c.args.half _ _ c.args.part.now c.args.pair.now _ c.args.value c.requires.staged c.requires.fresh known
+          (g.met.L.Links.allowed d c.aim_half.new.p e.pass) (λ i is. g.met.L.Links.fresh_is d c.args.p.now i c.requires.pass is) (ok_of _ c.in-Ok.is e.aimed),
     )
 
 pub returns-in-Err-clause-aimed : goal.returns-in-Err-clause-aimed

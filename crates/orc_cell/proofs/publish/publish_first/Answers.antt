@@ -1,14 +1,13 @@
 -- Both halves are aimed, and then root 0 is swung.
-use Rattle.std.proofs.Common.{[], Option, subst, sym, ℕ}
+use Rattle.std.proofs.Common.{[]}
 use Rattle.orc_heap.specs.Heap.{null}
 use Rattle.orc_heap.specs.Seats.{heap_of}
-use Rattle.orc_heap.specs.Slots.{id_in}
-use Rattle.orc_cell.specs.Publishes.{MayPublish, SwingsPair, given_of}
-use Rattle.orc_cell.proofs.Pieces.{Known}
+use Rattle.orc_cell.specs.Publishes.{given_of}
+use Rattle.orc_cell.proofs.Pieces.{Known, pass_known}
 use Rattle.orc_cell.proofs.Readying.{right_stays_ready}
 use Rattle.orc_cell.proofs.Swinging.{follows_null, may_publish, right_kept, spent_right, was_missed, was_published}
 use Rattle.orc_cell.proofs.publish.publish_first.Given.{Over}
-use Rattle.orc_cell.proofs.publish.publish_first.Goals.{After-swing_pair, In-Ok-aim_first}
+use Rattle.orc_cell.proofs.publish.publish_first.Goals.{In-Ok-aim_first}
 use Rattle.orc_cell.proofs.publish.publish_first.Goals as goal
 
 pub aim_first-requires-clause-ready : goal.aim_first-requires-clause-ready
@@ -34,61 +33,37 @@ returns-in-Err-aim_first-clause-published g c =
 known : (g : Over) (c : In-Ok-aim_first g) → let d = c.args.links.now in Known (g.L.Links.numbers d) (g.L.Links.seat d c.aim_first-2.new.p).seen
 known g c =
     let d = c.args.links.now in
-    let e = c.in-Ok-aim_first.ensures in
-    record { holds = g.met.L.Links.obeys d c.aim_first-2.new.p e.pass; all = g.met.L.Links.allowed d c.aim_first-2.new.p e.pass }
+    pass_known g.L.Links g.met.L.Links.obeys g.met.L.Links.allowed d c.aim_first-2.new.p c.in-Ok-aim_first.ensures.pass
 
 pub swing_pair-requires-clause-allowed : goal.swing_pair-requires-clause-allowed
 swing_pair-requires-clause-allowed g c =
-    let at = (goal.at.swing_pair-requires-clause-allowed g c).In-Ok-aim_first in
+    let known_b = known g (goal.at.swing_pair-requires-clause-allowed g c).In-Ok-aim_first in
     let d = c.args.links.now in
     let n = g.L.Links.numbers d in
-    let s = g.L.Links.seat d c.args.p.now in
-    let a = g.L.Links.seat d c.aim_first.new.p in
     let b = g.L.Links.seat d c.aim_first-2.new.p in
-    let pair = c.args.pair.now in
     let left = c.in-Ok.ensures.aimed in
     let right = c.in-Ok-aim_first.ensures.aimed in
     let follows = follows_null (heap_of n b) c.args.left.now c.args.right.now left.0 right.0 c.in-Ok.x c.in-Ok-aim_first.y left.1 right.1 in
-    let may = may_publish n s a b pair left.0 right.0 c.in-Ok.x c.in-Ok-aim_first.y left.2 right.2 (known g at)
+    may_publish n _ _ b c.args.pair.now left.0 right.0 c.in-Ok.x c.in-Ok-aim_first.y left.2 right.2 known_b
     (λ i is. g.met.L.Links.fresh_is d c.aim_first-2.new.p i c.in-Ok-aim_first.ensures.pass is) (given_of c.args.left.now) (given_of c.args.right.now)
-    null c.requires.made.two follows in
-    subst (λ (o : Option ℕ). MayPublish n b null (id_in b.slots pair) o c.given-2.result c.in-Ok.x c.in-Ok-aim_first.y)
-    (sym c.given.ensures)
-    (subst (λ (o : Option ℕ). MayPublish n b null (id_in b.slots pair) (given_of c.args.left.now) o c.in-Ok.x c.in-Ok-aim_first.y)
-    (sym c.given-2.ensures) may)
-
--- what the swing did
-swung : (g : Over) (c : After-swing_pair g) → let d = c.args.links.now in
-    let b = g.L.Links.seat d c.aim_first-2.new.p in
-    SwingsPair null (id_in b.slots c.args.pair.now) (given_of c.args.left.now) (given_of c.args.right.now) c.in-Ok.x
-    c.in-Ok-aim_first.y b c.swing_pair.result (g.L.Links.seat d c.swing_pair.new.p)
-swung g c =
-    let d = c.args.links.now in
-    let b = g.L.Links.seat d c.aim_first-2.new.p in
-    let t = g.L.Links.seat d c.swing_pair.new.p in
-    let pair = c.args.pair.now in
-    let done = c.swing_pair.result in
-    subst (λ (o : Option ℕ). SwingsPair null (id_in b.slots pair) (given_of c.args.left.now) o c.in-Ok.x c.in-Ok-aim_first.y b done t)
-    c.given-2.ensures
-    (subst (λ (o : Option ℕ). SwingsPair null (id_in b.slots pair) o c.given-2.result c.in-Ok.x c.in-Ok-aim_first.y b done t)
-    c.given.ensures c.swing_pair.ensures.swung)
+    null c.requires.made.two follows
 
 pub returns-then-swing_pair-clause-published : goal.returns-then-swing_pair-clause-published
 returns-then-swing_pair-clause-published g c =
-    let at = goal.at.returns-then-swing_pair-clause-published g c in
+    let known_b = known g (goal.at.returns-then-swing_pair-clause-published g c).In-Ok-aim_first in
     let d = c.args.links.now in
     let left = c.in-Ok.ensures.aimed in
     let right = c.in-Ok-aim_first.ensures.aimed in
-    was_published (g.L.Links.numbers d) _ _ _ c.args.pair.now left.0 right.0 c.in-Ok.x c.in-Ok-aim_first.y left.2 right.2 (known g at.In-Ok-aim_first)
-    (λ i is. g.met.L.Links.fresh_is d c.aim_first-2.new.p i c.in-Ok-aim_first.ensures.pass is) _ _ _ _ _ (swung g at.After-swing_pair)
+    was_published (g.L.Links.numbers d) _ _ _ c.args.pair.now left.0 right.0 c.in-Ok.x c.in-Ok-aim_first.y left.2 right.2 known_b
+    (λ i is. g.met.L.Links.fresh_is d c.aim_first-2.new.p i c.in-Ok-aim_first.ensures.pass is) _ _ _ _ _ c.swing_pair.ensures.swung
     (g.met.L.Links.allowed d c.swing_pair.new.p c.swing_pair.ensures.pass) c.if-swing_pair.true
 
 pub returns-else-swing_pair-clause-published : goal.returns-else-swing_pair-clause-published
 returns-else-swing_pair-clause-published g c =
-    let at = goal.at.returns-else-swing_pair-clause-published g c in
+    let known_b = known g (goal.at.returns-else-swing_pair-clause-published g c).In-Ok-aim_first in
     let d = c.args.links.now in
     let left = c.in-Ok.ensures.aimed in
     let right = c.in-Ok-aim_first.ensures.aimed in
-    was_missed (g.L.Links.numbers d) _ _ _ c.args.pair.now left.0 right.0 c.in-Ok.x c.in-Ok-aim_first.y left.2 right.2 (known g at.In-Ok-aim_first)
-    (λ i is. g.met.L.Links.fresh_is d c.aim_first-2.new.p i c.in-Ok-aim_first.ensures.pass is) _ _ _ _ _ (swung g at.After-swing_pair)
+    was_missed (g.L.Links.numbers d) _ _ _ c.args.pair.now left.0 right.0 c.in-Ok.x c.in-Ok-aim_first.y left.2 right.2 known_b
+    (λ i is. g.met.L.Links.fresh_is d c.aim_first-2.new.p i c.in-Ok-aim_first.ensures.pass is) _ _ _ _ _ c.swing_pair.ensures.swung
     (g.met.L.Links.allowed d c.swing_pair.new.p c.swing_pair.ensures.pass) c.if-swing_pair.false c.in-Ok.ensures.same c.in-Ok-aim_first.ensures.same

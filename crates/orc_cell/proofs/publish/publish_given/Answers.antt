@@ -5,7 +5,7 @@ use Rattle.orc_heap.specs.Slots.{IsFree, Slots}
 use Rattle.orc_cell.specs.Publishes.{given_of}
 use Rattle.orc_cell.proofs.Answering.{given_turns}
 use Rattle.orc_cell.proofs.Readying.{left_stays_ready}
-use Rattle.orc_cell.proofs.Staging.{Answered-trans, within_more}
+use Rattle.orc_cell.proofs.Staging.{Answered-trans, within_call}
 use Rattle.orc_cell.proofs.Swinging.{left_kept, right_kept}
 use Rattle.orc_cell.proofs.publish.publish_given.Goals as goal
 
@@ -23,23 +23,17 @@ returns-in-Err-aim_given-clause-published g c =
 
 pub publish_turns-requires : goal.publish_turns-requires
 publish_turns-requires g c =
-    let d = c.args.links.now in
-    let n = g.L.Links.numbers d in
-    let s = g.L.Links.seat d c.args.p.now in
-    let a = g.L.Links.seat d c.aim_given.new.p in
-    let b = g.L.Links.seat d c.aim_given-2.new.p in
-    let pair = c.args.pair.now in
     let one = c.in-Ok.ensures.aimed in
     let two = c.in-Ok-aim_given.ensures.aimed in
-    let all = g.met.L.Links.allowed d c.aim_given-2.new.p c.in-Ok-aim_given.ensures.pass in
-    let both = Answered-trans n 0 0 s a b [] [] one.answered two.answered in
+    let all = g.met.L.Links.allowed c.args.links.now c.aim_given-2.new.p c.in-Ok-aim_given.ensures.pass in
+    let both = Answered-trans _ 0 0 _ _ _ [] [] one.answered two.answered in
     record {
       pass = c.in-Ok-aim_given.ensures.pass;
       made = c.requires.made;
       fresh = two.fresh;
-      left = left_kept n s b c.args.left.now [] both all c.requires.left;
-      right = right_kept n s b c.args.right.now [] both all c.requires.right;
-      ready = (left_stays_ready n a b pair c.args.left.now c.args.right.now two one.ready, two.ready);
+      left = left_kept _ _ _ c.args.left.now [] both all c.requires.left;
+      right = right_kept _ _ _ c.args.right.now [] both all c.requires.right;
+      ready = (left_stays_ready _ _ _ c.args.pair.now c.args.left.now c.args.right.now two one.ready, two.ready);
       slots = (
         subst (λ (z : Slots). IsFree z 4) (sym both.slots) c.requires.slots.0,
         subst (λ (z : Slots). IsFree z 5) (sym both.slots) c.requires.slots.1,
@@ -48,21 +42,15 @@ publish_turns-requires g c =
 
 pub returns-clause-published : goal.returns-clause-published
 returns-clause-published g c =
-    let d = c.args.links.now in
-    let n = g.L.Links.numbers d in
-    let s = g.L.Links.seat d c.args.p.now in
-    let a = g.L.Links.seat d c.aim_given.new.p in
-    let b = g.L.Links.seat d c.aim_given-2.new.p in
-    let both = Answered-trans n 0 0 s a b [] [] c.in-Ok.ensures.aimed.answered c.in-Ok-aim_given.ensures.aimed.answered in
-    given_turns n c.args.turns (given_of c.args.left.now) (given_of c.args.right.now) c.args.pair.now s b _ c.publish_turns.result both
-    c.publish_turns.ensures.published
+    let both = Answered-trans _ 0 0 _ _ _ [] [] c.in-Ok.ensures.aimed.answered c.in-Ok-aim_given.ensures.aimed.answered in
+    given_turns (g.L.Links.numbers c.args.links.now) c.args.turns (given_of c.args.left.now) (given_of c.args.right.now) c.args.pair.now _ _ _
+    c.publish_turns.result both c.publish_turns.ensures.published
 
 pub returns-clause-worn : goal.returns-clause-worn
-returns-clause-worn g c =
+returns-clause-worn g c = λ why is.
     let d = c.args.links.now in
-    let s = g.L.Links.seat d c.args.p.now in
-    let b = g.L.Links.seat d c.aim_given-2.new.p in
-    let agent = c.in-Ok-aim_given.ensures.aimed.answered.stretch.puts.agent ∙ c.in-Ok.ensures.aimed.answered.stretch.puts.agent in
-    λ why is. within_more s.agent b.agent (g.L.Links.journal c.args.p.now) _ _ _ (λ who w. g.L.Links.worn d who w)
-    (λ who w j more from to. g.met.L.Links.worn_stays d who w j more from to) why agent
-    (goes_on _ _ _ c.in-Ok.ensures.later c.in-Ok-aim_given.ensures.later) ([], append-nil _) (c.publish_turns.ensures.worn why is)
+    let one = c.in-Ok.ensures in
+    let two = c.in-Ok-aim_given.ensures in
+    within_call g.L.Links d c.args.p.now c.aim_given-2.new.p c.publish_turns.new.p c.publish_turns.new.p (λ who. g.L.Links.worn d who why) (λ who. g.met.L.Links.worn_stays d who why)
+    (two.aimed.answered.piece.puts.agent ∙ one.aimed.answered.piece.puts.agent) (goes_on _ _ _ one.later two.later) ([], append-nil _)
+    (c.publish_turns.ensures.worn why is)

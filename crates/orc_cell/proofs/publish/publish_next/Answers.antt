@@ -1,5 +1,5 @@
 -- Both halves are aimed, and then root 0 is swung.
-use Rattle.std.proofs.Common.{[], Option, subst, sym, ℕ, ◌∙◌}
+use Rattle.std.proofs.Common.{[], subst, sym, ◌∙◌}
 use Rattle.orc_heap.specs.Heap.{link_to}
 use Rattle.orc_heap.specs.Seats.{heap_of}
 use Rattle.orc_heap.specs.Slots.{Slots, id_in}
@@ -7,7 +7,7 @@ use Rattle.orc_heap.specs.declared.events.Place.TheVariants.{Side}
 use Rattle.orc_cell.specs.Publishes.{IsNewPart, MayPublish, SwingsPair, given_of}
 use Rattle.orc_cell.specs.Turns.{LeadsToPart}
 use Rattle.orc_cell.proofs.Looking.{right_leads}
-use Rattle.orc_cell.proofs.Pieces.{Known}
+use Rattle.orc_cell.proofs.Pieces.{Known, pass_known}
 use Rattle.orc_cell.proofs.Readying.{right_stays_ready}
 use Rattle.orc_cell.proofs.Swinging.{before_kept, follows_pair, may_publish, right_kept, spent_right, was_missed, was_published}
 use Rattle.orc_cell.proofs.publish.publish_next.Given.{Over}
@@ -49,34 +49,29 @@ returns-in-Err-aim_next-clause-published g c =
 known : (g : Over) (c : In-Ok-aim_next g) → let d = c.args.links.now in Known (g.L.Links.numbers d) (g.L.Links.seat d c.aim_next-2.new.p).seen
 known g c =
     let d = c.args.links.now in
-    let e = c.in-Ok-aim_next.ensures in
-    record { holds = g.met.L.Links.obeys d c.aim_next-2.new.p e.pass; all = g.met.L.Links.allowed d c.aim_next-2.new.p e.pass }
+    pass_known g.L.Links g.met.L.Links.obeys g.met.L.Links.allowed d c.aim_next-2.new.p c.in-Ok-aim_next.ensures.pass
 
 pub swing_pair-requires-clause-allowed : goal.swing_pair-requires-clause-allowed
 swing_pair-requires-clause-allowed g c =
-    let at = (goal.at.swing_pair-requires-clause-allowed g c).In-Ok-aim_next in
+    let known_b = known g (goal.at.swing_pair-requires-clause-allowed g c).In-Ok-aim_next in
     let d = c.args.links.now in
     let n = g.L.Links.numbers d in
-    let s = g.L.Links.seat d c.args.p.now in
     let a = g.L.Links.seat d c.aim_next.new.p in
     let b = g.L.Links.seat d c.aim_next-2.new.p in
     let pair = c.args.pair.now in
     let old = c.args.old.now in
+    let id = id_in (g.L.Links.seat d c.args.p.now).slots old in
     let left = c.in-Ok.ensures.aimed in
     let right = c.in-Ok-aim_next.ensures.aimed in
     let is_right = subst (λ (z : Slots). IsNewPart (heap_of n a) (Side (id_in z old)) c.args.right.now right.0 c.in-Ok-aim_next.y) left.2.answered.slots
     right.1 in
-    let follows = follows_pair n s a b pair c.args.left.now c.args.right.now (id_in s.slots old) left.0 right.0 c.in-Ok.x c.in-Ok-aim_next.y c.requires.made.two
-    c.requires.before left.2 right.2 (g.met.L.Links.allowed d c.aim_next.new.p c.in-Ok.ensures.pass) (known g at).all left.1 is_right in
-    let may = may_publish n s a b pair left.0 right.0 c.in-Ok.x c.in-Ok-aim_next.y left.2 right.2 (known g at)
+    let follows = follows_pair n _ a b pair c.args.left.now c.args.right.now id left.0 right.0 c.in-Ok.x c.in-Ok-aim_next.y c.requires.made.two
+    c.requires.before left.2 right.2 (g.met.L.Links.allowed d c.aim_next.new.p c.in-Ok.ensures.pass) known_b.all left.1 is_right in
+    let may = may_publish n _ a b pair left.0 right.0 c.in-Ok.x c.in-Ok-aim_next.y left.2 right.2 known_b
     (λ i is. g.met.L.Links.fresh_is d c.aim_next-2.new.p i c.in-Ok-aim_next.ensures.pass is) (given_of c.args.left.now) (given_of c.args.right.now)
-    (link_to (id_in s.slots old)) c.requires.made.two follows in
-    subst (λ (o : Option ℕ). MayPublish n b (link_to (id_in b.slots old)) (id_in b.slots pair) o c.given-2.result c.in-Ok.x c.in-Ok-aim_next.y)
-    (sym c.given.ensures)
-    (subst (λ (o : Option ℕ). MayPublish n b (link_to (id_in b.slots old)) (id_in b.slots pair) (given_of c.args.left.now) o c.in-Ok.x c.in-Ok-aim_next.y)
-    (sym c.given-2.ensures)
-    (subst (λ (z : Slots). MayPublish n b (link_to (id_in z old)) (id_in b.slots pair) (given_of c.args.left.now) (given_of c.args.right.now) c.in-Ok.x
-    c.in-Ok-aim_next.y) (sym (right.2.answered.slots ∙ left.2.answered.slots)) may))
+    (link_to id) c.requires.made.two follows in
+    subst (λ (z : Slots). MayPublish n b (link_to (id_in z old)) (id_in b.slots pair) (given_of c.args.left.now) (given_of c.args.right.now) c.in-Ok.x
+    c.in-Ok-aim_next.y) (sym (right.2.answered.slots ∙ left.2.answered.slots)) may
 
 -- what the swing did
 swung : (g : Over) (c : After-swing_pair g) → let d = c.args.links.now in let s = g.L.Links.seat d c.args.p.now in
@@ -87,16 +82,9 @@ swung g c =
     let d = c.args.links.now in
     let b = g.L.Links.seat d c.aim_next-2.new.p in
     let t = g.L.Links.seat d c.swing_pair.new.p in
-    let pair = c.args.pair.now in
-    let old = c.args.old.now in
-    let done = c.swing_pair.result in
     let slots = c.in-Ok-aim_next.ensures.aimed.2.answered.slots ∙ c.in-Ok.ensures.aimed.2.answered.slots in
-    subst (λ (z : Slots). SwingsPair (link_to (id_in z old)) (id_in b.slots pair) (given_of c.args.left.now) (given_of c.args.right.now) c.in-Ok.x
-    c.in-Ok-aim_next.y b done t) slots
-    (subst (λ (o : Option ℕ). SwingsPair (link_to (id_in b.slots old)) (id_in b.slots pair) (given_of c.args.left.now) o c.in-Ok.x c.in-Ok-aim_next.y b done t)
-    c.given-2.ensures
-    (subst (λ (o : Option ℕ). SwingsPair (link_to (id_in b.slots old)) (id_in b.slots pair) o c.given-2.result c.in-Ok.x c.in-Ok-aim_next.y b done t)
-    c.given.ensures c.swing_pair.ensures.swung))
+    subst (λ (z : Slots). SwingsPair (link_to (id_in z c.args.old.now)) (id_in b.slots c.args.pair.now) (given_of c.args.left.now) (given_of c.args.right.now)
+    c.in-Ok.x c.in-Ok-aim_next.y b c.swing_pair.result t) slots c.swing_pair.ensures.swung
 
 pub returns-then-swing_pair-clause-published : goal.returns-then-swing_pair-clause-published
 returns-then-swing_pair-clause-published g c =

@@ -1,7 +1,6 @@
 -- The new pair's row isn't worn, since nothing links to it.
-use Rattle.std.proofs.Common.{Some, [], arith, subst, sym, ℕ, ◌∙◌, ◌∷◌}
+use Rattle.std.proofs.Common.{Option, Some, [], arith, refl, subst, ℕ, ◌∙◌, ◌∷◌, ◌≡◌}
 use Rattle.std.specs.Prelude.{MatchBool}
-use Rattle.orc_heap.specs.Allowed.{AllowedLater}
 use Rattle.orc_heap.specs.Calls.{Misses, event_of}
 use Rattle.orc_heap.specs.Heap.{link_to}
 use Rattle.orc_heap.specs.OwnEvents.{Puts}
@@ -11,7 +10,8 @@ use Rattle.orc_heap.specs.declared.events.Act.TheVariants.{Move}
 use Rattle.orc_heap.specs.declared.events.Place.TheVariants.{Root}
 use Rattle.orc_pairs_rule.specs.declared.entry.CellEntry.TheVariants.{Published}
 use Rattle.orc_pairs_rule.specs.declared.pairs.PairsNote.TheVariants.{Entry}
-use Rattle.orc_pairs_rule.specs.PairsDiscipline.{PairsMay}
+use Rattle.orc_pairs_rule.specs.declared.pairs.PairsNote.{PairsNote}
+use Rattle.orc_cell.specs.Publishes.{given_of}
 use Rattle.orc_cell.proofs.Swinging.{not_worn, swung_fresh}
 use Rattle.orc_cell.proofs.publish.swing_pair.Goals as goal
 
@@ -19,14 +19,7 @@ pub swing-requires-clause-place : goal.swing-requires-clause-place
 swing-requires-clause-place g c = omega (arith, c.requires.made.roots)
 
 pub swing-requires-clause-allowed : goal.swing-requires-clause-allowed
-swing-requires-clause-allowed g c =
-    let d = c.args.links.now in
-    let n = g.L.Links.numbers d in
-    let s = g.L.Links.seat d c.args.p.now in
-    let from = link_in s.slots c.args.from.now in
-    let to = link_to (id_in s.slots c.args.pair.now) in
-    subst (λ (x : ℕ). AllowedLater (PairsMay n) n s.agent s.seen (Root 0) from (event_of s (Move (Root 0) from to)
-    (Some (Entry (Published x c.args.given.0 c.args.given.1 c.args.parts.0 c.args.parts.1))))) (sym c.agent-agent.ensures) c.requires.allowed
+swing-requires-clause-allowed g c = rw (c.agent-agent.ensures, c.given.ensures, c.given-2.ensures) c.requires.allowed
 
 pub unreachable-requires : goal.unreachable-requires
 unreachable-requires g c =
@@ -46,10 +39,12 @@ returns-clause-swung g c =
     let w = c.in-Ok.ensures.swung in
     let from = link_in s.slots c.args.from.now in
     let to = link_to (id_in s.slots c.args.pair.now) in
+    let note : (ℕ → Option ℕ → Option ℕ → PairsNote) = λ agent left right. Entry (Published agent left right c.args.parts.0 c.args.parts.1) in
+    let noted : note c.agent-agent.result c.given.result c.given-2.result ≡ note s.agent (given_of c.args.left.now) (given_of c.args.right.now) =
+    rw (c.agent-agent.ensures, c.given.ensures, c.given-2.ensures) refl in
     record {
       slots = w.slots;
       fresh = w.fresh ∙ swung_fresh s.fresh (id_in s.slots c.args.pair.now) c.in-Ok.done c.requires.fresh.fresh;
-      puts = subst (λ (x : ℕ). MatchBool c.in-Ok.done (Puts s (event_of s (Move (Root 0) from to)
-          (Some (Entry (Published x c.args.given.0 c.args.given.1 c.args.parts.0 c.args.parts.1))) ∷ []) t) (Misses (Root 0) from s t))
-          c.agent-agent.ensures w.puts;
+      puts = subst (λ (x : PairsNote). MatchBool c.in-Ok.done (Puts s (event_of s (Move (Root 0) from to) (Some x) ∷ []) t) (Misses (Root 0) from s t)) noted
+          w.puts;
     }

@@ -6,7 +6,7 @@ use Rattle.orc_heap.specs.Heap.{link_to}
 use Rattle.orc_heap.specs.declared.events.Place.TheVariants.{Side}
 use Rattle.orc_cell.specs.Turns.{Confirms, FindsOnly, LeadsToPart, MaySee, ReadsPart}
 use Rattle.orc_cell.proofs.Looking.{left_leads, right_leads}
-use Rattle.orc_cell.proofs.Pieces.{FindsOnly-trans, Known, pair_puts}
+use Rattle.orc_cell.proofs.Pieces.{FindsOnly-trans, pair_puts, pass_known}
 use Rattle.orc_cell.proofs.Reading.{BothRead, both_read, confirmed, left_pair, may_see_pair}
 use Rattle.orc_cell.proofs.read.read_pair.Given.{Over}
 use Rattle.orc_cell.proofs.read.read_pair.Goals.{After-confirm, After-read_part-right}
@@ -41,12 +41,12 @@ so_far g c = FindsOnly-trans _ _ _ [] [] c.read_part-left.ensures.read.only c.re
 pub read_part-right-requires : goal.read_part-right-requires
 read_part-right-requires g c =
     let d = c.args.links.now in
+    let e = c.read_part-left.ensures in
+    let slots = e.read.only.slots in
     let n = g.L.Links.numbers d in
     let s = g.L.Links.seat d c.args.p.now in
     let a = g.L.Links.seat d c.read_part-left.new.p in
     let pair = c.args.pair.now in
-    let e = c.read_part-left.ensures in
-    let slots = e.read.only.slots in
     let (l, r, parts, has) = c.requires.pair in
     let in_a = pair_puts n s a e.read.only.finds.own e.read.only.finds.puts (g.met.L.Links.allowed d c.read_part-left.new.p e.pass)
     (id_in s.slots pair) l r parts
@@ -69,8 +69,7 @@ confirm-requires g c =
     let pair = c.args.pair.now in
     let e = c.read_part-right.ensures in
     let slots = (so_far g at.After-read_part-right).slots in
-    let k : Known n b.seen =
-    record { holds = g.met.L.Links.obeys d c.read_part-right.new.p e.pass; all = g.met.L.Links.allowed d c.read_part-right.new.p e.pass } in
+    let k = pass_known g.L.Links g.met.L.Links.obeys g.met.L.Links.allowed d c.read_part-right.new.p e.pass in
     record {
       pass = e.pass;
       made = c.requires.made;

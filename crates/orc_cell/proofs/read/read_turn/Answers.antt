@@ -10,6 +10,7 @@ use Rattle.orc_pairs_rule.proofs.Coming.{seen_null}
 use Rattle.orc_cell.specs.Turns.{IsPairOf, ReadsPair}
 use Rattle.orc_cell.proofs.Looking.{HoldsPair, RootNull, root_held, root_null}
 use Rattle.orc_cell.proofs.Others.{looks_differ_by_others}
+use Rattle.orc_cell.proofs.Pieces.{pass_known}
 use Rattle.orc_cell.proofs.Reading.{confirmed, null_over, null_seen, pair_slots, turn_read}
 use Rattle.orc_cell.proofs.read.read_turn.Given.{Over}
 use Rattle.orc_cell.proofs.read.read_turn.Goals.{In-Stable-default-None, In-Stable-default-Some}
@@ -24,8 +25,8 @@ found : (g : Over) (c : In-Stable-default-Some g) → let d = c.args.links.now i
 found g c =
     let d = c.args.links.now in
     let e = c.in-Stable-default-Some.ensures in
-    root_held _ _ _ 1 _ _ (record { holds = g.met.L.Links.obeys d c.args.p.now c.requires.pass; all = g.met.L.Links.allowed d c.args.p.now c.requires.pass })
-    (g.met.L.Links.allowed d c.look.new.p e.pass) (Looks-held {place = Root 0} e.looked c.in-Stable-default-Some.field-1-is)
+    let known = pass_known g.L.Links g.met.L.Links.obeys g.met.L.Links.allowed d c.args.p.now c.requires.pass in
+    root_held _ _ _ 1 _ _ known (g.met.L.Links.allowed d c.look.new.p e.pass) (Looks-held {place = Root 0} e.looked c.in-Stable-default-Some.field-1-is)
 
 -- it found null
 ended : (g : Over) (c : In-Stable-default-None g) → let d = c.args.links.now in
@@ -33,8 +34,8 @@ ended : (g : Over) (c : In-Stable-default-None g) → let d = c.args.links.now i
 ended g c =
     let d = c.args.links.now in
     let e = c.in-Stable-default-None.ensures in
-    root_null _ _ _ _ (record { holds = g.met.L.Links.obeys d c.args.p.now c.requires.pass; all = g.met.L.Links.allowed d c.args.p.now c.requires.pass })
-    (g.met.L.Links.allowed d c.look.new.p e.pass) (Looks-null {place = Root 0} e.looked c.in-Stable-default-None.field-1-is)
+    let known = pass_known g.L.Links g.met.L.Links.obeys g.met.L.Links.allowed d c.args.p.now c.requires.pass in
+    root_null _ _ _ _ known (g.met.L.Links.allowed d c.look.new.p e.pass) (Looks-null {place = Root 0} e.looked c.in-Stable-default-None.field-1-is)
 
 pub read_pair-parts-requires : goal.read_pair-parts-requires
 read_pair-parts-requires g c =
@@ -65,17 +66,15 @@ pub returns-in-Stable-default-Some-clause-read : goal.returns-in-Stable-default-
 returns-in-Stable-default-Some-clause-read g c =
     let f = found g (goal.at.returns-in-Stable-default-Some-clause-read g c).In-Stable-default-Some in
     let d = c.args.links.now in
-    let n = g.L.Links.numbers d in
-    let s = g.L.Links.seat d c.args.p.now in
+    let free = c.requires.slots.0 in
+    let h = c.in-Stable-default-Some.pair in
     let a = g.L.Links.seat d c.look.new.p in
     let b = g.L.Links.seat d c.read_pair-parts.new.p in
-    let h = c.in-Stable-default-Some.pair in
-    let free = c.requires.slots.0 in
     let e = c.read_pair-parts.ensures in
-    let read = subst (λ i. ReadsPair n i a c.read_pair-parts.result b) (slot_id s a 1 f.id h free f.in_slot) e.read in
-    turn_read n 1 s a b _ h free f c.in-Stable-default-Some.ensures.looked.fresh (g.met.L.Links.allowed d c.look.new.p c.in-Stable-default-Some.ensures.pass)
-    (g.met.L.Links.allowed d c.read_pair-parts.new.p e.pass) (λ i is. g.met.L.Links.fresh_is d c.read_pair-parts.new.p i e.pass is)
-    c.release.ensures.released c.read_pair-parts.result read
+    let read = subst (λ i. ReadsPair (g.L.Links.numbers d) i a c.read_pair-parts.result b) (slot_id _ _ 1 f.id h free f.in_slot) e.read in
+    turn_read _ 1 _ a b _ h free f c.in-Stable-default-Some.ensures.looked.fresh
+    (g.met.L.Links.allowed d c.look.new.p c.in-Stable-default-Some.ensures.pass) (g.met.L.Links.allowed d c.read_pair-parts.new.p e.pass)
+    (λ i is. g.met.L.Links.fresh_is d c.read_pair-parts.new.p i e.pass is) c.release.ensures.released c.read_pair-parts.result read
 
 pub confirm-requires-clause-allowed : goal.confirm-requires-clause-allowed
 confirm-requires-clause-allowed g c =

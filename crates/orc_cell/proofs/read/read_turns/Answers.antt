@@ -26,28 +26,22 @@ read_turn-requires g c =
 
 pub loop-preserved : goal.loop-preserved
 loop-preserved g c =
-    let d = c.args.links.now in
     let i = c.loop.invariant in
     let e = c.in-None.ensures in
-    record {
-      pass = e.pass;
-      later = goes_on _ _ _ i.later e.later;
-      over = over_next c.loop.counter (g.L.Links.seat d c.args.p.now) (g.L.Links.seat d c.loop.p) (g.L.Links.seat d c.read_turn.new.p) i.over e.read;
-      still = λ zero. absurd (omega (arith, zero));
-    }
+    let over = over_next c.loop.counter _ _ _ i.over e.read in
+    record { pass = e.pass; later = goes_on _ _ _ i.later e.later; over = over; still = λ zero. absurd (omega (arith, zero)) }
 
 pub returns-in-Some : goal.returns-in-Some
 returns-in-Some g c =
-    let d = c.args.links.now in
     let i = c.loop.invariant in
     let e = c.in-Some.ensures in
+    let some = c.loop-test.true in
     record {
       pass = e.pass;
       later = goes_on _ _ _ i.later e.later;
-      read = over_read c.loop.counter c.args.turns (g.L.Links.seat d c.args.p.now) (g.L.Links.seat d c.loop.p) (g.L.Links.seat d c.read_turn.new.p)
-          c.in-Some.parts i.over e.read;
-      no_turns = λ zero. absurd (omega (arith, zero, c.loop-test.true));
-      nothing = λ zero. absurd (omega (arith, zero, c.loop-test.true));
+      read = over_read c.loop.counter c.args.turns _ _ _ c.in-Some.parts i.over e.read;
+      no_turns = λ zero. absurd (omega (arith, zero, some));
+      nothing = λ zero. absurd (omega (arith, zero, some));
     }
 
 pub returns-clause-read : goal.returns-clause-read

@@ -2,8 +2,8 @@
 use Rattle.std.proofs.Common.{Option, ap, arith, inl, inr, subst, sym, ℕ, ◌*◌, ◌+◌, ◌∙◌, ◌≢◌}
 use Rattle.orc_cell.specs.Answers.{PublishAnswers}
 use Rattle.orc_cell.specs.Publishes.{SideHeld, given_of}
-use Rattle.orc_cell.proofs.Answering.{answers_fresh, answers_join, pair_lacking, ready_agent, ready_fresh, ready_held, ready_null, ready_published, ready_slot, side_answered}
-use Rattle.orc_cell.proofs.Staging.{err_of, within_more}
+use Rattle.orc_cell.proofs.Answering.{answers_join, pair_lacking, ready_agent, ready_fresh, ready_held, ready_null, ready_published, ready_slot, ready_answered}
+use Rattle.orc_cell.proofs.Staging.{err_of, within_call}
 use Rattle.orc_cell.proofs.with_pair.publish_both.Goals as goal
 
 pub ready-requires-clause-staging : goal.ready-requires-clause-staging
@@ -12,12 +12,12 @@ ready-requires-clause-staging g c = inl c.requires.roots.0
 pub publish_right-answer-requires : goal.publish_right-answer-requires
 publish_right-answer-requires g c =
     let d = c.args.links.now in
-    let n = g.L.Links.numbers d in
-    let s = g.L.Links.seat d c.args.p.now in
-    let a = g.L.Links.seat d c.ready.new.p in
     let e = c.in-Ok.ensures in
     let all = g.met.L.Links.allowed d c.ready.new.p e.pass in
     let free = c.requires.slots.0 in
+    let n = g.L.Links.numbers d in
+    let s = g.L.Links.seat d c.args.p.now in
+    let a = g.L.Links.seat d c.ready.new.p in
     let agent = ready_agent n 1 c.args.roots.0 s a c.in-Ok.part e.ready in
     let ne : c.args.roots.1 ≢ c.args.roots.0 = λ z. omega (arith, z, c.requires.roots.0, c.requires.roots.1) in
     let slot = ready_slot n 1 c.args.roots.0 s a c.in-Ok.part free e.ready in
@@ -42,24 +42,11 @@ publish_right-answer-requires g c =
 pub let_go-requires : goal.let_go-requires
 let_go-requires g c =
     let d = c.args.links.now in
-    let n = g.L.Links.numbers d in
-    let s = g.L.Links.seat d c.args.p.now in
-    let a = g.L.Links.seat d c.ready.new.p in
-    let b = g.L.Links.seat d c.publish_right-answer.new.p in
-    let e = c.in-Ok.ensures in
     let x = c.publish_right-answer.ensures in
-    let all_b = g.met.L.Links.allowed d c.publish_right-answer.new.p x.pass in
-    let agent = ready_agent n 1 c.args.roots.0 s a c.in-Ok.part e.ready in
-    let own = inl (c.requires.roots.0 ∙ ap (λ (i : ℕ). 1 + 2 * i) (sym agent)) in
-    let f = side_answered n 2 c.args.turns _ _ a b c.publish_right-answer.result c.args.roots.0 c.in-Ok.part own all_b x.answered
-    (ready_held n 1 c.args.roots.0 s a c.in-Ok.part c.requires.slots.0 e.ready) in
-    record {
-      pass = x.pass;
-      there = c.requires.there.0;
-      staging = f.0;
-      held = f.1;
-      no_fresh = answers_fresh n 2 c.args.turns _ _ a b c.publish_right-answer.result x.answered;
-    }
+    let (own, held, fresh) = ready_answered (g.L.Links.numbers d) 1 c.args.roots.0 2 c.args.turns _ _ (g.L.Links.seat d c.args.p.now)
+    (g.L.Links.seat d c.ready.new.p) (g.L.Links.seat d c.publish_right-answer.new.p) c.in-Ok.part c.publish_right-answer.result c.requires.slots.0 (inl c.requires.roots.0)
+    c.in-Ok.ensures.ready (g.met.L.Links.allowed d c.publish_right-answer.new.p x.pass) x.answered in
+    record { pass = x.pass; there = c.requires.there.0; staging = own; held = held; no_fresh = fresh }
 
 pub returns-in-Err-clause-answered : goal.returns-in-Err-clause-answered
 returns-in-Err-clause-answered g c =
@@ -73,34 +60,28 @@ returns-in-Err-clause-no_node g c = λ is. err_of _ c.in-Err.is c.ready.ensures.
 pub returns-clause-answered : goal.returns-clause-answered
 returns-clause-answered g c =
     let d = c.args.links.now in
+    let e = c.in-Ok.ensures in
     let n = g.L.Links.numbers d in
     let s = g.L.Links.seat d c.args.p.now in
-    let a = g.L.Links.seat d c.ready.new.p in
-    let b = g.L.Links.seat d c.publish_right-answer.new.p in
     let t = g.L.Links.seat d c.let_go.new.p in
-    let e = c.in-Ok.ensures in
     let r = c.publish_right-answer.result in
-    let joined = answers_join n 1 c.args.roots.0 2 c.args.turns (given_of c.in-Ok.part) c.args.right.0 s a b t c.in-Ok.part r c.requires.slots.0
+    let joined = answers_join n 1 c.args.roots.0 2 c.args.turns (given_of c.in-Ok.part) c.args.right.0 s (g.L.Links.seat d c.ready.new.p) (g.L.Links.seat d c.publish_right-answer.new.p) t c.in-Ok.part r c.requires.slots.0
     (inl c.requires.roots.0) c.requires.null.0 c.requires.no_fresh e.ready c.publish_right-answer.ensures.answered c.let_go.ensures.gone
     (g.met.L.Links.allowed d c.ready.new.p e.pass) (g.met.L.Links.allowed d c.let_go.new.p c.let_go.ensures.pass) in
     subst (λ (o : Option ℕ). PublishAnswers n 3 c.args.turns o c.args.right.0 s r t) e.given joined
 
 pub returns-clause-no_node : goal.returns-clause-no_node
-returns-clause-no_node g c =
+returns-clause-no_node g c = λ is.
     let d = c.args.links.now in
-    let s = g.L.Links.seat d c.args.p.now in
-    let a = g.L.Links.seat d c.ready.new.p in
-    λ is. within_more s.agent a.agent (g.L.Links.journal c.args.p.now) _ _ _ (λ who (e : Unit {0}) j. g.L.Links.lacking d who j)
-    (λ who e j more from to. g.met.L.Links.lacking_stays d who j more from to) tt
-    (ready_agent (g.L.Links.numbers d) 1 c.args.roots.0 s a c.in-Ok.part c.in-Ok.ensures.ready) c.in-Ok.ensures.later c.let_go.ensures.later
-    (c.publish_right-answer.ensures.no_node is)
+    let agent = ready_agent (g.L.Links.numbers d) 1 c.args.roots.0 (g.L.Links.seat d c.args.p.now) (g.L.Links.seat d c.ready.new.p) c.in-Ok.part
+    c.in-Ok.ensures.ready in
+    within_call g.L.Links d c.args.p.now c.ready.new.p c.publish_right-answer.new.p c.let_go.new.p (g.L.Links.lacking d) (g.met.L.Links.lacking_stays d) agent c.in-Ok.ensures.later
+    c.let_go.ensures.later (c.publish_right-answer.ensures.no_node is)
 
 pub returns-clause-worn : goal.returns-clause-worn
-returns-clause-worn g c =
+returns-clause-worn g c = λ why is.
     let d = c.args.links.now in
-    let s = g.L.Links.seat d c.args.p.now in
-    let a = g.L.Links.seat d c.ready.new.p in
-    λ why is. within_more s.agent a.agent (g.L.Links.journal c.args.p.now) _ _ _ (λ who e. g.L.Links.worn d who e)
-    (λ who e j more from to. g.met.L.Links.worn_stays d who e j more from to) why
-    (ready_agent (g.L.Links.numbers d) 1 c.args.roots.0 s a c.in-Ok.part c.in-Ok.ensures.ready) c.in-Ok.ensures.later c.let_go.ensures.later
-    (c.publish_right-answer.ensures.worn why is)
+    let agent = ready_agent (g.L.Links.numbers d) 1 c.args.roots.0 (g.L.Links.seat d c.args.p.now) (g.L.Links.seat d c.ready.new.p) c.in-Ok.part
+    c.in-Ok.ensures.ready in
+    within_call g.L.Links d c.args.p.now c.ready.new.p c.publish_right-answer.new.p c.let_go.new.p (λ who. g.L.Links.worn d who why) (λ who. g.met.L.Links.worn_stays d who why)
+    agent c.in-Ok.ensures.later c.let_go.ensures.later (c.publish_right-answer.ensures.worn why is)

@@ -3,39 +3,33 @@ use Rattle.std.proofs.Common.{arith, inl, inr, refl, subst, sym}
 use Rattle.orc_heap.specs.Slots.{Holds, Slots}
 use Rattle.orc_cell.specs.Publishes.{given_of}
 use Rattle.orc_cell.proofs.Answering.{pair_done, pair_fresh, pair_lacking, pair_over, pair_spent, side_given, slot_given, spent_same, given_slots}
-use Rattle.orc_cell.proofs.Staging.{err_of, err_within, within_more}
+use Rattle.orc_cell.proofs.Staging.{err_of, err_within, within_call}
 use Rattle.orc_cell.proofs.with_pair.publish_pair.Goals as goal
 
 pub publish_given-turn-requires : goal.publish_given-turn-requires
 publish_given-turn-requires g c =
-    let d = c.args.links.now in
-    let n = g.L.Links.numbers d in
-    let s = g.L.Links.seat d c.args.p.now in
-    let a = g.L.Links.seat d c.give.new.p in
     let e = c.in-Ok.ensures in
-    let all = g.met.L.Links.allowed d c.give.new.p e.pass in
+    let all = g.met.L.Links.allowed c.args.links.now c.give.new.p e.pass in
     let free = c.requires.slots.0 in
     record {
       pass = e.pass;
       made = c.requires.made;
-      fresh = pair_fresh n s a c.in-Ok.pair free e.given all;
-      left = side_given n s a c.in-Ok.pair free e.given all 1 c.args.left.now (λ i. inl refl) c.requires.left;
-      right = side_given n s a c.in-Ok.pair free e.given all 2 c.args.right.now (λ i. inr refl) c.requires.right;
+      fresh = pair_fresh _ _ _ _ free e.given all;
+      left = side_given _ _ _ _ free e.given all 1 c.args.left.now (λ i. inl refl) c.requires.left;
+      right = side_given _ _ _ _ free e.given all 2 c.args.right.now (λ i. inr refl) c.requires.right;
       slots = (
-        slot_given n s a c.in-Ok.pair free e.given all 4 (λ k. omega (arith, k)) c.requires.slots.1,
-        slot_given n s a c.in-Ok.pair free e.given all 5 (λ k. omega (arith, k)) c.requires.slots.2,
+        slot_given _ _ _ _ free e.given all 4 (λ k. omega (arith, k)) c.requires.slots.1,
+        slot_given _ _ _ _ free e.given all 5 (λ k. omega (arith, k)) c.requires.slots.2,
       );
     }
 
 pub release-requires-clause-held : goal.release-requires-clause-held
 release-requires-clause-held g c =
     let d = c.args.links.now in
-    let n = g.L.Links.numbers d in
-    let s = g.L.Links.seat d c.args.p.now in
-    let a = g.L.Links.seat d c.give.new.p in
     let e = c.in-Ok.ensures in
-    let f = pair_fresh n s a c.in-Ok.pair c.requires.slots.0 e.given (g.met.L.Links.allowed d c.give.new.p e.pass) in
-    subst (λ (z : Slots). Holds z c.in-Ok.pair) (sym (given_slots n _ _ _ _ a _ c.publish_given-turn.result c.publish_given-turn.ensures.published)) f.held
+    let f = pair_fresh _ _ _ _ c.requires.slots.0 e.given (g.met.L.Links.allowed d c.give.new.p e.pass) in
+    let same = given_slots (g.L.Links.numbers d) _ _ _ _ (g.L.Links.seat d c.give.new.p) _ c.publish_given-turn.result c.publish_given-turn.ensures.published in
+    subst (λ (z : Slots). Holds z c.in-Ok.pair) (sym same) f.held
 
 pub returns-in-Err-clause-answered : goal.returns-in-Err-clause-answered
 returns-in-Err-clause-answered g c =
@@ -55,32 +49,26 @@ pub returns-in-Published-clause-answered : goal.returns-in-Published-clause-answ
 returns-in-Published-clause-answered g c =
     let d = c.args.links.now in
     let e = c.in-Ok.ensures in
-    pair_done (g.L.Links.numbers d) (g.L.Links.seat d c.args.p.now) (g.L.Links.seat d c.give.new.p) c.in-Ok.pair c.requires.slots.0 e.given
-    (g.met.L.Links.allowed d c.give.new.p e.pass) (g.L.Links.seat d c.publish_given-turn.new.p) (g.L.Links.seat d c.release.new.p) c.release.ensures.released
-    (g.met.L.Links.allowed d c.release.new.p c.release.ensures.pass) (given_of c.args.left.now) (given_of c.args.right.now) c.in-Published.x c.in-Published.y
-    c.in-Published.ensures.published
+    pair_done _ _ _ _ c.requires.slots.0 e.given (g.met.L.Links.allowed d c.give.new.p e.pass) _ _ c.release.ensures.released
+    (g.met.L.Links.allowed d c.release.new.p c.release.ensures.pass) (given_of c.args.left.now) (given_of c.args.right.now) c.in-Published.x
+    c.in-Published.y c.in-Published.ensures.published
 
 pub returns-in-Over-clause-answered : goal.returns-in-Over-clause-answered
 returns-in-Over-clause-answered g c =
     let d = c.args.links.now in
     let e = c.in-Ok.ensures in
-    pair_over (g.L.Links.numbers d) (g.L.Links.seat d c.args.p.now) (g.L.Links.seat d c.give.new.p) c.in-Ok.pair c.requires.slots.0 e.given
-    (g.met.L.Links.allowed d c.give.new.p e.pass) (g.L.Links.seat d c.publish_given-turn.new.p) (g.L.Links.seat d c.release.new.p) c.release.ensures.released
+    pair_over _ _ _ _ c.requires.slots.0 e.given (g.met.L.Links.allowed d c.give.new.p e.pass) _ _ c.release.ensures.released
     (g.met.L.Links.allowed d c.release.new.p c.release.ensures.pass) c.args.turns c.in-Over.ensures.published
 
 pub returns-in-Spent-clause-answered : goal.returns-in-Spent-clause-answered
 returns-in-Spent-clause-answered g c =
     let d = c.args.links.now in
     let e = c.in-Ok.ensures in
-    pair_spent (g.L.Links.numbers d) (g.L.Links.seat d c.args.p.now) (g.L.Links.seat d c.give.new.p) c.in-Ok.pair c.requires.slots.0 e.given
-    (g.met.L.Links.allowed d c.give.new.p e.pass) (g.L.Links.seat d c.publish_given-turn.new.p) (g.L.Links.seat d c.release.new.p) c.release.ensures.released
+    pair_spent _ _ _ _ c.requires.slots.0 e.given (g.met.L.Links.allowed d c.give.new.p e.pass) _ _ c.release.ensures.released
     (g.met.L.Links.allowed d c.release.new.p c.release.ensures.pass) c.in-Spent.ensures.published
 
 pub returns-in-Spent-clause-worn : goal.returns-in-Spent-clause-worn
-returns-in-Spent-clause-worn g c =
+returns-in-Spent-clause-worn g c = λ why is.
     let d = c.args.links.now in
-    let s = g.L.Links.seat d c.args.p.now in
-    let a = g.L.Links.seat d c.give.new.p in
-    λ why is. within_more s.agent a.agent (g.L.Links.journal c.args.p.now) _ _ _ (λ who e. g.L.Links.worn d who e)
-    (λ who e j more from to. g.met.L.Links.worn_stays d who e j more from to) why c.in-Ok.ensures.given.puts.agent c.in-Ok.ensures.later
-    c.release.ensures.later (c.publish_given-turn.ensures.worn why (spent_same c.in-Spent.is is))
+    within_call g.L.Links d c.args.p.now c.give.new.p c.publish_given-turn.new.p c.release.new.p (λ who. g.L.Links.worn d who why) (λ who. g.met.L.Links.worn_stays d who why)
+    c.in-Ok.ensures.given.puts.agent c.in-Ok.ensures.later c.release.ensures.later (c.publish_given-turn.ensures.worn why (spent_same c.in-Spent.is is))

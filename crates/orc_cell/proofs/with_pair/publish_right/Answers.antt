@@ -2,8 +2,8 @@
 use Rattle.std.proofs.Common.{Option, ap, arith, inl, inr, refl, subst, sym, ℕ, ◌*◌, ◌+◌, ◌∙◌}
 use Rattle.orc_cell.specs.Answers.{PublishAnswers}
 use Rattle.orc_cell.specs.Publishes.{SideHeld, given_of}
-use Rattle.orc_cell.proofs.Answering.{answers_fresh, answers_join, pair_lacking, ready_agent, ready_fresh, ready_held, ready_other, ready_slot, side_answered}
-use Rattle.orc_cell.proofs.Staging.{err_of, within_more}
+use Rattle.orc_cell.proofs.Answering.{answers_join, pair_lacking, ready_agent, ready_fresh, ready_held, ready_other, ready_slot, ready_answered}
+use Rattle.orc_cell.proofs.Staging.{err_of, within_call}
 use Rattle.orc_cell.proofs.with_pair.publish_right.Goals as goal
 
 pub ready-requires-clause-staging : goal.ready-requires-clause-staging
@@ -12,12 +12,12 @@ ready-requires-clause-staging g c = inr c.requires.root
 pub publish_pair-answer-requires : goal.publish_pair-answer-requires
 publish_pair-answer-requires g c =
     let d = c.args.links.now in
-    let n = g.L.Links.numbers d in
-    let s = g.L.Links.seat d c.args.p.now in
-    let a = g.L.Links.seat d c.ready.new.p in
     let e = c.in-Ok.ensures in
     let all = g.met.L.Links.allowed d c.ready.new.p e.pass in
     let free = c.requires.slots.0 in
+    let n = g.L.Links.numbers d in
+    let s = g.L.Links.seat d c.args.p.now in
+    let a = g.L.Links.seat d c.ready.new.p in
     let agent = ready_agent n 2 c.args.root s a c.in-Ok.part e.ready in
     record {
       pass = e.pass;
@@ -38,24 +38,11 @@ publish_pair-answer-requires g c =
 pub let_go-requires : goal.let_go-requires
 let_go-requires g c =
     let d = c.args.links.now in
-    let n = g.L.Links.numbers d in
-    let s = g.L.Links.seat d c.args.p.now in
-    let a = g.L.Links.seat d c.ready.new.p in
-    let b = g.L.Links.seat d c.publish_pair-answer.new.p in
-    let e = c.in-Ok.ensures in
     let x = c.publish_pair-answer.ensures in
-    let all_b = g.met.L.Links.allowed d c.publish_pair-answer.new.p x.pass in
-    let agent = ready_agent n 2 c.args.root s a c.in-Ok.part e.ready in
-    let own = inr (c.requires.root ∙ ap (λ (i : ℕ). 2 + 2 * i) (sym agent)) in
-    let f = side_answered n 1 c.args.turns _ _ a b c.publish_pair-answer.result c.args.root c.in-Ok.part own all_b x.answered
-    (ready_held n 2 c.args.root s a c.in-Ok.part c.requires.slots.0 e.ready) in
-    record {
-      pass = x.pass;
-      there = c.requires.there;
-      staging = f.0;
-      held = f.1;
-      no_fresh = answers_fresh n 1 c.args.turns _ _ a b c.publish_pair-answer.result x.answered;
-    }
+    let (own, held, fresh) = ready_answered (g.L.Links.numbers d) 2 c.args.root 1 c.args.turns _ _ (g.L.Links.seat d c.args.p.now)
+    (g.L.Links.seat d c.ready.new.p) (g.L.Links.seat d c.publish_pair-answer.new.p) c.in-Ok.part c.publish_pair-answer.result c.requires.slots.0 (inr c.requires.root)
+    c.in-Ok.ensures.ready (g.met.L.Links.allowed d c.publish_pair-answer.new.p x.pass) x.answered in
+    record { pass = x.pass; there = c.requires.there; staging = own; held = held; no_fresh = fresh }
 
 pub returns-in-Err-clause-answered : goal.returns-in-Err-clause-answered
 returns-in-Err-clause-answered g c =
@@ -69,34 +56,28 @@ returns-in-Err-clause-no_node g c = λ is. err_of _ c.in-Err.is c.ready.ensures.
 pub returns-clause-answered : goal.returns-clause-answered
 returns-clause-answered g c =
     let d = c.args.links.now in
+    let e = c.in-Ok.ensures in
     let n = g.L.Links.numbers d in
     let s = g.L.Links.seat d c.args.p.now in
-    let a = g.L.Links.seat d c.ready.new.p in
-    let b = g.L.Links.seat d c.publish_pair-answer.new.p in
     let t = g.L.Links.seat d c.let_go.new.p in
-    let e = c.in-Ok.ensures in
     let r = c.publish_pair-answer.result in
-    let joined = answers_join n 2 c.args.root 1 c.args.turns (given_of c.args.left.now) (given_of c.in-Ok.part) s a b t c.in-Ok.part r c.requires.slots.0
+    let joined = answers_join n 2 c.args.root 1 c.args.turns (given_of c.args.left.now) (given_of c.in-Ok.part) s (g.L.Links.seat d c.ready.new.p) (g.L.Links.seat d c.publish_pair-answer.new.p) t c.in-Ok.part r c.requires.slots.0
     (inr c.requires.root) c.requires.null c.requires.no_fresh e.ready c.publish_pair-answer.ensures.answered c.let_go.ensures.gone
     (g.met.L.Links.allowed d c.ready.new.p e.pass) (g.met.L.Links.allowed d c.let_go.new.p c.let_go.ensures.pass) in
     subst (λ (o : Option ℕ). PublishAnswers n 2 c.args.turns (given_of c.args.left.now) o s r t) e.given joined
 
 pub returns-clause-no_node : goal.returns-clause-no_node
-returns-clause-no_node g c =
+returns-clause-no_node g c = λ is.
     let d = c.args.links.now in
-    let s = g.L.Links.seat d c.args.p.now in
-    let a = g.L.Links.seat d c.ready.new.p in
-    λ is. within_more s.agent a.agent (g.L.Links.journal c.args.p.now) _ _ _ (λ who (e : Unit {0}) j. g.L.Links.lacking d who j)
-    (λ who e j more from to. g.met.L.Links.lacking_stays d who j more from to) tt
-    (ready_agent (g.L.Links.numbers d) 2 c.args.root s a c.in-Ok.part c.in-Ok.ensures.ready) c.in-Ok.ensures.later c.let_go.ensures.later
-    (c.publish_pair-answer.ensures.no_node is)
+    let agent = ready_agent (g.L.Links.numbers d) 2 c.args.root (g.L.Links.seat d c.args.p.now) (g.L.Links.seat d c.ready.new.p) c.in-Ok.part
+    c.in-Ok.ensures.ready in
+    within_call g.L.Links d c.args.p.now c.ready.new.p c.publish_pair-answer.new.p c.let_go.new.p (g.L.Links.lacking d) (g.met.L.Links.lacking_stays d) agent c.in-Ok.ensures.later
+    c.let_go.ensures.later (c.publish_pair-answer.ensures.no_node is)
 
 pub returns-clause-worn : goal.returns-clause-worn
-returns-clause-worn g c =
+returns-clause-worn g c = λ why is.
     let d = c.args.links.now in
-    let s = g.L.Links.seat d c.args.p.now in
-    let a = g.L.Links.seat d c.ready.new.p in
-    λ why is. within_more s.agent a.agent (g.L.Links.journal c.args.p.now) _ _ _ (λ who e. g.L.Links.worn d who e)
-    (λ who e j more from to. g.met.L.Links.worn_stays d who e j more from to) why
-    (ready_agent (g.L.Links.numbers d) 2 c.args.root s a c.in-Ok.part c.in-Ok.ensures.ready) c.in-Ok.ensures.later c.let_go.ensures.later
-    (c.publish_pair-answer.ensures.worn why is)
+    let agent = ready_agent (g.L.Links.numbers d) 2 c.args.root (g.L.Links.seat d c.args.p.now) (g.L.Links.seat d c.ready.new.p) c.in-Ok.part
+    c.in-Ok.ensures.ready in
+    within_call g.L.Links d c.args.p.now c.ready.new.p c.publish_pair-answer.new.p c.let_go.new.p (λ who. g.L.Links.worn d who why) (λ who. g.met.L.Links.worn_stays d who why)
+    agent c.in-Ok.ensures.later c.let_go.ensures.later (c.publish_pair-answer.ensures.worn why is)

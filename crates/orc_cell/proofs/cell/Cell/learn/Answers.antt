@@ -6,8 +6,11 @@ use Rattle.orc_heap.specs.Journals.{run_heap}
 use Rattle.orc_heap.specs.declared.events.Event.{Event}
 use Rattle.orc_heap.specs.declared.events.Place.TheVariants.{Root}
 use Rattle.orc_pairs_rule.specs.declared.pairs.PairsNote.{PairsNote}
-use Rattle.orc_pairs_rule.specs.PairsDiscipline.{IsStaging}
-use Rattle.orc_cell.proofs.Learned.{learns, staging_either}
+use Rattle.orc_heap.proofs.InJournal.{learned_entries}
+use Rattle.orc_pairs_rule.proofs.OwnEntries.{entries_own}
+use Rattle.orc_pairs_rule.specs.CellHistory.{agent_of_entry}
+use Rattle.orc_pairs_rule.specs.PairsDiscipline.{IsStaging, PairsMay, entries_in}
+use Rattle.orc_cell.proofs.Learned.{staging_either}
 use Rattle.orc_cell.proofs.cell.Cell.learn.Goals as goal
 
 pub learn-requires : goal.learn-requires
@@ -17,19 +20,14 @@ pub returns : goal.returns
 returns g c =
     let d = c.args.self.now.links in
     let n = g.L.Links.numbers d in
-    let p1 = c.args.into.now in
-    let p2 = c.args.from.now in
-    let q1 = c.learn.new.into in
-    let q2 = c.learn.new.from in
-    let s1 = g.L.Links.seat d p1 in
-    let s2 = g.L.Links.seat d p2 in
-    let t1 = g.L.Links.seat d q1 in
-    let t2 = g.L.Links.seat d q2 in
+    let s1 = g.L.Links.seat d c.args.into.now in
+    let s2 = g.L.Links.seat d c.args.from.now in
+    let t1 = g.L.Links.seat d c.learn.new.into in
     let e = c.learn.ensures in
     let l = e.learned in
     let one = c.requires.usable.0 in
     let two = c.requires.usable.1 in
-    let all = g.met.L.Links.allowed d q1 e.passes.0 in
+    let all = g.met.L.Links.allowed d c.learn.new.into e.passes.0 in
     let first : IsPrefix s1.seen t1.seen ⊎ (t1.seen ≡ s1.seen) = elim l.longer_list.of_both [
       | inl b ↦ inl (subst (λ z. IsPrefix s1.seen z) (sym b.1) b.0)
       | inr b ↦ inr b.1
@@ -57,7 +55,6 @@ returns g c =
         },
       );
       agents = l.agents;
-      learned = learns n (g.L.Links.events d) s1.agent s2.agent s1 s2 t1 (g.L.Links.journal p1) (g.L.Links.journal p2) (g.L.Links.journal q1)
-          (g.L.Links.journal q2) l.one_journal l.longer.of_both (g.met.L.Links.allowed d p1 one.pass) (g.met.L.Links.allowed d p2 two.pass) all
-          (g.met.L.Links.seen_is d p1 one.pass) (g.met.L.Links.seen_is d p2 two.pass) (g.met.L.Links.seen_is d q1 e.passes.0) l.events.0 l.events.1;
+      learned = learned_entries g.L.Links entries_in agent_of_entry PairsMay entries_own d _ _ _ _ l (g.met.L.Links.seen_is d) (g.met.L.Links.allowed d)
+          one.pass two.pass e.passes.0;
     }

@@ -1,13 +1,13 @@
 -- What the call did, and the settling after it.
-use Rattle.std.proofs.Common.{[], ap, arith, inl, inr, subst, sym, ℕ, ◌*◌, ◌+◌, ◌∙◌}
+use Rattle.std.proofs.Common.{[], ap, arith, inl, inr, ℕ, ◌*◌, ◌+◌, ◌∙◌}
 use Rattle.orc_heap.proofs.Calls.{Puts-trans}
-use Rattle.orc_heap.proofs.Pieces.{goes_on}
-use Rattle.orc_heap.proofs.Steps.{alone_later}
-use Rattle.orc_history.specs.Parts.{IsAlone}
-use Rattle.orc_cell.proofs.Answering.{any_answered}
-use Rattle.orc_cell.proofs.Journals.{call_seen, gave_at_most, no_event}
 use Rattle.orc_heap.proofs.Parting.{part_goes_on}
-use Rattle.orc_cell.proofs.Settled.{idle_after, publish_again, publish_err, publish_ok, publish_settled, staging_after}
+use Rattle.orc_heap.proofs.Pieces.{goes_on}
+use Rattle.orc_heap.proofs.InJournal.{call_seen, settling_alone}
+use Rattle.orc_pairs_rule.specs.PairsDiscipline.{PairsMay}
+use Rattle.orc_cell.proofs.Answering.{any_answered}
+use Rattle.orc_cell.proofs.Journals.{gave_at_most, no_event}
+use Rattle.orc_cell.proofs.Settled.{idle_after, publish_again, publish_ends, publish_err, publish_ok, staging_after}
 use Rattle.orc_cell.proofs.cell.Cell.publish.Goals as goal
 
 pub staging_roots-roots-requires : goal.staging_roots-roots-requires
@@ -39,20 +39,14 @@ publish_parts-answer-requires g c =
 pub settle-requires : goal.settle-requires
 settle-requires g c =
     let d = c.args.self.now.links in
-    let n = g.L.Links.numbers d in
-    let s = g.L.Links.seat d c.args.p.now in
-    let t = g.L.Links.seat d c.publish_parts-answer.new.p in
     let done = c.publish_parts-answer.ensures in
-    let any = any_answered n 3 c.args.turns c.args.left c.args.right s t c.publish_parts-answer.result done.answered in
-    record { pass = done.pass; idle = idle_after n 3 s t any.0 c.requires.usable.idle any.1 }
+    let any = any_answered (g.L.Links.numbers d) 3 c.args.turns c.args.left c.args.right (g.L.Links.seat d c.args.p.now)
+    (g.L.Links.seat d c.publish_parts-answer.new.p) c.publish_parts-answer.result done.answered in
+    record { pass = done.pass; idle = idle_after c.requires.usable.idle any.1 }
 
 pub returns : goal.returns
 returns g c =
     let d = c.args.self.now.links in
-    let n = g.L.Links.numbers d in
-    let s = g.L.Links.seat d c.args.p.now in
-    let t = g.L.Links.seat d c.publish_parts-answer.new.p in
-    let u = g.L.Links.seat d c.settle.new.p in
     let left = c.args.left in
     let right = c.args.right in
     let turns = c.args.turns in
@@ -60,34 +54,26 @@ returns g c =
     let done = c.publish_parts-answer.ensures in
     let settle = c.settle.ensures in
     let usable = c.requires.usable in
-    let x = publish_settled n 3 turns left right s t u r done.answered settle.nothing (g.met.L.Links.allowed d c.settle.new.p settle.pass) in
-    let any = any_answered n 3 turns left right s u r x in
-    let before = any_answered n 3 turns left right s t r done.answered in
-    let j = g.L.Links.journal c.args.p.now in
-    let k = g.L.Links.journal c.publish_parts-answer.new.p in
-    let m = g.L.Links.journal c.settle.new.p in
-    let grows = goes_on j k m done.later settle.later in
-    let seen = call_seen g.L.Links d c.args.p.now c.settle.new.p (g.met.L.Links.seen_is d) (g.met.L.Links.allowed d)
-    (g.met.L.Links.agents_below d c.settle.new.p settle.pass).1 (g.met.L.Links.steps_add d) usable.pass settle.pass grows in
-    let by = g.L.Links.agent_of in
+    let ends = publish_ends (g.L.Links.numbers d) 3 turns left right (g.L.Links.seat d c.args.p.now) _ _ settle.nothing
+    (g.met.L.Links.allowed d c.settle.new.p settle.pass) r done.answered in
+    let seen = call_seen PairsMay g.L.Links d c.args.p.now c.settle.new.p (g.met.L.Links.seen_is d) (g.met.L.Links.allowed d)
+    (g.met.L.Links.agents_below d c.settle.new.p settle.pass).1 (g.met.L.Links.steps_add d) usable.pass settle.pass
+    (goes_on _ _ _ done.later settle.later) in
+    let agent = (g.L.Links.seat d c.args.p.now).agent in
     record {
-      usable = record {
-        pass = settle.pass;
-        idle = idle_after n 3 s u any.0 usable.idle any.1;
-        staging = staging_after n 3 s u any.0 any.1 usable.staging;
-      };
-      agent = any.1.answered.stretch.puts.agent;
-      later = grows;
-      published = publish_ok seen 3 turns left right r x;
-      none = publish_err seen 3 turns left right r x;
+      usable = record { pass = settle.pass; idle = idle_after usable.idle ends.after; staging = staging_after ends.after usable.staging };
+      agent = ends.after.answered.piece.puts.agent;
+      later = goes_on _ _ _ done.later settle.later;
+      published = publish_ok seen 3 turns left right r ends.answers;
+      none = publish_err seen 3 turns left right r ends.answers;
       no_turns = done.no_turns;
-      no_event = λ zero. no_event s u (Puts-trans s t u [] [] (done.nothing zero).puts settle.nothing.puts);
-      again = publish_again seen 3 turns left right r x;
-      no_node = λ is. part_goes_on by s.agent (λ xs. g.L.Links.lacking d s.agent xs) j k m
-          (λ xs more from to. g.met.L.Links.lacking_stays d s.agent xs more from to) done.later settle.later (done.no_node is);
-      spent = λ why is. part_goes_on by s.agent (λ xs. g.L.Links.worn d s.agent why xs) j k m
-          (λ xs more from to. g.met.L.Links.worn_stays d s.agent why xs more from to) done.later settle.later (done.worn why is);
-      gives = gave_at_most 3 s u any.0 any.1.answered.stretch;
+      no_event = λ zero. no_event _ _ (Puts-trans _ _ _ [] [] (done.nothing zero).puts settle.nothing.puts);
+      again = publish_again seen 3 turns left right r ends.answers;
+      no_node = λ is. part_goes_on g.L.Links.agent_of agent (g.L.Links.lacking d agent) _ _ _ (g.met.L.Links.lacking_stays d agent) done.later settle.later
+          (done.no_node is);
+      spent = λ why is. part_goes_on g.L.Links.agent_of agent (g.L.Links.worn d agent why) _ _ _ (g.met.L.Links.worn_stays d agent why) done.later
+          settle.later (done.worn why is);
+      gives = gave_at_most ends.after.answered.piece;
       settled = λ alone. settle.settled
-          (subst (λ (x : ℕ). IsAlone by x k m) (sym before.1.answered.stretch.puts.agent) (alone_later by s.agent j k m done.later settle.later alone));
+          (settling_alone g.L.Links d c.args.p.now c.publish_parts-answer.new.p c.settle.new.p done.later settle.later ends.before alone);
     }

@@ -1,13 +1,13 @@
 -- What the call did, and the settling after it.
-use Rattle.std.proofs.Common.{[], ap, arith, subst, sym, ℕ}
+use Rattle.std.proofs.Common.{[], ap, arith}
 use Rattle.std.specs.List.{slice_get}
 use Rattle.orc_heap.proofs.Calls.{Puts-trans}
 use Rattle.orc_heap.proofs.Pieces.{goes_on}
-use Rattle.orc_heap.proofs.Steps.{alone_later}
+use Rattle.orc_heap.proofs.InJournal.{call_seen, settling_alone}
 use Rattle.orc_heap.specs.Slots.{Slots}
-use Rattle.orc_history.specs.Parts.{IsAlone}
-use Rattle.orc_cell.proofs.Journals.{call_seen, gave_at_most, no_event}
-use Rattle.orc_cell.proofs.Settled.{idle_after, read_again, read_answers, read_err, read_ok, read_settled, staging_after}
+use Rattle.orc_pairs_rule.specs.PairsDiscipline.{PairsMay}
+use Rattle.orc_cell.proofs.Journals.{gave_at_most, no_event}
+use Rattle.orc_cell.proofs.Settled.{idle_after, read_again, read_answers, read_ends, read_err, read_ok, staging_after}
 use Rattle.orc_cell.proofs.cell.Cell.read.Goals as goal
 
 pub read_turns-answer-requires : goal.read_turns-answer-requires
@@ -25,50 +25,35 @@ read_turns-answer-requires g c =
 pub settle-requires : goal.settle-requires
 settle-requires g c =
     let d = c.args.self.now.links in
-    let n = g.L.Links.numbers d in
-    let s = g.L.Links.seat d c.args.p.now in
-    let t = g.L.Links.seat d c.read_turns-answer.new.p in
     let done = c.read_turns-answer.ensures in
-    let any = read_answers n c.args.turns s t c.read_turns-answer.result done.read c.requires.usable.idle.fresh
-    (g.met.L.Links.allowed d c.read_turns-answer.new.p done.pass) in
-    record { pass = done.pass; idle = idle_after n 0 s t any.0 c.requires.usable.idle any.1 }
+    let idle = c.requires.usable.idle in
+    let any = read_answers (g.L.Links.numbers d) c.args.turns (g.L.Links.seat d c.args.p.now) (g.L.Links.seat d c.read_turns-answer.new.p)
+    c.read_turns-answer.result done.read idle.fresh (g.met.L.Links.allowed d c.read_turns-answer.new.p done.pass) in
+    record { pass = done.pass; idle = idle_after idle any.1 }
 
 pub returns : goal.returns
 returns g c =
     let d = c.args.self.now.links in
-    let n = g.L.Links.numbers d in
-    let s = g.L.Links.seat d c.args.p.now in
-    let t = g.L.Links.seat d c.read_turns-answer.new.p in
-    let u = g.L.Links.seat d c.settle.new.p in
     let turns = c.args.turns in
     let r = c.read_turns-answer.result in
     let done = c.read_turns-answer.ensures in
     let settle = c.settle.ensures in
     let usable = c.requires.usable in
-    let x = read_settled turns s t u r done.read settle.nothing in
-    let any = read_answers n turns s u r x usable.idle.fresh (g.met.L.Links.allowed d c.settle.new.p settle.pass) in
-    let before = read_answers n turns s t r done.read usable.idle.fresh (g.met.L.Links.allowed d c.read_turns-answer.new.p done.pass) in
-    let j = g.L.Links.journal c.args.p.now in
-    let k = g.L.Links.journal c.read_turns-answer.new.p in
-    let m = g.L.Links.journal c.settle.new.p in
-    let grows = goes_on j k m done.later settle.later in
-    let seen = call_seen g.L.Links d c.args.p.now c.settle.new.p (g.met.L.Links.seen_is d) (g.met.L.Links.allowed d)
-    (g.met.L.Links.agents_below d c.settle.new.p settle.pass).1 (g.met.L.Links.steps_add d) usable.pass settle.pass grows in
-    let by = g.L.Links.agent_of in
+    let ends = read_ends (g.L.Links.numbers d) turns (g.L.Links.seat d c.args.p.now) _ _ settle.nothing
+    (g.met.L.Links.allowed d c.settle.new.p settle.pass) usable.idle.fresh r done.read in
+    let seen = call_seen PairsMay g.L.Links d c.args.p.now c.settle.new.p (g.met.L.Links.seen_is d) (g.met.L.Links.allowed d)
+    (g.met.L.Links.agents_below d c.settle.new.p settle.pass).1 (g.met.L.Links.steps_add d) usable.pass settle.pass
+    (goes_on _ _ _ done.later settle.later) in
     record {
-      usable = record {
-        pass = settle.pass;
-        idle = idle_after n 0 s u any.0 usable.idle any.1;
-        staging = staging_after n 0 s u any.0 any.1 usable.staging;
-      };
-      agent = any.1.answered.stretch.puts.agent;
-      later = grows;
-      seen = read_ok seen turns r x;
-      none = read_err seen turns r x;
+      usable = record { pass = settle.pass; idle = idle_after usable.idle ends.after; staging = staging_after ends.after usable.staging };
+      agent = ends.after.answered.piece.puts.agent;
+      later = goes_on _ _ _ done.later settle.later;
+      seen = read_ok seen turns r ends.answers;
+      none = read_err seen turns r ends.answers;
       no_turns = done.no_turns;
-      no_event = λ zero. no_event s u (Puts-trans s t u [] [] (done.nothing zero).puts settle.nothing.puts);
-      again = read_again seen turns r x;
-      gives = gave_at_most 0 s u any.0 any.1.answered.stretch;
+      no_event = λ zero. no_event _ _ (Puts-trans _ _ _ [] [] (done.nothing zero).puts settle.nothing.puts);
+      again = read_again seen turns r ends.answers;
+      gives = gave_at_most ends.after.answered.piece;
       settled = λ alone. settle.settled
-          (subst (λ (x : ℕ). IsAlone by x k m) (sym before.1.answered.stretch.puts.agent) (alone_later by s.agent j k m done.later settle.later alone));
+          (settling_alone g.L.Links d c.args.p.now c.read_turns-answer.new.p c.settle.new.p done.later settle.later ends.before alone);
     }

@@ -1,24 +1,24 @@
 -- The part was given and staged; or no row could be given, and nothing was done.
 use Rattle.std.proofs.Common.{[], ◌∙◌}
+use Rattle.orc_heap.proofs.InJournal.{call_seen}
+use Rattle.orc_pairs_rule.specs.PairsDiscipline.{PairsMay}
 use Rattle.orc_cell.specs.Answers.{Answers}
-use Rattle.orc_cell.proofs.Journals.{call_adds, call_seen, gave_at_most}
+use Rattle.orc_cell.proofs.Journals.{call_adds, gave_at_most}
 use Rattle.orc_cell.proofs.Pieces.{finds_none}
 use Rattle.orc_cell.proofs.Settled.{idle_after, staging_after}
-use Rattle.orc_cell.proofs.Staging.{finds_stretch, found_answered}
+use Rattle.orc_cell.proofs.Staging.{finds_piece, found_answered}
 use Rattle.orc_cell.proofs.cell.Cell.stage_and_stop.Goals as goal
 
 pub returns-in-Ok-clause-none : goal.returns-in-Ok-clause-none
 returns-in-Ok-clause-none g c =
     let d = c.args.self.now.links in
     let e = c.in-Ok.ensures in
-    let seen = call_seen g.L.Links d c.args.p.now c.stage.new.p (g.met.L.Links.seen_is d) (g.met.L.Links.allowed d)
+    let seen = call_seen PairsMay g.L.Links d c.args.p.now c.stage.new.p (g.met.L.Links.seen_is d) (g.met.L.Links.allowed d)
     (g.met.L.Links.agents_below d c.stage.new.p e.pass).1 (g.met.L.Links.steps_add d) c.requires.usable.pass e.pass e.later in
-    call_adds seen e.staged.stretch.own [] e.staged.stretch.puts e.staged.stretch.entries_are
+    call_adds seen 1 [] e.staged.piece
 
 pub returns-in-Ok-clause-gives : goal.returns-in-Ok-clause-gives
-returns-in-Ok-clause-gives g c =
-    let d = c.args.self.now.links in
-    gave_at_most 1 (g.L.Links.seat d c.args.p.now) (g.L.Links.seat d c.stage.new.p) [] c.in-Ok.ensures.staged.stretch
+returns-in-Ok-clause-gives g c = gave_at_most c.in-Ok.ensures.staged.piece
 
 pub returns-in-Err-clause-usable : goal.returns-in-Err-clause-usable
 returns-in-Err-clause-usable g c =
@@ -32,19 +32,12 @@ returns-in-Err-clause-usable g c =
       answered = found_answered n s t [] (finds_none s t e.none) (g.met.L.Links.allowed d c.stage.new.p e.pass);
       fresh = e.none.fresh ∙ usable.idle.fresh;
     } in
-    λ is. record {
-      pass = e.pass;
-      idle = idle_after n 0 s t [] usable.idle answers;
-      staging = staging_after n 0 s t [] answers usable.staging;
-    }
+    λ is. record { pass = e.pass; idle = idle_after usable.idle answers; staging = staging_after answers usable.staging }
 
 pub returns-in-Err-clause-none : goal.returns-in-Err-clause-none
 returns-in-Err-clause-none g c =
     let d = c.args.self.now.links in
-    let s = g.L.Links.seat d c.args.p.now in
-    let t = g.L.Links.seat d c.stage.new.p in
     let e = c.in-Err.ensures in
-    let seen = call_seen g.L.Links d c.args.p.now c.stage.new.p (g.met.L.Links.seen_is d) (g.met.L.Links.allowed d)
+    let seen = call_seen PairsMay g.L.Links d c.args.p.now c.stage.new.p (g.met.L.Links.seen_is d) (g.met.L.Links.allowed d)
     (g.met.L.Links.agents_below d c.stage.new.p e.pass).1 (g.met.L.Links.steps_add d) c.requires.usable.pass e.pass e.later in
-    let x = finds_stretch s t [] (finds_none s t e.none).finds in
-    call_adds seen x.own [] x.puts x.entries_are
+    call_adds seen 0 [] (finds_piece _ _ [] (finds_none _ _ e.none).finds)
