@@ -1,23 +1,29 @@
 // The atomic steps of calls over the reclaiming domain with nothing around them: no records of agents, no answers. The words lie as in
 // the domain's table, and each call makes the loads and the locked steps that the domain makes where nobody disturbs it:
 //
-//   an enqueue                     11 loads, 13 locked steps
-//   a dequeue                      15 + 8 x agents loads, 14 locked steps: it frees the dummy, and scans all slots for it
-//   a search that visits n nodes   6 + 3 n loads, 4 + n locked steps
+//   an enqueue                             11 loads, 13 locked steps
+//   a dequeue                              15 + 8 x agents loads, 14 locked steps: it frees the dummy, and scans all slots for it
+//   a question, n nodes being visited      7 + 3 n loads, 4 + n locked steps
+//   an insert of an absent key             11 + 3 n loads, 14 + n locked steps
+//   a remove of a present key              11 + 3 n + 8 x agents loads, 15 + n locked steps: it frees the key's node
+//
+// An insert of a present key and a remove of an absent one make the steps of a question.
 //
 // Without the steps that save others, in which a handover word is exchanged without a look, a swing counts down behind slot 0, which
 // is taken in from right after and not once more at the call's end, and a slot is emptied before it names another row:
 //
-//   an enqueue                     8 loads, 18 locked steps
-//   a dequeue                      10 + 8 x agents loads, 20 locked steps
-//   a search that visits n nodes   2 + 3 n loads, 3 + 3 n locked steps
+//   an enqueue                             8 loads, 18 locked steps
+//   a dequeue                              10 + 8 x agents loads, 20 locked steps
+//   a question, n nodes being visited      3 + 3 n loads, 3 + 3 n locked steps
 //
-// model queue AGENTS CALLS: enqueues and dequeues in turn. model list KEYS CALLS: searches of a list of so many keys, each second
-// number up to twice as many. Prints calls a second. One thread works, which makes no choices: where a step comes out otherwise than
-// it does alone, the program aborts. With a fourth word all, without the steps that save others.
+// model queue AGENTS CALLS: enqueues and dequeues in turn. model list KEYS CALLS: calls of a list that begins with so many keys, each
+// second number up to twice as many; of a hundred calls 90 ask for a key, 5 insert one and 5 remove one, drawn as the stress program
+// draws them. Prints calls a second. One thread works, which makes no choices: where a step comes out otherwise than it does alone,
+// the program aborts. With a fourth word all, without the steps that save others.
 //
 // With a fourth word 2 or more so many threads work, each as an agent of its own, and make so many calls each. The queue is then the
-// whole algorithm, with the choices, the tries and the lists of retired rows that this takes, and AGENTS has to be no less.
+// whole algorithm, with the choices, the tries and the lists of retired rows that this takes, and AGENTS has to be no less. The list
+// is only asked.
 #include <atomic>
 #include <chrono>
 #include <cstdint>
@@ -36,26 +42,35 @@ constexpr Number RETIRED = 1 << 23;
 constexpr Number ONE_MORE = 16777217;
 constexpr Number ONE_LESS = 16777215;
 
+Number link_to(Number row) { return 2 * (row + 1); }
+
+Number row_of(Number link) { return link / 2 - 1; }
+
+// One compare_exchange, which succeeds here.
+void change(std::atomic<Number> &word, Number from, Number to) {
+  if (!word.compare_exchange_strong(from, to)) std::abort();
+}
+
 // The domain's words. SAVES: with the steps that save others.
 template <bool SAVES> struct Table {
   Number roots;
   Number agents;
   std::vector<std::atomic<Number>> words;
 
-  // the word of enrolments and each root have eight words each, and agents begin at the next multiple of eight behind the rows
+  // the word of enrolments, each root and each row have eight words each
   Table(Number roots, Number agents) : roots(roots), agents(agents), words(agents_at(roots) + 16 * agents) {
     for (Number row = 0; row < ROWS; row++) counter(row) = NEW_COUNTER;
   }
 
   static Number rows_at(Number roots) { return 8 * (1 + roots); }
-  static Number agents_at(Number roots) { return (rows_at(roots) + 5 * ROWS + 7) / 8 * 8; }
+  static Number agents_at(Number roots) { return rows_at(roots) + 8 * ROWS; }
 
   std::atomic<Number> &root(Number root) { return words[8 * (1 + root)]; }
-  std::atomic<Number> &gate(Number row) { return words[rows_at(roots) + 5 * row]; }
-  std::atomic<Number> &counter(Number row) { return words[rows_at(roots) + 5 * row + 1]; }
-  std::atomic<Number> &first(Number row) { return words[rows_at(roots) + 5 * row + 2]; }
-  std::atomic<Number> &second(Number row) { return words[rows_at(roots) + 5 * row + 3]; }
-  std::atomic<Number> &next(Number row) { return words[rows_at(roots) + 5 * row + 4]; }
+  std::atomic<Number> &gate(Number row) { return words[rows_at(roots) + 8 * row]; }
+  std::atomic<Number> &counter(Number row) { return words[rows_at(roots) + 8 * row + 1]; }
+  std::atomic<Number> &first(Number row) { return words[rows_at(roots) + 8 * row + 2]; }
+  std::atomic<Number> &second(Number row) { return words[rows_at(roots) + 8 * row + 3]; }
+  std::atomic<Number> &next(Number row) { return words[rows_at(roots) + 8 * row + 4]; }
   std::atomic<Number> &slot(Number agent, Number slot) { return words[agents_at(roots) + 16 * agent + slot]; }
   std::atomic<Number> &handover(Number agent, Number slot) { return words[agents_at(roots) + 16 * agent + 8 + slot]; }
 
@@ -85,16 +100,44 @@ template <bool SAVES> struct Table {
 
   // What each call ends with, as counts down under other slots' holds leave slot 0 alone.
   Number end_call(Number agent = 0) { return SAVES ? take_in(handover(agent, 0)) : 0; }
+
+  // Reads that a row may be linked.
+  void check(Number row) {
+    if (counter(row).load() >> 63) std::abort();
+  }
+
+  // Gives the first free row from this one on, with these values, in slot 1.
+  Number give(Number row, Number one, Number two) {
+    Number found;
+    while ((found = gate(row).load()) % 2) row = row + 1 == ROWS ? 0 : row + 1;
+    check(row);
+    change(gate(row), found, found + 3);
+    first(row).store(one);
+    second(row).store(two);
+    publish(1, row);
+    return row;
+  }
+
+  // Retires a row whose count came to 0.
+  void retire(Number row, Number count) { change(counter(row), count, count + RETIRED); }
+
+  // Frees a retired row, while all slots are empty.
+  void free(Number row) {
+    Number start = counter(row).load();
+    Number named = 0;
+    for (Number agent = 0; agent < agents; agent++)
+      for (Number at = 0; at < 8; at++) named |= slot(agent, at).load();
+    if (named || counter(row).load() != start) std::abort();
+    Number link = take_in(next(row));
+    if (link > 1) {
+      publish(0, row_of(link));
+      counter(row_of(link)).fetch_add(ONE_LESS);
+      if (unlock(0)) std::abort();
+    }
+    counter(row).fetch_sub(RETIRED);
+    gate(row).fetch_sub(1);
+  }
 };
-
-Number link_to(Number row) { return 2 * (row + 1); }
-
-Number row_of(Number link) { return link / 2 - 1; }
-
-// One compare_exchange, which succeeds here.
-void change(std::atomic<Number> &word, Number from, Number to) {
-  if (!word.compare_exchange_strong(from, to)) std::abort();
-}
 
 template <bool SAVES> struct Queue {
   Table<SAVES> table;
@@ -108,14 +151,8 @@ template <bool SAVES> struct Queue {
   }
 
   void enqueue(Number job) {
-    Number row = free_row;
+    Number row = table.give(free_row, job, 0);
     free_row = (row + 1) % ROWS;
-    Number gate = table.gate(row).load();
-    if (table.counter(row).load() >> 63) std::abort();
-    change(table.gate(row), gate, gate + 3);
-    table.first(row).store(job);
-    table.second(row).store(0);
-    table.publish(1, row);
 
     Number tail = table.root(1).load();
     Number last = row_of(tail);
@@ -123,11 +160,11 @@ template <bool SAVES> struct Queue {
     if (table.root(1).load() != tail || table.next(last).load() != 0) std::abort();
     table.second(row).store(table.second(last).load() + 1);
 
-    if (table.counter(row).load() >> 63) std::abort();
+    table.check(row);
     change(table.next(last), 0, link_to(row));
     table.counter(row).fetch_add(ONE_MORE);
 
-    if (table.counter(row).load() >> 63) std::abort();
+    table.check(row);
     change(table.root(1), tail, link_to(row));
     table.counter(row).fetch_add(ONE_MORE);
     table.count_down(last);
@@ -150,26 +187,17 @@ template <bool SAVES> struct Queue {
     Number job = table.first(row).load();
     if (table.second(row).load() == 0) std::abort();
 
-    if (table.counter(row).load() >> 63) std::abort();
+    table.check(row);
     change(table.root(0), head, link);
     table.counter(row).fetch_add(ONE_MORE);
     Number count = table.count_down(dummy);
-    change(table.counter(dummy), count, count + RETIRED);
+    table.retire(dummy, count);
     Number handed = table.counted_down();
     handed |= table.unlock(2);
     handed |= table.unlock(1);
     handed |= table.end_call();
-
-    Number start = table.counter(dummy).load();
-    for (Number agent = 0; agent < table.agents; agent++)
-      for (Number slot = 0; slot < 8; slot++) handed |= table.slot(agent, slot).load();
-    if (handed || table.counter(dummy).load() != start) std::abort();
-    if (table.take_in(table.next(dummy)) != link) std::abort();
-    table.publish(0, row);
-    table.counter(row).fetch_add(ONE_LESS);
-    if (table.unlock(0)) std::abort();
-    table.counter(dummy).fetch_sub(RETIRED);
-    table.gate(dummy).fetch_sub(1);
+    if (handed) std::abort();
+    table.free(dummy);
     return job;
   }
 };
@@ -356,12 +384,23 @@ struct SharedQueue {
   }
 };
 
+// What a search holds: the links to the node before the place of the key, to the node at it and to the one behind, each 0 where there
+// is none, and their slots.
+struct Spot {
+  Number left, at, next;
+  Number left_slot, at_slot, next_slot;
+  bool found;
+};
+
 template <bool SAVES> struct List {
   Table<SAVES> table;
+  Number free_row;
 
   // The greatest key lies in the first row.
-  List(Number keys, Number agents) : table(1, agents) {
+  List(Number keys, Number agents) : table(1, agents), free_row(keys) {
     for (Number row = 0; row < keys; row++) {
+      table.gate(row) = 3;
+      table.counter(row) = NEW_COUNTER + ONE_MORE;
       table.first(row) = 2 * (keys - 1 - row);
       table.next(row) = row ? link_to(row - 1) : 0;
     }
@@ -377,52 +416,124 @@ template <bool SAVES> struct List {
     return link;
   }
 
-  bool contains(Number wanted, Number agent = 0) {
-    Number left = 3, at = 1, behind = 2;
-    bool has_left = false, found = false;
-    Number link = look(table.root(0), at, agent);
-    Number handed = 0;
-    while (link) {
-      Number row = row_of(link);
+  void unlock(Number slot, Number agent) {
+    if (table.unlock(slot, agent)) std::abort();
+  }
+
+  Spot search(Number wanted, Number agent) {
+    Number left = 0, left_slot = 4, at_slot = 2, spare = 3;
+    Number at = look(table.root(0), at_slot, agent);
+    while (at) {
+      Number row = row_of(at);
       Number key = table.first(row).load();
-      // the slot of the left node moves on
-      bool moves = SAVES && has_left && key < wanted;
-      Number next = look(table.next(row), moves ? left : behind, agent);
       if (key >= wanted) {
-        found = key == wanted;
-        if (next) handed |= table.unlock(behind, agent);
-        handed |= table.unlock(at, agent);
+        Number next = look(table.next(row), spare, agent);
+        if (key == wanted) return {left, at, next, left_slot, at_slot, spare, true};
+        if (next) unlock(spare, agent);
         break;
       }
+      // the slot of the left node moves on
+      bool moves = SAVES && left;
+      Number next = look(table.next(row), moves ? left_slot : spare, agent);
       if (moves && next) {
-        std::swap(left, at);
-        link = next;
-        continue;
+        std::swap(left_slot, at_slot);
+      } else {
+        if (left) unlock(left_slot, agent);
+        Number empty = left_slot;
+        left_slot = at_slot;
+        at_slot = spare;
+        spare = empty;
       }
-      if (has_left) handed |= table.unlock(left, agent);
-      Number spare = left;
       left = at;
-      at = behind;
-      behind = spare;
-      has_left = true;
-      link = next;
+      at = next;
     }
-    if (has_left) handed |= table.unlock(left, agent);
-    handed |= table.end_call(agent);
-    if (handed) std::abort();
-    return found;
+    return {left, at, 0, left_slot, at_slot, spare, false};
+  }
+
+  std::atomic<Number> &place(const Spot &spot) { return spot.left ? table.next(row_of(spot.left)) : table.root(0); }
+
+  void let_go(const Spot &spot, Number agent) {
+    if (spot.left) unlock(spot.left_slot, agent);
+    if (spot.at) unlock(spot.at_slot, agent);
+    if (spot.next) unlock(spot.next_slot, agent);
+  }
+
+  void end_call(Number agent) {
+    if (table.end_call(agent)) std::abort();
+  }
+
+  // An answer that changes nothing: the link on which it rests is read once more.
+  bool answer(const Spot &spot, Number agent) {
+    if (spot.found ? table.next(row_of(spot.at)).load() != spot.next : place(spot).load() != spot.at) std::abort();
+    let_go(spot, agent);
+    end_call(agent);
+    return spot.found;
+  }
+
+  bool contains(Number wanted, Number agent = 0) { return answer(search(wanted, agent), agent); }
+
+  bool insert(Number key) {
+    Spot spot = search(key, 0);
+    if (spot.found) return !answer(spot, 0);
+    Number row = table.give(free_row, key, 0);
+    free_row = (row + 1) % ROWS;
+    if (spot.at) {
+      table.check(row_of(spot.at));
+      if (table.next(row).exchange(spot.at)) std::abort();
+      table.counter(row_of(spot.at)).fetch_add(ONE_MORE);
+    } else if (table.take_in(table.next(row))) {
+      std::abort();
+    }
+    table.check(row);
+    change(place(spot), spot.at, link_to(row));
+    table.counter(row).fetch_add(ONE_MORE);
+    if (spot.at) {
+      table.count_down(row_of(spot.at));
+      if (table.counted_down()) std::abort();
+    }
+    let_go(spot, 0);
+    unlock(1, 0);
+    end_call(0);
+    return true;
+  }
+
+  bool remove(Number key) {
+    Spot spot = search(key, 0);
+    if (!spot.found) return answer(spot, 0);
+    Number row = row_of(spot.at);
+    change(table.next(row), spot.next, spot.next + 1);
+    if (spot.next) table.check(row_of(spot.next));
+    change(place(spot), spot.at, spot.next);
+    if (spot.next) table.counter(row_of(spot.next)).fetch_add(ONE_MORE);
+    table.retire(row, table.count_down(row));
+    if (table.counted_down()) std::abort();
+    let_go(spot, 0);
+    end_call(0);
+    table.free(row);
+    return true;
   }
 };
 
-// Numbers that look drawn, as the program's.
+// Numbers that look drawn, as the stress program's are for the agent of this number.
 struct Draws {
-  Number state = 1;
+  Number state;
 
-  Number below(Number many) {
+  explicit Draws(Number agent) : state((Number(1) << 32) | agent) {}
+
+  Number draw() {
     state = state * 6364136223846793005u + 1442695040888963407u;
-    return (state >> 33) * many >> 31;
+    return state >> 33;
   }
+
+  Number below(Number many) { return draw() * many >> 31; }
 };
+
+// One call of a list, drawn as the stress program draws it.
+template <bool SAVES> bool make_call(List<SAVES> &list, Draws &draws, Number keys) {
+  Number kind = draws.draw() % 100;
+  Number key = draws.below(keys);
+  return kind < 90 ? list.contains(key) : kind < 95 ? list.insert(key) : list.remove(key);
+}
 
 // Lets so many threads do this at once, each by its number, and answers the seconds from the first begin to the last end.
 template <typename Work> double together(Number threads, Work work) {
@@ -454,9 +565,9 @@ template <bool SAVES> double run(const char *container, Number size, Number call
     }
   } else {
     List<SAVES> list(size, 1);
-    Draws draws;
+    Draws draws(0);
     begun = std::chrono::steady_clock::now();
-    for (Number call = 0; call < calls; call++) sum += list.contains(draws.below(2 * size));
+    for (Number call = 0; call < calls; call++) sum += make_call(list, draws, 2 * size);
   }
   return std::chrono::duration<double>(std::chrono::steady_clock::now() - begun).count();
 }
@@ -479,8 +590,7 @@ double run_shared(const char *container, Number size, Number calls, Number threa
   } else {
     List<true> list(size, threads);
     seconds = together(threads, [&](Number thread) {
-      Draws draws;
-      draws.state = thread + 1;
+      Draws draws(thread);
       Number mine = 0;
       for (Number call = 0; call < calls; call++) mine += list.contains(draws.below(2 * size), thread);
       all.fetch_add(mine);

@@ -83,6 +83,6 @@ for agents, threads in ((1, 1), (2, 2), (4, 1), (16, 1)):
     against('enqueue, dequeue', agents, threads, '11 + 13, %d + 14' % (15 + 8 * agents),
         '--container queue --calls %d' % (500000 // threads), 'queue %d %d' % (agents, 500000 // threads))
 for threads in (1, 2):
-    against('list of 128 keys', threads, threads, '6 + 3 n + 4 + n', '--container list --calls %d --keys 256' % (100000 // threads),
+    against('list of 128 keys', threads, threads, '7 + 3 n + 4 + n', '--container list --calls %d --keys 256' % (100000 // threads),
         'list 128 %d' % (100000 // threads))
 PY
