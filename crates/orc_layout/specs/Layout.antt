@@ -1,6 +1,6 @@
--- Where the words of a table that threads share lie: the word of enrolments, each root and each agent's words on cache lines of
--- their own, of eight words each, and the rows without gaps, so that two of them may share a line.
-use Rattle.std.specs.Prelude.{List, [], cond, nat_lt, replicate, ℕ, ◌*◌, ◌++◌, ◌+◌, ◌-◌, ◌/◌, ◌<◌, ◌∷◌, ◌≡◌}
+-- Where the words of a table that threads share lie: the word of enrolments, each root, each row and each agent's words on cache
+-- lines of their own, of eight words each.
+use Rattle.std.specs.Prelude.{List, [], cond, nat_lt, replicate, ℕ, ◌%◌, ◌*◌, ◌++◌, ◌+◌, ◌-◌, ◌/◌, ◌<◌, ◌∷◌, ◌≡◌}
 use Rattle.orc_layout.specs.declared.layout.Layout.{Layout}
 use Rattle.orc_words.specs.Bounds.{Bounds}
 use Rattle.orc_words.specs.Places.{places, words_of_rows}
@@ -9,19 +9,24 @@ use Rattle.orc_words.specs.Places.{places, words_of_rows}
 abbrev pub rows_at : Bounds → ℕ
 rows_at b = 8 * (1 + b.roots)
 
--- the first index of an agent: the next line behind the rows
+-- the first index of an agent: each row has a line of its own
 abbrev pub agents_at : Bounds → ℕ
-agents_at b = 8 * ((rows_at b + words_of_rows b b.rows + 7) / 8)
+agents_at b = rows_at b + 8 * b.rows
 
 -- both, as they are kept
 abbrev pub layout_of : Bounds → Layout
 layout_of b = record { first_row = rows_at b; first_agent = agents_at b }
 
--- the index of a place: eight words each up to the last root, then the rows without gaps, and then the agents without gaps
+-- how far the word of a row stands behind the first row's line, n words of rows being before it: eight for each row before
+-- its own, whose words stand together
+abbrev pub row_offset : Bounds → ℕ → ℕ
+row_offset b n = cond (nat_lt 1 b.links) (8 * (n / 6) + n % 6) (8 * (n / 5) + n % 5)
+
+-- the index of a place: eight words each up to the last row, and then the agents without gaps
 abbrev pub index : Bounds → ℕ → ℕ
 index b p =
     cond (nat_lt p (1 + b.roots)) (8 * p)
-    (cond (nat_lt p (1 + b.roots + words_of_rows b b.rows)) (rows_at b + (p - (1 + b.roots)))
+    (cond (nat_lt p (1 + b.roots + words_of_rows b b.rows)) (rows_at b + row_offset b (p - (1 + b.roots)))
     (agents_at b + (p - (1 + b.roots + words_of_rows b b.rows))))
 
 -- how many words the table has, with its gaps

@@ -3,7 +3,7 @@
 ghost use Rattle.std.specs.Prelude.{◌≡◌, ◌<◌, ◌≤◌, ◌*◌, ◌+◌, ◌%◌, ℕ};
 ghost use Rattle.orc_words.specs.Bounds.{Bounds, bounds_of};
 ghost use Rattle.orc_words.specs.Places.{IsWithin, place, places};
-ghost use Rattle.orc_words.specs.declared.place.Word.TheVariants.{Enrolled, Root, Slot};
+ghost use Rattle.orc_words.specs.declared.place.Word.TheVariants.{Enrolled, Gate, Root, Slot};
 ghost use Rattle.orc_layout.specs.Layout.{index, layout_of, table_length};
 
 use orc_words::{Shape, Word};
@@ -29,10 +29,9 @@ impl Layout {
         ensures { result ≡ layout_of (bounds_of shape.now) }
     {
         let first_row = LINE * (1 + shape.roots() as usize);
-        let end = first_row + shape.words_of_rows(shape.rows()) as usize;
         Layout {
             first_row,
-            first_agent: LINE * ((end + 7) / LINE),
+            first_agent: first_row + LINE * shape.rows() as usize,
         }
     }
 
@@ -47,12 +46,12 @@ impl Layout {
         match word {
             Word::Enrolled => 0,
             Word::Root(root) => LINE * (1 + root as usize),
-            Word::Gate(row) => self.first_row + shape.words_of_rows(row) as usize,
-            Word::Counter(row) => self.first_row + shape.words_of_rows(row) as usize + 1,
-            Word::First(row) => self.first_row + shape.words_of_rows(row) as usize + 2,
-            Word::Second(row) => self.first_row + shape.words_of_rows(row) as usize + 3,
-            Word::Next(row) => self.first_row + shape.words_of_rows(row) as usize + 4,
-            Word::Side(row) => self.first_row + shape.words_of_rows(row) as usize + 5,
+            Word::Gate(row) => self.first_row + LINE * row as usize,
+            Word::Counter(row) => self.first_row + LINE * row as usize + 1,
+            Word::First(row) => self.first_row + LINE * row as usize + 2,
+            Word::Second(row) => self.first_row + LINE * row as usize + 3,
+            Word::Next(row) => self.first_row + LINE * row as usize + 4,
+            Word::Side(row) => self.first_row + LINE * row as usize + 5,
             Word::Slot(agent, slot) => self.first_agent + 16 * agent as usize + slot as usize,
             Word::Handover(agent, slot) => {
                 self.first_agent + 16 * agent as usize + 8 + slot as usize
@@ -71,7 +70,13 @@ impl Layout {
         if place < first_row {
             LINE * place
         } else if place < first_agent {
-            self.first_row + (place - first_row)
+            let before = place - first_row;
+            let (row, word) = if shape.links() > 1 {
+                (before / 6, before % 6)
+            } else {
+                (before / 5, before % 5)
+            };
+            self.first_row + LINE * row + word
         } else {
             self.first_agent + (place - first_agent)
         }
@@ -79,11 +84,12 @@ impl Layout {
 }
 
 /// In a table of any size, different places have different indices, and each is one of the table's. The word of enrolments,
-/// each root and the first slot of each agent begin a line.
+/// each root, the gate of each row and the first slot of each agent begin a line.
 pub fn different_places_have_different_indices()
     ensures apart { (b : Bounds) (p q : ℕ) → index b p ≡ index b q → p ≡ q }
     ensures inside { (b : Bounds) (p : ℕ) → p < places b → index b p < table_length b }
     ensures enrolled { (b : Bounds) → index b (place b Enrolled) % 8 ≡ 0 }
     ensures roots { (b : Bounds) (i : ℕ) → i < b.roots → index b (place b (Root i)) % 8 ≡ 0 }
+    ensures rows { (b : Bounds) (r : ℕ) → r < b.rows → index b (place b (Gate r)) % 8 ≡ 0 }
     ensures agents { (b : Bounds) (a : ℕ) → a < b.agents → index b (place b (Slot a 0)) % 8 ≡ 0 }
 {}

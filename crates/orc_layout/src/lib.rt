@@ -1,5 +1,5 @@
-//! Where the words of a table that threads share lie: the word of enrolments, each root and each agent's words on cache lines of
-//! their own, of eight words each, and the rows without gaps.
+//! Where the words of a table that threads share lie: the word of enrolments, each root, each row and each agent's words on
+//! cache lines of their own, of eight words each.
 #![tactic(auto)]
 
 mod laid;
