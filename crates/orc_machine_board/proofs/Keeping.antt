@@ -11,7 +11,7 @@ use Rattle.orc_core.specs.declared.ops.Op.TheVariants.{Arm, Clear, CounterLoad, 
 use Rattle.orc_core.specs.declared.records.Agent.{Agent}
 use Rattle.orc_core.specs.declared.records.SlotUse.{SlotUse}
 use Rattle.orc_core.specs.declared.records.SlotUse.TheVariants.{Empty, Held, Published}
-use Rattle.orc_machine_board.specs.Kept.{Kept, kept_of}
+use Rattle.orc_machine_board.specs.Kept.{IsInUse, Kept, kept_of}
 use Rattle.orc_shared_words.specs.Operations.{returned_by}
 use Rattle.orc_words.specs.Packed.{link_word, named}
 use Rattle.orc_words.specs.declared.operation.Operation.TheVariants.{CompareExchange, Swap}
@@ -101,8 +101,15 @@ load_kept place slot d w = sym (step_kept (LinkLoad place slot) d w)
 pub published_kept : (k r q : ℕ) (d : Agent) (w : ℕ) → kept_of (record d { slots = slice_set d.slots k (Held q) }) ≡ kept_of (after (Publish k r) d w)
 published_kept k r q d w = ap (λ l. record (kept_of d) { empty = l }) (map-set is_empty d.slots k (Held q)) ∙ sym (step_kept (Publish k r) d w)
 
-pub moved_kept : (k r q : ℕ) (d : Agent) (w : ℕ) → kept_of (record d { slots = slice_set d.slots k (Held q) }) ≡ kept_of (after (MoveOn k r) d w)
-moved_kept k r q d w = ap (λ l. record (kept_of d) { empty = l }) (map-set is_empty d.slots k (Held q)) ∙ sym (step_kept (MoveOn k r) d w)
+-- a slot that names a row is kept so
+set_used : (slots : List SlotUse) (k : ℕ) → is_empty (slice_index_or slots k Empty) ≡ false → map is_empty slots ≡ slice_set (map is_empty slots) k false
+set_used [] k e = refl
+set_used (s ∷ slots) zero e = ap (λ b. b ∷ map is_empty slots) e
+set_used (s ∷ slots) (suc k) e = ap (λ l. is_empty s ∷ l) (set_used slots k e)
+
+-- a slot that moves on is kept as it was
+pub moved_kept : (k r : ℕ) (d : Agent) (w : ℕ) → is_empty (slot_of d k) ≡ false → kept_of d ≡ kept_of (after (MoveOn k r) d w)
+moved_kept k r d w e = ap (λ l. record (kept_of d) { empty = l }) (set_used d.slots k e) ∙ sym (step_kept (MoveOn k r) d w)
 
 pub armed_kept : (r q : ℕ) (d : Agent) (w : ℕ) → kept_of (record d { slots = slice_set d.slots 0 (Held q) }) ≡ kept_of (after (Arm r) d w)
 armed_kept r q d w = ap (λ l. record (kept_of d) { empty = l }) (map-set is_empty d.slots 0 (Held q)) ∙ sym (step_kept (Arm r) d w)
@@ -152,6 +159,19 @@ same_recordable (LinkStore q l n) d e h r = r
 same_recordable (SlotLook k) d e h r = subst (λ (q : Kept). ForSome q.scan (λ s. s.place < 2 ^ 31)) h r
 same_recordable op d e h r = tt
 
+-- whether a slot is empty
+empty_at : (slots : List SlotUse) (k : ℕ) → is_empty (slice_index_or slots k Empty) ≡ slice_index_or (map is_empty slots) k true
+empty_at [] k = refl
+empty_at (s ∷ slots) zero = refl
+empty_at (s ∷ slots) (suc k) = empty_at slots k
+
+pub same_empty : (d e : Agent) (k : ℕ) → kept_of d ≡ kept_of e → is_empty (slot_of d k) ≡ is_empty (slot_of e k)
+same_empty d e k h = empty_at d.slots k ∙ (ap (λ (q : Kept). slice_index_or q.empty k true) h ∙ sym (empty_at e.slots k))
+
+pub same_in_use : (op : Op) (d e : Agent) → kept_of d ≡ kept_of e → IsInUse op d → IsInUse op e
+same_in_use (MoveOn k r) d e h u = sym (same_empty d e k h) ∙ u
+same_in_use op d e h u = tt
+
 -- what a step returned tells the word that it found, as far as the record goes
 pub read_back : (a : ℕ) (op : Op) (d : Agent) (n w : ℕ) → n ≡ returned_by (action_of a op d).operation w → after op d n ≡ after op d w
 read_back a Enroll d n w h = refl
@@ -189,12 +209,3 @@ pub same_room : (a : ℕ) (op : Op) (d e : Agent) (n w : ℕ) → kept_of d ≡ 
 same_room a op d e n w h r room =
     subst (λ (k : Kept). length (after op e n).list.items ≤ k.list.room) h
     (subst (λ (k : Kept). length k.list.items ≤ d.list.room) (kept_next a op d e n w h r) room)
-
--- whether a slot is empty
-empty_at : (slots : List SlotUse) (k : ℕ) → is_empty (slice_index_or slots k Empty) ≡ slice_index_or (map is_empty slots) k true
-empty_at [] k = refl
-empty_at (s ∷ slots) zero = refl
-empty_at (s ∷ slots) (suc k) = empty_at slots k
-
-pub same_empty : (d e : Agent) (k : ℕ) → kept_of d ≡ kept_of e → is_empty (slot_of d k) ≡ is_empty (slot_of e k)
-same_empty d e k h = empty_at d.slots k ∙ (ap (λ (q : Kept). slice_index_or q.empty k true) h ∙ sym (empty_at e.slots k))

@@ -1,7 +1,9 @@
 -- What of its agent's record a pass keeps: the parts that an action or a call looks at.
-use Rattle.std.specs.Prelude.{Bool, List, Option, map, ℕ}
+use Rattle.std.specs.Prelude.{Bool, List, Option, false, map, ◌≡◌, ℕ}
 use Rattle.orc_core.specs.Listed.{Listed}
-use Rattle.orc_core.specs.RecordParts.{is_empty}
+use Rattle.orc_core.specs.RecordParts.{is_empty, slot_of}
+use Rattle.orc_core.specs.declared.ops.Op.{Op}
+use Rattle.orc_core.specs.declared.ops.Op.TheVariants.{MoveOn}
 use Rattle.orc_core.specs.declared.records.Agent.{Agent}
 use Rattle.orc_core.specs.declared.records.Reading.{Reading}
 use Rattle.orc_core.specs.declared.records.Scan.{Scan}
@@ -24,3 +26,8 @@ kept_of d = record {
   scan = d.scan;
   list = d.list;
 }
+
+-- a slot that moves on names a row already, so that what is kept of it stays
+abbrev pub IsInUse : Op → Agent → Type 0
+IsInUse (MoveOn k r) d = is_empty (slot_of d k) ≡ false
+IsInUse _ d = Unit {0}

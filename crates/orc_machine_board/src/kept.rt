@@ -6,7 +6,7 @@ ghost use Rattle.orc_core.specs.Actions.{IsPackable};
 ghost use Rattle.orc_core.specs.After.{IsRecordable, after, due_after, scan_by, scan_on};
 ghost use Rattle.orc_core.specs.RecordParts.{same_target};
 ghost use Rattle.orc_core.specs.declared.ops.CounterUse.{CounterUse};
-ghost use Rattle.orc_machine_board.specs.Kept.{kept_of};
+ghost use Rattle.orc_machine_board.specs.Kept.{IsInUse, kept_of};
 ghost use Rattle.orc_words.specs.Packed.{link_word};
 
 use orc_core::{Agent, CounterUse, Op, Reading, SEQUENCE, Scan, SlotUse, advance};
@@ -20,11 +20,13 @@ const IN_USE: SlotUse = SlotUse::Held(0);
 pub(crate) fn keep_parts(own: &mut Agent, op: &Op, read: u64)
     requires packable { IsPackable op.now own.old }
     requires recordable { IsRecordable op.now own.old }
+    requires in_use { IsInUse op.now own.old }
     requires room { length (after op.now own.old read).list.items ≤ own.old.list.room }
     ensures { kept_of own.new ≡ kept_of (after op.now own.old read) }
 {
     match op {
         Op::LinkLoad { place: _, slot: _ } => {}
+        Op::MoveOn { slot: _, row: _ } => {}
         Op::Enroll
         | Op::Fill { .. }
         | Op::Read { .. }
@@ -46,7 +48,6 @@ pub(crate) fn keep_parts(own: &mut Agent, op: &Op, read: u64)
             own.looked = None;
         }
         Op::Publish { slot, row: _ } => own.slots[*slot as usize] = IN_USE,
-        Op::MoveOn { slot, row: _ } => own.slots[*slot as usize] = IN_USE,
         Op::Arm { row: _ } => own.slots[0] = IN_USE,
         Op::LinkCas { place: _, from, to } => own.fresh = fresh_after(own.fresh, *from, *to, read),
         Op::CounterLoad {
