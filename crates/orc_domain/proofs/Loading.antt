@@ -41,7 +41,7 @@ use Rattle.orc_sound.specs.Journals.{IsLawfulJournal, IsWanted, plain}
 use Rattle.orc_sound.specs.Linked.{IsOut}
 use Rattle.orc_sound.specs.declared.steps.Step.{Step}
 use Rattle.orc_words.specs.Bounds.{Bounds, IsShape}
-use Rattle.orc_words.specs.Packed.{link_of}
+use Rattle.orc_words.specs.Packed.{link_of, link_word, named}
 use Rattle.orc_words.specs.declared.packed.RowLink.{RowLink}
 use Rattle.orc_words.specs.declared.place.Word.{Word}
 use Rattle.orc_words.specs.declared.place.Word.TheVariants.{Enrolled, Next, Root, Side}
@@ -54,6 +54,13 @@ load_may b a d w h calm place =
     let on = calm.enrolled in
     let first = calm_forced d (LinkLoad w None) calm in
     λ i. ((agent i && on i) && first i) && place i
+
+-- a link that a word stands for names no row that no word can name
+pub known_low : (l : RowLink) → link_of (link_word l) ≡ l → (r : ℕ) → l.to ≡ Some r → r < 65535
+known_low l back r to = low (link_word l / 2) (ap (λ (k : RowLink). k.to) back ∙ to)
+  where
+    low : (n : ℕ) → named n ≡ Some r → r < 65535
+    low n e = grind arith
 
 module _ {N : Type 0} where
   -- the word is that of a link

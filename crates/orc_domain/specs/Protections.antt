@@ -42,6 +42,13 @@ module _ {D N : Type 0} {d : discipline.Ghosts D N} {m : machine.Ghosts Reclaimi
     pub made : MakesPlain (board_bounds board) (LinkLoad w (Some slot)) (shows u) (link_word two) (shows y)
     pub is : link_of (link_word two) ≡ two
 
+  -- then it read the link again with the slot, found `same` of this one, and shows y
+  pub record ReadsAgain (one : RowLink) (same : Bool) (u y : Pass d m) : Type 0 where
+    pub two : RowLink
+    pub reread : Reread two u y
+    pub stays : same ≡ true → two ≡ one
+    pub moves : same ≡ false → two ≢ one
+
   -- the row may be published in the slot, the link may then be read again with it, and the slot may then be cleared
   pub record MayProtect (r : ℕ) (p : Pass d m) : Type 0 where
     pub publish : MayDo (board_bounds board) (shows p) (Publish slot r)

@@ -131,7 +131,7 @@ impl<D: Discipline> Links for OrcDomain<D> {
         ensures next { next_row p.new ≡ next_row p.old }
     {
         let word = word_at(place);
-        let one = self.load(&mut p.pass, word, None);
+        let one = self.load(&mut p.pass, word);
         let mark = one.mark;
         let Some(row) = one.to else {
             return Looked::Stable(Seen { null: true, mark }, None);
@@ -163,7 +163,7 @@ impl<D: Discipline> Links for OrcDomain<D> {
         ensures next { next_row p.new ≡ next_row p.old }
     {
         let word = word_at(place);
-        let one = self.load(&mut p.pass, word, None);
+        let one = self.load(&mut p.pass, word);
         let mark = one.mark;
         let Some(row) = one.to else {
             return LookedOn::Stays(from, Looked::Stable(Seen { null: true, mark }, None));
@@ -183,12 +183,12 @@ impl<D: Discipline> Links for OrcDomain<D> {
         let moving = from.slot();
         from.end();
         self.board.move_on(&mut p.pass, moving, row);
-        let two = self.load(&mut p.pass, word, Some(moving));
-        if two != one {
-            self.unlock_moved(&mut p.pass, moving);
-            return LookedOn::Moved;
+        let stays = self.read_again(&mut p.pass, word, moving, one);
+        if stays {
+            return LookedOn::On(Held::new(row, moving));
         }
-        LookedOn::On(Held::new(row, moving))
+        self.unlock_moved(&mut p.pass, moving);
+        LookedOn::Moved
     }
 
     fn same(

@@ -1,6 +1,6 @@
 //! The parts of which the calls are made.
 
-ghost use Rattle.std.specs.Prelude.{◌≡◌, Some, false, true};
+ghost use Rattle.std.specs.Prelude.{◌≡◌, None, Some, false, true};
 ghost use Rattle.orc_core.specs.RecordParts.{names};
 ghost use Rattle.orc_core.specs.declared.ops.Op.{Op};
 ghost use Rattle.orc_machine_board.specs.Kinds.{MakesPlain, MayDo};
@@ -9,14 +9,14 @@ ghost use Rattle.orc_plain_domain.specs.Rows.{word_at};
 ghost use Rattle.orc_words.specs.Packed.{link_of, link_word};
 ghost use Rattle.orc_domain.specs.Calls.{Retires, Unlocks};
 ghost use Rattle.orc_domain.specs.Passes.{IsFreshUntouched, domain_bounds, domain_numbers};
-ghost use Rattle.orc_domain.specs.Protections.{MayProtect, Protects, word_by};
+ghost use Rattle.orc_domain.specs.Protections.{MayProtect, Protects, ReadsAgain, word_by};
 ghost use Rattle.orc_domain.specs.Seats.{IsCalm, IsReady, seat_by};
 
 use crate::domain::OrcDomain;
 use orc_core::{CounterUse, SEQUENCE};
 use orc_heap::{At, Discipline};
 use orc_machine_board::MachineBoardPass;
-use orc_words::{RowLink, Word, read_link};
+use orc_words::{RowLink, Word, pack_link, read_link};
 
 // The two numbers by which a place is told: its kind, and its root or its row.
 #[inline(always)]
@@ -42,21 +42,41 @@ fn word_by(kind: u32, number: u32) -> Word
 }
 
 impl<D: Discipline> OrcDomain<D> {
-    // Reads a link. A slot that is named holds the link's target from then on, if that is the row in the slot.
+    // Reads a link.
     // A load is small once it is compiled. With `always`, a look would count as very large before that, and lose its own mark.
     #[inline]
-    pub(crate) fn load(&self, p: &mut MachineBoardPass<D>, at: Word, slot: Option<u32>) -> RowLink
+    pub(crate) fn load(&self, p: &mut MachineBoardPass<D>, at: Word) -> RowLink
         requires belongs { Belongs self.now.board p.old }
-        requires allowed { MayDo (domain_bounds self.now) (shows p.old) (Op.LinkLoad at slot) }
+        requires allowed { MayDo (domain_bounds self.now) (shows p.old) (Op.LinkLoad at None) }
         ensures belongs { Belongs self.now.board p.new }
-        ensures made { MakesPlain (domain_bounds self.now) (Op.LinkLoad at slot) (shows p.old) (link_word result) (shows p.new) }
+        ensures made { MakesPlain (domain_bounds self.now) (Op.LinkLoad at None) (shows p.old) (link_word result) (shows p.new) }
         ensures link { link_of (link_word result) ≡ result }
     {
-        let word = self.board.link_load(p, at, slot, None, None);
+        let word = self.board.link_load(p, at, None, None, None);
         let Some(link) = read_link(word) else {
             unreachable!()
         };
         link
+    }
+
+    // Reads a link again, with the slot in which its target was published. True where it is the link that was read before, so
+    // that the slot holds the target. It compares the words of both links, and unpacks none.
+    #[inline]
+    pub(crate) fn read_again(
+        &self,
+        p: &mut MachineBoardPass<D>,
+        at: Word,
+        slot: u32,
+        one: RowLink,
+    ) -> bool
+        requires belongs { Belongs self.now.board p.old }
+        requires allowed { MayDo (domain_bounds self.now) (shows p.old) (Op.LinkLoad at (Some slot)) }
+        requires known { link_of (link_word one) ≡ one }
+        ensures belongs { Belongs self.now.board p.new }
+        ensures again { ReadsAgain self.now.board at slot one result p.old p.new }
+    {
+        let word = self.board.link_load(p, at, Some(slot), None, None);
+        word == pack_link(one)
     }
 
     // Clears a slot, and takes in what was handed over beside it.
@@ -98,16 +118,17 @@ impl<D: Discipline> OrcDomain<D> {
     ) -> bool
         requires belongs { Belongs self.now.board p.old }
         requires allowed { MayProtect self.now.board at slot row p.old }
+        requires known { link_of (link_word one) ≡ one }
         ensures belongs { Belongs self.now.board p.new }
         ensures protects { Protects self.now.board at slot row one result p.old p.new }
     {
         self.board.publish(p, slot, row);
-        let two = self.load(p, at, Some(slot));
-        if two != one {
-            self.unlock_moved(p, slot);
-            return false;
+        let same = self.read_again(p, at, slot, one);
+        if same {
+            return true;
         }
-        true
+        self.unlock_moved(p, slot);
+        false
     }
 
     // The same for a marked link, which a search seldom meets: it stands apart so that a look by which a hold moves on can
@@ -124,6 +145,7 @@ impl<D: Discipline> OrcDomain<D> {
     ) -> bool
         requires belongs { Belongs self.now.board p.old }
         requires allowed { MayProtect self.now.board (word_by kind number) slot row p.old }
+        requires known { link_of (link_word (record { to = Some row; mark = true })) ≡ record { to = Some row; mark = true } }
         ensures belongs { Belongs self.now.board p.new }
         ensures protects { Protects self.now.board (word_by kind number) slot row (record { to = Some row; mark = true }) result p.old p.new }
     {

@@ -11,7 +11,7 @@ unreachable-requires g c =
     let e = c.link_load-word.ensures in
     let s = stage g.D.Discipline k _ _ c.requires.belongs.keeps in
     let t = stage g.D.Discipline k _ _ e.belongs.keeps in
-    let low = is_low s t c.args.at c.args.slot None None c.link_load-word.result e.makes c.requires.allowed tt in
+    let low = is_low s t c.args.at None None None c.link_load-word.result e.makes c.requires.allowed tt in
     let none : IsNone c.read_link.result = subst IsNone (sym c.in_default.is) refl in
     let high = c.read_link.ensures.outside.0 none in
     omega (arith, low, high)

@@ -2,7 +2,6 @@ use Rattle.std.proofs.Common.{None, Some, false, refl, subst, sym, true, ℕ, �
 use Rattle.orc_heap.proofs.Calls.{looks_beside}
 use Rattle.orc_heap.specs.Seats.{place_in}
 use Rattle.orc_heap.specs.declared.holds.Looked.TheVariants.{Moved, Stable}
-use Rattle.orc_plain_domain.proofs.Equal.{links_agree, links_differ}
 use Rattle.orc_domain.proofs.Looking.{Begun, begin_can, held_leaves, look_between, look_held, look_moved, look_null, moved_between, moved_leaves, moved_mark, null_between, null_leaves}
 use Rattle.orc_domain.proofs.MovingOn.{Leaves, move_between, move_calm, move_can, move_clear_can, move_held, move_leaves, move_off, move_second_can, off_between, off_leaves}
 use Rattle.orc_machine_rest.proofs.TakenIn.{done_later}
@@ -10,6 +9,8 @@ use Rattle.orc_domain.proofs.Protected.{marked_by, may_protect, stayed, went_off
 use Rattle.orc_domain.proofs.Stages.{stage}
 use Rattle.orc_domain.specs.Passes.{seat_of}
 use Rattle.orc_domain.specs.Protections.{MayProtect}
+use Rattle.orc_words.specs.Packed.{link_of, link_word}
+use Rattle.orc_words.specs.declared.packed.RowLink.{RowLink}
 use Rattle.orc_domain.proofs.links.OrcDomainLinks.look_on.Given.{Over}
 use Rattle.orc_domain.proofs.links.OrcDomainLinks.look_on.Goals.{After-word_at-word}
 use Rattle.orc_domain.proofs.links.OrcDomainLinks.look_on.Goals as goal
@@ -66,6 +67,10 @@ protect_marked-same-requires-clause-allowed g c =
     subst (λ w. MayProtect c.args.self.now.board w c.args.slot c.in-Some.row c.load-one.new.p) (c.word_at-word.ensures ∙ sym c.numbers_of-kind.ensures)
     (may_protect c.args.self.now.board _ _ c.args.place.now c.word_at-word.result c.args.slot one.result c.requires.pass.board one.ensures.belongs l
     one.ensures.made one.ensures.link c.in-Some.row c.in-Some.is)
+
+pub protect_marked-same-requires-clause-known : goal.protect_marked-same-requires-clause-known
+protect_marked-same-requires-clause-known g c =
+    subst (λ (l : RowLink). link_of (link_word l) ≡ l) (λ i. record { to = c.in-Some.is i; mark = c.if-mark.true i }) c.load-one.ensures.link
 
 pub returns-then-mark-clause-pass : goal.returns-then-mark-clause-pass
 returns-then-mark-clause-pass g c =
@@ -184,13 +189,13 @@ move_on-requires-clause-allowed g c =
     let v = leaves g (goal.at.move_on-requires-clause-allowed g c).After-word_at-word c.slot-moving.result c.slot-moving.ensures in
     move_can l v t one.result one.ensures.made one.ensures.link c.in-Some.row c.in-Some.is
 
-pub load-two-requires-clause-allowed : goal.load-two-requires-clause-allowed
-load-two-requires-clause-allowed g c =
+pub read_again-stays-requires-clause-allowed : goal.read_again-stays-requires-clause-allowed
+read_again-stays-requires-clause-allowed g c =
     let k = c.args.self.now.board.words.shape in
-    let l = begun g (goal.at.load-two-requires-clause-allowed g c).After-word_at-word in
+    let l = begun g (goal.at.read_again-stays-requires-clause-allowed g c).After-word_at-word in
     let one = c.load-one in
     let t = stage g.D.Discipline k _ _ one.ensures.belongs.keeps in
-    let v = leaves g (goal.at.load-two-requires-clause-allowed g c).After-word_at-word c.slot-moving.result c.slot-moving.ensures in
+    let v = leaves g (goal.at.read_again-stays-requires-clause-allowed g c).After-word_at-word c.slot-moving.result c.slot-moving.ensures in
     let u = stage g.D.Discipline k _ _ c.move_on.ensures.belongs.keeps in
     move_second_can l v t one.result one.ensures.made one.ensures.link c.in-Some.row c.in-Some.is u c.move_on.result c.move_on.ensures.made
 
@@ -202,10 +207,10 @@ unlock_moved-requires-clause-allowed g c =
     let t = stage g.D.Discipline k _ _ one.ensures.belongs.keeps in
     let v = leaves g (goal.at.unlock_moved-requires-clause-allowed g c).After-word_at-word c.slot-moving.result c.slot-moving.ensures in
     let u = stage g.D.Discipline k _ _ c.move_on.ensures.belongs.keeps in
-    let two = c.load-two in
-    let y = stage g.D.Discipline k _ _ two.ensures.belongs.keeps in
+    let e = c.read_again-stays.ensures.again in
+    let y = stage g.D.Discipline k _ _ e.reread.belongs.keeps in
     move_clear_can l v t one.result one.ensures.made one.ensures.link c.in-Some.row c.in-Some.is u c.move_on.result c.move_on.ensures.made
-    y two.result two.ensures.made two.ensures.link
+    y e.two e.reread.made e.reread.is
 
 pub unlock_moved-requires-clause-calm : goal.unlock_moved-requires-clause-calm
 unlock_moved-requires-clause-calm g c =
@@ -215,56 +220,10 @@ unlock_moved-requires-clause-calm g c =
     let t = stage g.D.Discipline k _ _ one.ensures.belongs.keeps in
     let v = leaves g (goal.at.unlock_moved-requires-clause-calm g c).After-word_at-word c.slot-moving.result c.slot-moving.ensures in
     let u = stage g.D.Discipline k _ _ c.move_on.ensures.belongs.keeps in
-    let two = c.load-two in
-    let y = stage g.D.Discipline k _ _ two.ensures.belongs.keeps in
+    let e = c.read_again-stays.ensures.again in
+    let y = stage g.D.Discipline k _ _ e.reread.belongs.keeps in
     move_calm l v t one.result one.ensures.made one.ensures.link c.in-Some.row c.in-Some.is u c.move_on.result c.move_on.ensures.made
-    y two.result two.ensures.made two.ensures.link
-
-pub returns-then-ne-clause-pass : goal.returns-then-ne-clause-pass
-returns-then-ne-clause-pass g c =
-    let k = c.args.self.now.board.words.shape in
-    let l = begun g (goal.at.returns-then-ne-clause-pass g c).After-word_at-word in
-    let one = c.load-one in
-    let t = stage g.D.Discipline k _ _ one.ensures.belongs.keeps in
-    let v = leaves g (goal.at.returns-then-ne-clause-pass g c).After-word_at-word c.slot-moving.result c.slot-moving.ensures in
-    let u = stage g.D.Discipline k _ _ c.move_on.ensures.belongs.keeps in
-    let two = c.load-two in
-    let y = stage g.D.Discipline k _ _ two.ensures.belongs.keeps in
-    let z = stage g.D.Discipline k _ _ c.unlock_moved.ensures.belongs.keeps in
-    let other : two.result ≢ one.result = links_differ two.result one.result c.ne.result c.ne.ensures c.if-ne.true in
-    let next = off_between l v t one.result one.ensures.made one.ensures.link c.in-Some.row c.in-Some.is u c.move_on.result c.move_on.ensures.made
-    y two.result two.ensures.made two.ensures.link other z c.unlock_moved.ensures.unlocks in
-    record { board = c.unlock_moved.ensures.belongs; ready = next.ready; untouched = next.untouched; inside = c.requires.pass.inside }
-
-pub returns-then-ne-clause-looked : goal.returns-then-ne-clause-looked
-returns-then-ne-clause-looked g c =
-    let k = c.args.self.now.board.words.shape in
-    let l = begun g (goal.at.returns-then-ne-clause-looked g c).After-word_at-word in
-    let one = c.load-one in
-    let t = stage g.D.Discipline k _ _ one.ensures.belongs.keeps in
-    let v = leaves g (goal.at.returns-then-ne-clause-looked g c).After-word_at-word c.slot-moving.result c.slot-moving.ensures in
-    let u = stage g.D.Discipline k _ _ c.move_on.ensures.belongs.keeps in
-    let two = c.load-two in
-    let y = stage g.D.Discipline k _ _ two.ensures.belongs.keeps in
-    let z = stage g.D.Discipline k _ _ c.unlock_moved.ensures.belongs.keeps in
-    let other : two.result ≢ one.result = links_differ two.result one.result c.ne.result c.ne.ensures c.if-ne.true in
-    move_off l v t one.result one.ensures.made one.ensures.link c.in-Some.row c.in-Some.is u c.move_on.result c.move_on.ensures.made
-    y two.result two.ensures.made two.ensures.link other z c.unlock_moved.ensures.unlocks c.if-mark.false
-
-pub returns-then-ne-clause-taken_in : goal.returns-then-ne-clause-taken_in
-returns-then-ne-clause-taken_in g c =
-    let k = c.args.self.now.board.words.shape in
-    let l = begun g (goal.at.returns-then-ne-clause-taken_in g c).After-word_at-word in
-    let one = c.load-one in
-    let t = stage g.D.Discipline k _ _ one.ensures.belongs.keeps in
-    let v = leaves g (goal.at.returns-then-ne-clause-taken_in g c).After-word_at-word c.slot-moving.result c.slot-moving.ensures in
-    let u = stage g.D.Discipline k _ _ c.move_on.ensures.belongs.keeps in
-    let two = c.load-two in
-    let y = stage g.D.Discipline k _ _ two.ensures.belongs.keeps in
-    let z = stage g.D.Discipline k _ _ c.unlock_moved.ensures.belongs.keeps in
-    let other : two.result ≢ one.result = links_differ two.result one.result c.ne.result c.ne.ensures c.if-ne.true in
-    off_leaves l v t one.result one.ensures.made one.ensures.link c.in-Some.row c.in-Some.is u c.move_on.result c.move_on.ensures.made
-    y two.result two.ensures.made two.ensures.link other z c.unlock_moved.ensures.unlocks
+    y e.two e.reread.made e.reread.is
 
 pub returns-clause-pass : goal.returns-clause-pass
 returns-clause-pass g c =
@@ -274,12 +233,13 @@ returns-clause-pass g c =
     let t = stage g.D.Discipline k _ _ one.ensures.belongs.keeps in
     let v = leaves g (goal.at.returns-clause-pass g c).After-word_at-word c.slot-moving.result c.slot-moving.ensures in
     let u = stage g.D.Discipline k _ _ c.move_on.ensures.belongs.keeps in
-    let two = c.load-two in
-    let y = stage g.D.Discipline k _ _ two.ensures.belongs.keeps in
-    let same : two.result ≡ one.result = links_agree two.result one.result c.ne.result c.ne.ensures c.if-ne.false in
-    let next = move_between l v t one.result one.ensures.made one.ensures.link c.in-Some.row c.in-Some.is u c.move_on.result c.move_on.ensures.made
-    y two.result two.ensures.made two.ensures.link same in
-    record { board = two.ensures.belongs; ready = next.ready; untouched = next.untouched; inside = c.requires.pass.inside }
+    let e = c.read_again-stays.ensures.again in
+    let y = stage g.D.Discipline k _ _ e.reread.belongs.keeps in
+    let z = stage g.D.Discipline k _ _ c.unlock_moved.ensures.belongs.keeps in
+    let other = e.moves c.if-stays.false in
+    let next = off_between l v t one.result one.ensures.made one.ensures.link c.in-Some.row c.in-Some.is u c.move_on.result c.move_on.ensures.made
+    y e.two e.reread.made e.reread.is other z c.unlock_moved.ensures.unlocks in
+    record { board = c.unlock_moved.ensures.belongs; ready = next.ready; untouched = next.untouched; inside = c.requires.pass.inside }
 
 pub returns-clause-looked : goal.returns-clause-looked
 returns-clause-looked g c =
@@ -289,11 +249,12 @@ returns-clause-looked g c =
     let t = stage g.D.Discipline k _ _ one.ensures.belongs.keeps in
     let v = leaves g (goal.at.returns-clause-looked g c).After-word_at-word c.slot-moving.result c.slot-moving.ensures in
     let u = stage g.D.Discipline k _ _ c.move_on.ensures.belongs.keeps in
-    let two = c.load-two in
-    let y = stage g.D.Discipline k _ _ two.ensures.belongs.keeps in
-    let same : two.result ≡ one.result = links_agree two.result one.result c.ne.result c.ne.ensures c.if-ne.false in
-    move_held l v t one.result one.ensures.made one.ensures.link c.in-Some.row c.in-Some.is u c.move_on.result c.move_on.ensures.made
-    y two.result two.ensures.made two.ensures.link same c.new.result c.new.ensures c.if-mark.false
+    let e = c.read_again-stays.ensures.again in
+    let y = stage g.D.Discipline k _ _ e.reread.belongs.keeps in
+    let z = stage g.D.Discipline k _ _ c.unlock_moved.ensures.belongs.keeps in
+    let other = e.moves c.if-stays.false in
+    move_off l v t one.result one.ensures.made one.ensures.link c.in-Some.row c.in-Some.is u c.move_on.result c.move_on.ensures.made
+    y e.two e.reread.made e.reread.is other z c.unlock_moved.ensures.unlocks c.if-mark.false
 
 pub returns-clause-taken_in : goal.returns-clause-taken_in
 returns-clause-taken_in g c =
@@ -303,8 +264,52 @@ returns-clause-taken_in g c =
     let t = stage g.D.Discipline k _ _ one.ensures.belongs.keeps in
     let v = leaves g (goal.at.returns-clause-taken_in g c).After-word_at-word c.slot-moving.result c.slot-moving.ensures in
     let u = stage g.D.Discipline k _ _ c.move_on.ensures.belongs.keeps in
-    let two = c.load-two in
-    let y = stage g.D.Discipline k _ _ two.ensures.belongs.keeps in
-    let same : two.result ≡ one.result = links_agree two.result one.result c.ne.result c.ne.ensures c.if-ne.false in
+    let e = c.read_again-stays.ensures.again in
+    let y = stage g.D.Discipline k _ _ e.reread.belongs.keeps in
+    let z = stage g.D.Discipline k _ _ c.unlock_moved.ensures.belongs.keeps in
+    let other = e.moves c.if-stays.false in
+    off_leaves l v t one.result one.ensures.made one.ensures.link c.in-Some.row c.in-Some.is u c.move_on.result c.move_on.ensures.made
+    y e.two e.reread.made e.reread.is other z c.unlock_moved.ensures.unlocks
+
+pub returns-then-stays-clause-pass : goal.returns-then-stays-clause-pass
+returns-then-stays-clause-pass g c =
+    let k = c.args.self.now.board.words.shape in
+    let l = begun g (goal.at.returns-then-stays-clause-pass g c).After-word_at-word in
+    let one = c.load-one in
+    let t = stage g.D.Discipline k _ _ one.ensures.belongs.keeps in
+    let v = leaves g (goal.at.returns-then-stays-clause-pass g c).After-word_at-word c.slot-moving.result c.slot-moving.ensures in
+    let u = stage g.D.Discipline k _ _ c.move_on.ensures.belongs.keeps in
+    let e = c.read_again-stays.ensures.again in
+    let y = stage g.D.Discipline k _ _ e.reread.belongs.keeps in
+    let same = e.stays c.if-stays.true in
+    let next = move_between l v t one.result one.ensures.made one.ensures.link c.in-Some.row c.in-Some.is u c.move_on.result c.move_on.ensures.made
+    y e.two e.reread.made e.reread.is same in
+    record { board = e.reread.belongs; ready = next.ready; untouched = next.untouched; inside = c.requires.pass.inside }
+
+pub returns-then-stays-clause-looked : goal.returns-then-stays-clause-looked
+returns-then-stays-clause-looked g c =
+    let k = c.args.self.now.board.words.shape in
+    let l = begun g (goal.at.returns-then-stays-clause-looked g c).After-word_at-word in
+    let one = c.load-one in
+    let t = stage g.D.Discipline k _ _ one.ensures.belongs.keeps in
+    let v = leaves g (goal.at.returns-then-stays-clause-looked g c).After-word_at-word c.slot-moving.result c.slot-moving.ensures in
+    let u = stage g.D.Discipline k _ _ c.move_on.ensures.belongs.keeps in
+    let e = c.read_again-stays.ensures.again in
+    let y = stage g.D.Discipline k _ _ e.reread.belongs.keeps in
+    let same = e.stays c.if-stays.true in
+    move_held l v t one.result one.ensures.made one.ensures.link c.in-Some.row c.in-Some.is u c.move_on.result c.move_on.ensures.made
+    y e.two e.reread.made e.reread.is same c.new.result c.new.ensures c.if-mark.false
+
+pub returns-then-stays-clause-taken_in : goal.returns-then-stays-clause-taken_in
+returns-then-stays-clause-taken_in g c =
+    let k = c.args.self.now.board.words.shape in
+    let l = begun g (goal.at.returns-then-stays-clause-taken_in g c).After-word_at-word in
+    let one = c.load-one in
+    let t = stage g.D.Discipline k _ _ one.ensures.belongs.keeps in
+    let v = leaves g (goal.at.returns-then-stays-clause-taken_in g c).After-word_at-word c.slot-moving.result c.slot-moving.ensures in
+    let u = stage g.D.Discipline k _ _ c.move_on.ensures.belongs.keeps in
+    let e = c.read_again-stays.ensures.again in
+    let y = stage g.D.Discipline k _ _ e.reread.belongs.keeps in
+    let same = e.stays c.if-stays.true in
     move_leaves l v t one.result one.ensures.made one.ensures.link c.in-Some.row c.in-Some.is u c.move_on.result c.move_on.ensures.made
-    y two.result two.ensures.made two.ensures.link same
+    y e.two e.reread.made e.reread.is same
