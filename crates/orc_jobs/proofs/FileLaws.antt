@@ -97,10 +97,10 @@ module _ {L C F : Type 0} {record_of : L → List (List ℕ)} {IsLine : L → Ty
   one-reading bytes a b x y = same-lines a b x.each y.each (sym x.records ∙ y.records)
 
   -- a file with a cause is no file of lines, and one with too many records neither
-  not-read : (bytes : List ℕ) (lines : List L) (at : ℕ) (why : C) → IsMalformed record_of IsLine HasCause bytes at why → ¬ IsFile record_of IsLine lines bytes
+  pub not-read : (bytes : List ℕ) (lines : List L) (at : ℕ) (why : C) → IsMalformed record_of IsLine HasCause bytes at why → ¬ IsFile record_of IsLine lines bytes
   not-read bytes lines at why bad file = none-bad lines bad.0 bad.1 bad.2 why file.each (sym file.records ∙ bad.3.records) bad.6
 
-  not-few : (bytes : List ℕ) (lines : List L) → HasTooMany record_of IsLine bytes → ¬ IsFile record_of IsLine lines bytes
+  pub not-few : (bytes : List ℕ) (lines : List L) → HasTooMany record_of IsLine bytes → ¬ IsFile record_of IsLine lines bytes
   not-few bytes lines many file =
       let sizes = ap length (sym file.records ∙ many.3.records) in
       let few = file.few in
