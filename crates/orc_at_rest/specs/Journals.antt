@@ -1,4 +1,4 @@
--- The actual journal of a domain at rest.
+-- The actual journal of a domain at rest, and what is said of its rows.
 use Rattle.std.specs.Prelude.{◌≡◌, List, []}
 use mathlib.Core.List.{IsPrefix}
 use Rattle.orc_words.specs.Bounds.{Bounds}
@@ -24,6 +24,7 @@ use Rattle.orc_domain.specs.Rest.{GoesOnQuietly, IsShown, rest_domain, rest_jour
 use Rattle.orc_domain.specs.declared.at_rest.OrcRest.{OrcRest}
 use Rattle.orc_domain.specs.declared.domain.OrcDomain.{OrcDomain}
 use Rattle.orc_rest.specs.Rest.{IsAtRest}
+use Rattle.orc_at_rest.specs.Reuse.{LeaksNothing, ReusesSafely}
 
 module _ {D N : Type 0} {d : discipline.Ghosts D N} {m : machine.Ghosts Reclaiming N (MachineShape N) Request (Step N) Agent Agent} where
   -- what is left of the domain, whose passes had seen this journal: it is at rest, and its board has shown a journal that went on
@@ -44,3 +45,11 @@ module _ {D N : Type 0} {d : discipline.Ghosts D N} {m : machine.Ghosts Reclaimi
     pub begins : IsPrefix (machine_opening b.agents seed) (rest_journal r)
     pub allowed : AllAllowed (may (numbers_of b)) [] (project b (rest_journal r))
     pub agents_below : AgentsBelow (λ (s : Step N). s.agent) b.agents (rest_journal r)
+
+  -- no row of the journal was used again while it was linked or held, nor twice
+  abbrev pub ReusesRowsSafely : Bounds → OrcRest D N d m → Type 0
+  ReusesRowsSafely b r = ReusesSafely b (rest_journal r)
+
+  -- the journal is at rest, and what was given was freed or is linked
+  abbrev pub EndsWithoutLeak : Bounds → OrcRest D N d m → Type 0
+  EndsWithoutLeak b r = LeaksNothing b (rest_journal r)

@@ -1,2 +1,4 @@
-pub mod Journals
+pub mod Domains
 pub mod Reuse
+pub mod Journals
+pub mod Queues

@@ -18,13 +18,14 @@ use Rattle.orc_board.specs.declared.replies.TakeReply.{TakeReply}
 use Rattle.orc_board.specs.Runs.{Ran}
 use Rattle.orc_board.specs.Stretches.{View, pick}
 use Rattle.orc_domain.specs.Rest.{GoesOnQuietly}
-use Rattle.orc_run.specs.Containers.{queue_over}
-use Rattle.orc_run.specs.Domains.{queue_seed}
+use Rattle.orc_at_rest.proofs.Silent.{Silent}
+use Rattle.orc_at_rest.specs.Domains.{queue_seed}
+use Rattle.orc_at_rest.specs.Queues.{queue_over}
 use Rattle.orc_run.specs.Over.{IsLeftOf, IsMadeSo}
 use Rattle.orc_run.specs.Runs.{WorkedThrough}
 use Rattle.orc_run.specs.declared.run.Finished.{Finished}
 use Rattle.orc_run.specs.declared.set.SetChoice.{SetChoice}
-use Rattle.orc_run.proofs.Growing.{Silent, ran_more}
+use Rattle.orc_run.proofs.Growing.{ran_more}
 
 -- what was left of both queues
 pub left_both : {Q L D P S N R : Type 0} (links_of : Q → L) (members : LinksOf L D P S N) (rests : L → List P → R → Type 0) (seen : Bool → List S)

@@ -1,6 +1,5 @@
 -- Replies that follow three journals follow them also where they go on without an entry.
-use Rattle.std.proofs.Common.{Bool, List, [], ap, append-nil, refl, subst, sym, ℕ, ◌+◌, ◌∙◌, ◌≡◌}
-use mathlib.Core.List.{IsPrefix}
+use Rattle.std.proofs.Common.{Bool, List, [], ap, subst, sym, ℕ, ◌+◌, ◌∙◌}
 use Rattle.orc_history.specs.declared.queue.QueueEntry.{QueueEntry}
 use Rattle.orc_history.specs.declared.queue.QueueRefused.{QueueRefused}
 use Rattle.orc_history.specs.declared.set.SetEntry.{SetEntry}
@@ -12,23 +11,9 @@ use Rattle.orc_board.specs.declared.replies.PostReply.{PostReply}
 use Rattle.orc_board.specs.declared.replies.TakeReply.{TakeReply}
 use Rattle.orc_board.specs.Follows.{LastIsEmpty, ZeroLast, none}
 use Rattle.orc_board.specs.Runs.{Ran}
-use Rattle.orc_board.specs.Stretches.{Did, Kind, Row, View, Works, all_beside, beside, nothing, of_queue, of_set}
-use Rattle.orc_board.proofs.Shares.{Did-just, DidAll-more}
-
--- from the journal j to k the history doesn't grow
-pub record Silent {A E : Type 0} (history : List A → List E) (j k : List A) : Type 0 where
-  pub later : IsPrefix j k
-  pub same : history k ≡ history j
-
--- there a worker does nothing
-pub did_nothing : {A E W : Type 0} (kind : Kind E) (x : View A E W) (worker : ℕ) (j k : List A) → Silent x.history j k → Did kind x worker nothing j k
-did_nothing kind x worker j k silent = Did-just kind x worker [] j k record {
-  later = silent.later;
-  part = [];
-  is = silent.same ∙ sym (append-nil (x.history j));
-  own_is = refl;
-  others = tt;
-}
+use Rattle.orc_board.specs.Stretches.{Row, View, Works, all_beside, beside, of_queue, of_set}
+use Rattle.orc_board.proofs.Shares.{DidAll-more}
+use Rattle.orc_at_rest.proofs.Silent.{Silent, did_nothing}
 
 module _ {A B : Type 0} (qs : Bool → View A QueueEntry QueueRefused) (s : View B SetEntry ListRefused) (lines : List Line) (posters takers : ℕ)
     (posts : List PostReply) (takes : List TakeReply) (k : Bool → List A) (n : List B) (l : Bool → List A) (o : List B)

@@ -23,6 +23,7 @@ use Rattle.orc_list.specs.SetMembers.{HasCause, set_history}
 use Rattle.orc_split_set.specs.SetCalls.{HasCause as HasSplitCause, set_history as split_history}
 use Rattle.orc_ordered_search.specs.Causes.{Cause as SplitCause}
 use Rattle.orc_board.specs.Stretches.{View, turns}
+pub use Rattle.orc_at_rest.specs.Queues.{queue_over}
 
 -- a queue over any domain with the queue discipline: a journal's history is that of the domain's events
 abbrev pub queue_on : {L D P S : Type 0} → LinksOf L D P S FifoNote → L → View S QueueEntry QueueRefused
@@ -49,16 +50,8 @@ split_on members links = record {
   crowd = λ agent. agent < members.agents links;
 }
 
--- a queue with this first position over a domain of these sizes: a journal's history is that of the notes of its events; a node is
--- refused where each row was out or spent at some time of the call; all agents may step in between
-abbrev pub queue_over : ℕ → Bounds → View (Step FifoNote) QueueEntry QueueRefused
-queue_over first b = record {
-  history = λ journal. entries_of (project b journal);
-  licence = λ agent why journal from to. Cause (λ s. s.agent) (λ j. project b j) first (IsLacking b agent journal from to) agent turns why journal from to;
-  crowd = λ agent. agent < b.agents;
-}
-
--- the same of a set in buckets, which also refuses a row whose sequence was read as the limit for links or more
+-- a set in buckets over a domain of these sizes: a journal's history is that of the notes of its events; a node is refused where each row
+-- was out or spent at some time of the call, and a row whose sequence was read as the limit for links or more; all agents may step in between
 abbrev pub set_over : Bounds → View (Step ChainNote) SetEntry ListRefused
 set_over b = record {
   history = λ journal. set_entries_of (project b journal);

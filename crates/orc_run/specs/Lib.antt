@@ -1,4 +1,3 @@
-pub mod Domains
 pub mod Containers
 pub mod Over
 pub mod Sets

@@ -13,7 +13,7 @@ use Rattle.orc_board.specs.Runs.{Ran}
 use Rattle.orc_board.specs.Stretches.{View, pick, set_view}
 use Rattle.orc_board.specs.declared.replies.Replies.{Replies}
 use Rattle.orc_run.specs.Containers.{queue_on}
-use Rattle.orc_run.specs.Domains.{agents_of, queue_seed, run_bounds}
+use Rattle.orc_at_rest.specs.Domains.{agents_of, queue_seed, run_bounds}
 use Rattle.orc_run.specs.declared.work.Worked.{Worked}
 
 -- this is what is left of a domain, whose passes had all seen this journal

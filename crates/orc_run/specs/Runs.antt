@@ -8,7 +8,6 @@ use Rattle.orc_shared_words.specs.declared.machine.Machine as machine
 use Rattle.orc_machine_board.specs.declared.machine.MachineShape.{MachineShape}
 use Rattle.orc_machine_board.specs.declared.machine.Reclaiming.{Reclaiming}
 use Rattle.orc_machine_board.specs.declared.machine.Request.{Request}
-use Rattle.orc_fifo_rule.specs.QueueDiscipline.{FifoMay}
 use Rattle.orc_fifo_rule.specs.declared.fifo.FifoNote.{FifoNote}
 use Rattle.orc_history.specs.declared.set.ListRefused.{ListRefused}
 use Rattle.orc_history.specs.declared.set.SetEntry.{SetEntry}
@@ -22,40 +21,26 @@ use Rattle.orc_run.specs.declared.run.Finished.{Finished}
 use Rattle.orc_run.specs.declared.set.SetChoice.{SetChoice}
 use Rattle.orc_run.specs.declared.set.SetRest.{SetRest}
 use Rattle.orc_run.specs.declared.set.SetRest.TheVariants as at_rest
-use Rattle.orc_run.specs.Containers.{queue_over, set_over, split_over}
-use Rattle.orc_run.specs.Domains.{agents_of, queue_seed, run_bounds}
-use Rattle.orc_at_rest.specs.Journals.{HasJournal}
-use Rattle.orc_at_rest.specs.Reuse.{LeaksNothing, ReusesSafely}
+use Rattle.orc_at_rest.specs.Domains.{agents_of, run_bounds}
+use Rattle.orc_at_rest.specs.Queues.{queue_over}
+pub use Rattle.orc_at_rest.specs.Domains.{queue_bounds}
+pub use Rattle.orc_at_rest.specs.Journals.{EndsWithoutLeak, ReusesRowsSafely}
+pub use Rattle.orc_at_rest.specs.Queues.{HasQueueJournal}
+use Rattle.orc_run.specs.Containers.{set_over, split_over}
 use Rattle.orc_run.specs.Sets.{HasSetJournal, SetLeaksNothing, SetReusesSafely, set_roots}
 
--- the sizes of each queue's domain, and of the set's, in a run of so many posters and takers with so many rows
-abbrev pub queue_bounds : ℕ → ℕ → ℕ → Bounds
-queue_bounds posters takers rows = run_bounds rows 2 (agents_of posters takers)
-
+-- the sizes of the set's domain in a run of so many posters and takers with so many rows
 abbrev pub set_bounds : ℕ → ℕ → ℕ → SetChoice → Bounds
 set_bounds posters takers rows set = run_bounds rows (set_roots set) (agents_of posters takers)
 
 module _ {D : Type 0} {d : discipline.Ghosts D FifoNote}
     {m : machine.Ghosts Reclaiming FifoNote (MachineShape FifoNote) Request (Step FifoNote) Agent Agent}
   where
-    -- the journal of a queue over a domain of these sizes, which obeys the queue discipline
-    abbrev pub HasQueueJournal : Bounds → OrcRest D FifoNote d m → Type 0
-    HasQueueJournal b r = HasJournal FifoMay b queue_seed r
-
     -- the replies follow the journals of both queues and this journal of a set, whose histories are legal and leave both queues empty
     abbrev pub Follow : {B : Type 0} → List Line → ℕ → ℕ → ℕ → Replies → (queue rush : OrcRest D FifoNote d m) → View B SetEntry ListRefused → List B → Type 0
     Follow lines posters takers rows replies queue rush set journal =
         Ran (λ rush_too. queue_over 0 (queue_bounds posters takers rows)) set lines posters takers
         replies.posts.items replies.takes.items (λ rush_too. rest_journal (pick queue rush rush_too)) journal
-
-module _ {D N : Type 0} {d : discipline.Ghosts D N} {m : machine.Ghosts Reclaiming N (MachineShape N) Request (Step N) Agent Agent} where
-  -- no row of the journal was used again while it was linked or held, nor twice
-  abbrev pub ReusesRowsSafely : Bounds → OrcRest D N d m → Type 0
-  ReusesRowsSafely b r = ReusesSafely b (rest_journal r)
-
-  -- the journal is at rest, and what was given was freed or is linked
-  abbrev pub EndsWithoutLeak : Bounds → OrcRest D N d m → Type 0
-  EndsWithoutLeak b r = LeaksNothing b (rest_journal r)
 
 -- the replies follow the journals of both queues and of the set that was left
 abbrev pub FollowWith : List Line → ℕ → ℕ → ℕ → Bounds → Finished → SetRest → Type 0

@@ -13,7 +13,7 @@ use Rattle.orc_run.specs.declared.set.SetChoice.{SetChoice}
 use Rattle.orc_run.specs.declared.set.SetChoice.TheVariants as choice
 use Rattle.orc_run.specs.declared.set.SetRest.{SetRest}
 use Rattle.orc_run.specs.declared.set.SetRest.TheVariants as at_rest
-use Rattle.orc_run.specs.Domains.{empty_seed, most_buckets}
+use Rattle.orc_at_rest.specs.Domains.{empty_seed}
 use Rattle.orc_at_rest.specs.Journals.{HasJournal}
 use Rattle.orc_at_rest.specs.Reuse.{LeaksNothing, ReusesSafely}
 
@@ -21,6 +21,10 @@ use Rattle.orc_at_rest.specs.Reuse.{LeaksNothing, ReusesSafely}
 abbrev pub IsInRange : SetChoice → Type 0
 IsInRange (choice.Lists buckets) = (1 ≤ buckets) × (buckets ≤ 256)
 IsInRange choice.Split = Unit {0}
+
+-- to how many buckets a split-ordered set grows at most
+abbrev pub most_buckets : ℕ
+most_buckets = 256
 
 -- the roots of the set's domain: one a list; or one for each bucket that there can be, and one for their number
 abbrev pub set_roots : SetChoice → ℕ

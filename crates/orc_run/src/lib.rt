@@ -7,9 +7,7 @@ mod ending;
 mod over;
 mod run;
 mod set;
-mod shapes;
 mod work;
 
 pub use run::{Finished, run_lines};
 pub use set::{SetChoice, SetRest};
-pub use shapes::shape_of;

@@ -3,12 +3,13 @@
 ghost use Rattle.std.specs.Prelude.{◌≤◌, ◌+◌, IfOk};
 ghost use Rattle.orc_jobs.specs.GoodLines.{AreGood};
 ghost use Rattle.orc_run.specs.Containers.{set_on, split_on};
-ghost use Rattle.orc_run.specs.Domains.{empty_seed, most_buckets};
+ghost use Rattle.orc_at_rest.specs.Domains.{empty_seed};
+ghost use Rattle.orc_run.specs.Sets.{most_buckets};
 ghost use Rattle.orc_run.specs.Over.{RanOver};
 
-use crate::shapes::{MOST_BUCKETS, shape_of};
 use crate::work::{Worked, work};
 use orc_any_domain::Domain;
+use orc_at_rest::shape_of;
 use orc_board::{Gate, Replies};
 use orc_chain_rule::Chain;
 use orc_containers::{set_at_rest, set_over, split_set_at_rest, split_set_over};
@@ -23,6 +24,9 @@ use orc_split_set::SplitSet;
 use std::alloc::Global;
 use std::sync::Wait;
 use std::thread::Threads;
+
+/// To how many buckets a split-ordered set grows at most.
+const MOST_BUCKETS: u32 = 256;
 
 /// What a run with its set over any domain leaves: the domains of the queue, of the rush queue and of the set at rest, and the replies.
 #[derive(Drop)]

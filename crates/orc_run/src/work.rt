@@ -2,13 +2,13 @@
 
 ghost use Rattle.std.specs.Prelude.{◌≡◌, ◌<◌, ◌≤◌, ℕ, [], All, IfOk, length, slice_index_or};
 ghost use Rattle.orc_jobs.specs.GoodLines.{AreGood};
-ghost use Rattle.orc_run.specs.Domains.{agents_of};
+ghost use Rattle.orc_at_rest.specs.Domains.{agents_of};
 ghost use Rattle.orc_run.specs.Over.{WorkedOver};
 
 use crate::desks::room_for_passes;
 use crate::ending::{Ends, end_queues};
-use crate::shapes::shape_of;
 use orc_any_domain::Domain;
+use orc_at_rest::shape_of;
 use orc_board::{Gate, Replies};
 use orc_containers::queue_over;
 use orc_fault::NoMemory;

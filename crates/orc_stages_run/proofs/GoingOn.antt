@@ -11,7 +11,7 @@ use Rattle.orc_board.proofs.Shares.{DidAll-more}
 use Rattle.orc_stages.specs.declared.replies.StageReply.{StageReply}
 use Rattle.orc_stages.specs.Stage.{QueueShare, DidShares, jobs_of}
 use Rattle.orc_stages.specs.Pipeline.{IsPipeline, PostersFollow, StageFollows, jobs_by, moves_of}
-use Rattle.orc_run.proofs.Growing.{Silent, did_nothing}
+use Rattle.orc_at_rest.proofs.Silent.{Silent, did_nothing}
 
 module _ {A : Type 0} where
   shares_more : (x : View A QueueEntry QueueRefused) (agent : ℕ) (shares : List QueueShare) (j k l : List A) → Silent x.history k l

@@ -17,13 +17,13 @@ use Rattle.orc_domain.specs.declared.at_rest.OrcRest.{OrcRest}
 use Rattle.orc_board.specs.Stretches.{queue_view}
 use Rattle.orc_stages.specs.Desks.{view_at}
 use Rattle.orc_stages.specs.Learning.{AreFor}
-use Rattle.orc_run.specs.Containers.{queue_over}
+use Rattle.orc_at_rest.proofs.Silent.{Silent}
+use Rattle.orc_at_rest.specs.Queues.{queue_over}
 use Rattle.orc_at_rest.specs.Journals.{IsLeft}
 use Rattle.orc_domain.specs.Rest.{GoesOnQuietly, rest_journal}
 use Rattle.orc_stages_run.specs.declared.queue.RunQueue.{RunQueue}
 use Rattle.orc_stages_run.specs.contracts.queue.RunQueueLearnQueue.TheImpl as learns
 use Rattle.orc_stages_run.specs.contracts.queue.RunQueueSharedQueue.TheImpl as queue
-use Rattle.orc_run.proofs.Growing.{Silent}
 use Rattle.orc_stages_run.specs.Queues.{AreLeft, IsFor, IsMade, journal_at}
 
 -- a queue whose first position is 0, over a domain of these sizes, as definitions over domains see it

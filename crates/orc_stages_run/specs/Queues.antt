@@ -15,7 +15,7 @@ use Rattle.orc_fifo_rule.specs.declared.fifo.FifoNote.{FifoNote}
 use Rattle.orc_domain.specs.Passes.{domain_bounds}
 use Rattle.orc_domain.specs.Rest.{rest_journal}
 use Rattle.orc_domain.specs.declared.at_rest.OrcRest.{OrcRest}
-use Rattle.orc_run.specs.Domains.{queue_seed}
+use Rattle.orc_at_rest.specs.Domains.{queue_seed}
 use Rattle.orc_at_rest.specs.Journals.{IsLeft}
 use Rattle.orc_stages_run.specs.declared.queue.RunQueue.{RunQueue}
 

@@ -3,8 +3,9 @@ use Rattle.std.specs.Prelude.{◌≡◌, ℕ, suc, List, length}
 use Rattle.std.specs.List.{AllByRecursion}
 use Rattle.orc_jobs.specs.declared.line.Line.{Line}
 use Rattle.orc_stages.specs.Pipeline.{IsPipeline}
-use Rattle.orc_run.specs.Containers.{queue_over}
-use Rattle.orc_run.specs.Runs.{EndsWithoutLeak, HasQueueJournal, ReusesRowsSafely, queue_bounds}
+use Rattle.orc_at_rest.specs.Domains.{queue_bounds}
+use Rattle.orc_at_rest.specs.Journals.{EndsWithoutLeak, ReusesRowsSafely}
+use Rattle.orc_at_rest.specs.Queues.{HasQueueJournal, queue_over}
 use Rattle.orc_stages_run.specs.Queues.{journal_at}
 use Rattle.orc_stages_run.specs.declared.run.StagesFinished.{StagesFinished}
 

@@ -4,7 +4,7 @@ ghost use Rattle.std.specs.Prelude.{◌≡◌, ◌≤◌, IfOk, length};
 ghost use Rattle.std.specs.List.{AllByRecursion};
 ghost use Rattle.orc_stages.specs.Learning.{AreFor};
 ghost use Rattle.orc_stages.specs.Run.{AreFresh};
-ghost use Rattle.orc_run.specs.Domains.{run_bounds};
+ghost use Rattle.orc_at_rest.specs.Domains.{run_bounds};
 ghost use Rattle.orc_stages_run.specs.Queues.{IsMade};
 
 use crate::queue::{QueuePass, RunQueue, make_queue};

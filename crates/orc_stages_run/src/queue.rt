@@ -11,16 +11,16 @@ ghost use Rattle.orc_domain.specs.Laws.Lasting.{lacking_later};
 ghost use Rattle.orc_domain.specs.Laws.Passes.{all_allowed, all_below, all_obey, begins_so};
 ghost use Rattle.orc_domain.specs.Rest.{IsRestOf};
 ghost use Rattle.orc_machine_board.specs.Views.{board_seed};
-ghost use Rattle.orc_run.specs.Domains.{queue_seed, run_bounds};
+ghost use Rattle.orc_at_rest.specs.Domains.{queue_seed, run_bounds};
 ghost use Rattle.orc_domain.specs.Passes.{domain_bounds, domain_numbers, domain_opening, journal_of, seat_of};
 
+use orc_at_rest::shape_of;
 use orc_containers::{queue_at_rest, queue_over};
 use orc_domain::{OrcDomain, OrcPass, OrcRest};
 use orc_fault::{Again, NoMemory};
 use orc_fifo_rule::{Fifo, FifoNote};
 use orc_history::{LearnQueue, QueueRefused, SharedQueue};
 use orc_queue::Queue;
-use orc_run::shape_of;
 use orc_sound::Step;
 use std::alloc::Global;
 

@@ -1,7 +1,7 @@
 -- The work over the set, and then the set's domain at rest.
 use Rattle.std.proofs.Common.{◌≡◌, ◌+◌, ◌∙◌, ap, arith}
 use Rattle.orc_words.specs.Bounds.{Bounds, bounds_of}
-use Rattle.orc_run.specs.Domains.{agents_of, run_bounds}
+use Rattle.orc_at_rest.specs.Domains.{agents_of, run_bounds}
 use Rattle.orc_run.proofs.over.run_over_lists.Goals as goal
 
 pub work-requires-clause-passes : goal.work-requires-clause-passes

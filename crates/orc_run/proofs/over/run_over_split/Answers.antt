@@ -1,7 +1,8 @@
 -- The work over the set, and then the set's domain at rest.
 use Rattle.std.proofs.Common.{◌≡◌, ◌+◌, ◌∙◌, ap, arith, refl}
 use Rattle.orc_words.specs.Bounds.{Bounds, bounds_of}
-use Rattle.orc_run.specs.Domains.{agents_of, most_buckets, run_bounds}
+use Rattle.orc_at_rest.specs.Domains.{agents_of, run_bounds}
+use Rattle.orc_run.specs.Sets.{most_buckets}
 use Rattle.orc_run.proofs.over.run_over_split.Goals as goal
 
 pub split_set_over-requires-clause-size : goal.split_set_over-requires-clause-size

@@ -12,8 +12,8 @@ use Rattle.orc_at_rest.proofs.Actual.{left_journal, left_rest, left_reuse}
 use Rattle.orc_at_rest.proofs.Passes.{left_of}
 use Rattle.orc_at_rest.proofs.Seeds.{seed_told}
 use Rattle.orc_run.specs.Containers.{set_over, split_over}
-use Rattle.orc_run.specs.Domains.{agents_of, empty_seed, most_buckets, queue_seed, run_bounds}
-use Rattle.orc_run.specs.Runs.{queue_bounds}
+use Rattle.orc_at_rest.specs.Domains.{agents_of, empty_seed, queue_bounds, queue_seed, run_bounds}
+use Rattle.orc_run.specs.Sets.{most_buckets}
 use Rattle.orc_run.proofs.AtRest.{first_is, of_choice, ran_at_rest}
 use Rattle.orc_run.proofs.run.run_lines.Goals as goal
 

@@ -2,7 +2,7 @@
 use Rattle.std.proofs.Common.{◌≡◌, ◌+◌, ◌∙◌, ap, arith}
 use Rattle.orc_words.specs.Bounds.{Bounds, bounds_of}
 use Rattle.orc_board.specs.Stretches.{pick}
-use Rattle.orc_run.specs.Domains.{agents_of, queue_seed, run_bounds}
+use Rattle.orc_at_rest.specs.Domains.{agents_of, queue_seed, run_bounds}
 use Rattle.orc_run.proofs.AtRest.{made_both}
 use Rattle.orc_run.proofs.work.work.Goals as goal
 

@@ -1,6 +1,6 @@
 use Rattle.std.proofs.Common.{◌≡◌, length}
 use Rattle.std.specs.List.{AllByRecursion}
-use Rattle.orc_run.specs.Domains.{run_bounds}
+use Rattle.orc_at_rest.specs.Domains.{run_bounds}
 use Rattle.orc_stages_run.specs.contracts.queue.RunQueueLearnQueue.TheImpl as learns
 use Rattle.orc_stages_run.specs.contracts.queue.RunQueueSharedQueue.TheImpl as queue
 use Rattle.orc_stages.specs.Learning.{AreFor}

@@ -1,7 +1,7 @@
 -- What any domain's container promises, said of a reclaiming one.
 use Rattle.std.proofs.Common.{ap, arith, ◌∙◌, ◌≡◌}
 use Rattle.orc_at_rest.proofs.Seeds.{seed_told}
-use Rattle.orc_run.specs.Domains.{queue_seed}
+use Rattle.orc_at_rest.specs.Domains.{queue_seed}
 use Rattle.orc_words.specs.Bounds.{Bounds, bounds_of}
 use Rattle.orc_stages_run.proofs.queue.make_queue.Goals as goal
 

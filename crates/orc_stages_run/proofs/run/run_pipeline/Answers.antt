@@ -8,9 +8,9 @@ use Rattle.orc_stages.specs.Learning.{AreFor}
 use Rattle.orc_stages.specs.Pipeline.{IsPipeline}
 use Rattle.orc_stages.specs.Run.{HaveSeen, IsRunOf, first_seen}
 use Rattle.orc_at_rest.proofs.Actual.{left_journal, left_rest, left_reuse}
-use Rattle.orc_run.specs.Containers.{queue_over}
-use Rattle.orc_run.specs.Domains.{agents_of, queue_seed, run_bounds}
-use Rattle.orc_run.specs.Runs.{EndsWithoutLeak, HasQueueJournal, ReusesRowsSafely, queue_bounds}
+use Rattle.orc_at_rest.specs.Domains.{agents_of, queue_bounds, queue_seed, run_bounds}
+use Rattle.orc_at_rest.specs.Journals.{EndsWithoutLeak, ReusesRowsSafely}
+use Rattle.orc_at_rest.specs.Queues.{HasQueueJournal, queue_over}
 use Rattle.orc_stages_run.specs.contracts.queue.RunQueueLearnQueue.TheImpl as learns
 use Rattle.orc_stages_run.specs.contracts.queue.RunQueueSharedQueue.TheImpl as queue
 use Rattle.orc_stages_run.specs.declared.queue.RunQueue.{RunQueue}

@@ -2,12 +2,9 @@
 
 ghost use Rattle.std.specs.Prelude.{◌≡◌, ◌≤◌};
 ghost use Rattle.orc_words.specs.Bounds.{bounds_of};
-ghost use Rattle.orc_run.specs.Domains.{run_bounds};
+ghost use Rattle.orc_at_rest.specs.Domains.{run_bounds};
 
 use orc_words::{HIGHEST_LIMIT, Shape};
-
-/// To how many buckets a split-ordered set grows at most.
-pub(crate) const MOST_BUCKETS: u32 = 256;
 
 /// The shape of a domain with 2 to 65,535 rows, 1 to 257 roots and 1 to 16 agents, whose rows don't wear out in practice.
 pub fn shape_of(rows: u32, roots: u32, agents: u32) -> Shape
