@@ -4,6 +4,7 @@ use Rattle.std.proofs.lemmas.Bool.{lt-ltb, or_right}
 use Rattle.std.specs.Prelude.{map, nat_lt, not, slice_get, slice_index_or, slice_set, ◌&&◌, ◌==◌, ◌||◌}
 use Rattle.orc_core.specs.Allowed.{in_order, may}
 use Rattle.orc_core.specs.RecordParts.{any_holds, holds, holds_fresh, is_due, is_empty, names, saw, scan_empty, scans, slot_of}
+use Rattle.orc_core.specs.declared.ops.Op.{Op}
 use Rattle.orc_core.specs.declared.ops.Op.TheVariants.{Arm, Clear, Dec, DecHeld, Inc, SetRetired, TakeIn}
 use Rattle.orc_core.specs.declared.records.Agent.{Agent}
 use Rattle.orc_core.specs.declared.records.Reading.{Reading}
@@ -21,15 +22,15 @@ use Rattle.orc_machine_board.specs.Rules.{bounds_in, run_of}
 use Rattle.orc_machine_board.specs.Views.{MachineView}
 use Rattle.orc_machine_board.specs.declared.machine.MachineShape.{MachineShape}
 use Rattle.orc_projection.specs.PresentIds.{PresentIds}
-use Rattle.orc_domain.proofs.Protecting.{same_then}
+use Rattle.orc_domain.proofs.Protecting.{same_self, same_then}
 use Rattle.orc_domain.proofs.Searching.{idle_none}
-use Rattle.orc_domain.proofs.Seats.{only, sets}
+use Rattle.orc_domain.proofs.Seats.{only, sets, step_events}
 use Rattle.orc_domain.proofs.Setting.{clear_may, set_same, set_twice}
 use Rattle.orc_domain.proofs.Stages.{Stage, Steps, leaves_by, leaves_none, leaves_then, seat}
 use Rattle.orc_machine_board.proofs.Licences.{has_either}
 use Rattle.orc_domain.specs.Calls.{SameParts, Unlocks}
 use Rattle.orc_domain.specs.Changes.{Becomes, IsCountable}
-use Rattle.orc_machine_rest.specs.OwnSteps.{LeavesNothing}
+use Rattle.orc_machine_rest.specs.OwnSteps.{LeavesNothing, TakesInCleared}
 use Rattle.orc_domain.specs.Seats.{IsCalm, SetsSlot, seat_by, slot_by}
 use Rattle.orc_sound.proofs.ForRuns.{run_sound}
 use Rattle.orc_sound.proofs.Journals.{plain_lawful}
@@ -170,51 +171,37 @@ module _ {D N : Type 0} {d : discipline.Ghosts D N} {k : MachineShape N} (s : St
         leaves = leaves_by (asks (SetRetired r.row r.number)) None s t n m tt;
       }
 
+-- a step without an event that leaves slots and fresh row
+module _ {D N : Type 0} {d : discipline.Ghosts D N} {k : MachineShape N} (s t : Stage d k) (op : Op) (n : ℕ) (m : Steps op s n t) where
+  stepped : step_events (asks op) None s t n m ≡ [] → t.view.record_is.slots ≡ s.view.record_is.slots → t.view.record_is.fresh ≡ s.view.record_is.fresh
+      → TakesInCleared (op ∷ []) → Becomes (bounds_in k) t.view.record_is s.view t.view
+  stepped silent slots fresh in_order = record {
+    only = subst (λ es. Only es (seat s) (seat t)) silent (only (asks op) None s t n m slots fresh);
+    same = same_self t.view.record_is;
+    leaves = leaves_by (asks op) None s t n m in_order;
+  }
+
 -- the increment, and the try that may follow
 module _ {D N : Type 0} {d : discipline.Ghosts D N} {k : MachineShape N} (s t : Stage d k) (r n : ℕ) (c : IsCountable s.view.record_is)
     (inc : s.view.record_is.inc ≡ Some r) (m : Steps (Inc r) s n t) where
   pub counts_up : (u : Stage d k) → Becomes (bounds_in k) (record t.view.record_is { due = None }) t.view u.view
       → Becomes (bounds_in k) (record s.view.record_is { inc = None }) s.view u.view
-  counts_up u z =
-      let one = only (asks (Inc r)) None s t n m (ap (λ (e : Agent). e.slots) m.record_is) (ap (λ (e : Agent). e.fresh) m.record_is) in
-      record {
-        only = Only-trans (seat s) (seat t) (seat u) [] [] one z.only;
-        same = record {
-          enrolled = z.same.enrolled ∙ ap (λ (e : Agent). e.enrolled) m.record_is;
-          slots = z.same.slots ∙ ap (λ (e : Agent). e.slots) m.record_is;
-          fresh = z.same.fresh ∙ ap (λ (e : Agent). e.fresh) m.record_is;
-          due = z.same.due ∙ sym c.due;
-          inc = z.same.inc ∙ ap (λ (e : Agent). e.inc) m.record_is;
-          dec = z.same.dec ∙ ap (λ (e : Agent). e.dec) m.record_is;
-          doom = z.same.doom ∙ ap (λ (e : Agent). e.doom) m.record_is;
-          scan = z.same.scan ∙ ap (λ (e : Agent). e.scan) m.record_is;
-        };
-        leaves = leaves_then s.view.agent s.view.journal t.view.journal u.view.journal (leaves_by (asks (Inc r)) None s t n m tt)
-            (subst (λ a. LeavesNothing a t.view.journal u.view.journal) m.agent z.leaves);
-      }
+  counts_up u z = becomes_then (bounds_in k) t.view.record_is (record t.view.record_is { due = None }) (record s.view.record_is { inc = None })
+      s.view t.view u.view
+      (stepped s t (Inc r) n m refl (ap (λ (e : Agent). e.slots) m.record_is) (ap (λ (e : Agent). e.fresh) m.record_is) tt) z
+      (subst (λ (e : Agent). SameParts (record s.view.record_is { inc = None }) (record e { due = None })) (sym m.record_is)
+      (record { enrolled = refl; slots = refl; fresh = refl; due = sym c.due; inc = refl; dec = refl; doom = refl; scan = refl }))
 
 -- the decrement under a hold, and the try that may follow
 module _ {D N : Type 0} {d : discipline.Ghosts D N} {k : MachineShape N} (s t : Stage d k) (r n : ℕ) (c : IsCountable s.view.record_is)
     (m : Steps (DecHeld r) s n t) where
   pub counts_down_held : (u : Stage d k) → Becomes (bounds_in k) (record t.view.record_is { due = None }) t.view u.view
       → Becomes (bounds_in k) (record s.view.record_is { dec = None }) s.view u.view
-  counts_down_held u z =
-      let one = only (asks (DecHeld r)) None s t n m (ap (λ (e : Agent). e.slots) m.record_is) (ap (λ (e : Agent). e.fresh) m.record_is) in
-      record {
-        only = Only-trans (seat s) (seat t) (seat u) [] [] one z.only;
-        same = record {
-          enrolled = z.same.enrolled ∙ ap (λ (e : Agent). e.enrolled) m.record_is;
-          slots = z.same.slots ∙ ap (λ (e : Agent). e.slots) m.record_is;
-          fresh = z.same.fresh ∙ ap (λ (e : Agent). e.fresh) m.record_is;
-          due = z.same.due ∙ sym c.due;
-          inc = z.same.inc ∙ ap (λ (e : Agent). e.inc) m.record_is;
-          dec = z.same.dec ∙ ap (λ (e : Agent). e.dec) m.record_is;
-          doom = z.same.doom ∙ ap (λ (e : Agent). e.doom) m.record_is;
-          scan = z.same.scan ∙ ap (λ (e : Agent). e.scan) m.record_is;
-        };
-        leaves = leaves_then s.view.agent s.view.journal t.view.journal u.view.journal (leaves_by (asks (DecHeld r)) None s t n m tt)
-            (subst (λ a. LeavesNothing a t.view.journal u.view.journal) m.agent z.leaves);
-      }
+  counts_down_held u z = becomes_then (bounds_in k) t.view.record_is (record t.view.record_is { due = None }) (record s.view.record_is { dec = None })
+      s.view t.view u.view
+      (stepped s t (DecHeld r) n m refl (ap (λ (e : Agent). e.slots) m.record_is) (ap (λ (e : Agent). e.fresh) m.record_is) tt) z
+      (subst (λ (e : Agent). SameParts (record s.view.record_is { dec = None }) (record e { due = None })) (sym m.record_is)
+      (record { enrolled = refl; slots = refl; fresh = refl; due = sym c.due; inc = refl; dec = refl; doom = refl; scan = refl }))
 
 held_other : (o : Option ℕ) (r : ℕ) → names o r ≡ false → holds_fresh o (Held r) ≡ false
 held_other None r h = refl
@@ -302,7 +289,7 @@ module _ {D N : Type 0} {d : discipline.Ghosts D N} {k : MachineShape N} (s t : 
           }
 
 -- a record without a pending decrement
-pub without_dec : (d e : Agent) → SameParts d e → SameParts (record d { dec = None }) (record e { dec = None })
+without_dec : (d e : Agent) → SameParts d e → SameParts (record d { dec = None }) (record e { dec = None })
 without_dec d e p = record { enrolled = p.enrolled; slots = p.slots; fresh = p.fresh; due = p.due; inc = p.inc; dec = refl; doom = p.doom; scan = p.scan }
 
 pub without_due : (d : Agent) → d.due ≡ None → SameParts (record d { due = None }) d
@@ -312,5 +299,15 @@ pub without_inc : (d : Agent) → d.inc ≡ None → SameParts (record d { inc =
 without_inc d e = record { enrolled = refl; slots = refl; fresh = refl; due = refl; inc = e; dec = refl; doom = refl; scan = refl }
 
 -- with neither pending
-pub without_both : (d e : Agent) → SameParts (record d { inc = None }) e → e.dec ≡ None → SameParts (record d { inc = None; dec = None }) e
+without_both : (d e : Agent) → SameParts (record d { inc = None }) e → e.dec ≡ None → SameParts (record d { inc = None; dec = None }) e
 without_both d e p none = record { enrolled = p.enrolled; slots = p.slots; fresh = p.fresh; due = p.due; inc = p.inc; dec = none; doom = p.doom; scan = p.scan }
+
+module _ {N : Type 0} (b : Bounds) (s t : MachineView N) where
+  -- the new target was counted; then there is no old one, or it was counted, too
+  module _ (first : Becomes b (record s.record_is { inc = None }) s t) where
+    pub none_down : s.record_is.dec ≡ None → Becomes b (record s.record_is { inc = None; dec = None }) s t
+    none_down none = record { only = first.only; same = without_both s.record_is t.record_is first.same (first.same.dec ∙ none); leaves = first.leaves }
+
+    pub down_too : (u : MachineView N) → Becomes b (record t.record_is { dec = None }) t u → Becomes b (record s.record_is { inc = None; dec = None }) s u
+    down_too u second = becomes_then b (record s.record_is { inc = None }) (record t.record_is { dec = None }) (record s.record_is { inc = None; dec = None }) s t u
+        first second (without_dec (record s.record_is { inc = None }) t.record_is first.same)

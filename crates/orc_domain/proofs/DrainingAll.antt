@@ -24,7 +24,7 @@ use Rattle.orc_machine_board.specs.declared.machine.Request.{Request}
 use Rattle.orc_projection.specs.Projection.{project}
 use Rattle.orc_domain.proofs.Numbered.{agents_differ, number_at, numbered_all, numbered_by}
 use Rattle.orc_domain.proofs.InTurn.{goes_further, nothing_more, rests, turns_same}
-use Rattle.orc_domain.proofs.NextDrain.{drains_next}
+use Rattle.orc_domain.proofs.NextDrain.{drains_next, mine}
 use Rattle.orc_domain.specs.Drains.{AreNumbered, DrainInTurn}
 use Rattle.orc_domain.specs.Ends.{AddsNoEvents, AreAll, AreIdle, HaveNoBacklog, IsNoLonger, SawAll, SawOneList, whole_journal}
 use Rattle.orc_domain.specs.Passes.{IsPassOf, domain_bounds, journal_of, seat_of}
@@ -65,12 +65,6 @@ module _ {D N : Type 0} {d : discipline.Ghosts D N} {m : machine.Ghosts Reclaimi
     abbrev seat : Pass d m → Seat N
     seat p = seat_of domain p
 
-    abbrev journal : Pass d m → List (Step N)
-    journal p = journal_of p
-
-    mine : (p : Pass d m) → IsPassOf domain p → record_at (run_of (domain_bounds domain) (journal p)) (seat p).agent ≡ (shows p.pass).record_is
-    mine p h = h.board.keeps.now.mine
-
     module _ (ps : List (Pass d m)) (w : Pass d m) (ws : List (Pass d m)) (is : ps ≡ w ∷ ws) (all : AreAll domain ps) (idle : AreIdle domain ps)
       where
         same_all : AreAll domain (w ∷ ws)
@@ -88,12 +82,12 @@ module _ {D N : Type 0} {d : discipline.Ghosts D N} {m : machine.Ghosts Reclaimi
         pub first_differs : AllByRecursion (λ p. (seat w).agent ≢ (seat p).agent) ws
         first_differs = differ w ws numbered
 
-        module _ (w2 : Pass d m) (ys : List (Pass d m)) (l2 : LearnsAll seat by journal w w2 ws ys) where
-          heard : Pairwise (HearsAll seat by journal (journal w2)) (w ∷ ws) (w2 ∷ ys)
+        module _ (w2 : Pass d m) (ys : List (Pass d m)) (l2 : LearnsAll seat by journal_of w w2 ws ys) where
+          heard : Pairwise (HearsAll seat by journal_of (journal_of w2)) (w ∷ ws) (w2 ∷ ys)
           heard = l2.each
 
           same2 : Pairwise (HoldsSame seat) (w ∷ ws) (w2 ∷ ys)
-          same2 = pairwise_map (HearsAll seat by journal (journal w2)) (HoldsSame seat) (λ p q h. h.hears.same)
+          same2 = pairwise_map (HearsAll seat by journal_of (journal_of w2)) (HoldsSame seat) (λ p q h. h.hears.same)
               (w ∷ ws) (w2 ∷ ys) heard
 
           numbered2 : AreNumbered seat 0 (w2 ∷ ys)
@@ -102,8 +96,8 @@ module _ {D N : Type 0} {d : discipline.Ghosts D N} {m : machine.Ghosts Reclaimi
           pub idle2 : AllByRecursion (λ p. IsIdle (seat p)) (w2 ∷ ys)
           idle2 = idle_all seat (w ∷ ws) (w2 ∷ ys) same2 idle_first
 
-          one_list : AllByRecursion (λ p. journal p ≡ journal w2) (w2 ∷ ys)
-          one_list = pairwise_all (HearsAll seat by journal (journal w2)) (λ p. IsIdle (seat p)) (λ q. journal q ≡ journal w2)
+          one_list : AllByRecursion (λ p. journal_of p ≡ journal_of w2) (w2 ∷ ys)
+          one_list = pairwise_all (HearsAll seat by journal_of (journal_of w2)) (λ p. IsIdle (seat p)) (λ q. journal_of q ≡ journal_of w2)
               (λ p q h _. h.seen) (w ∷ ws) (w2 ∷ ys) heard idle_first
 
           long2 : length (w2 ∷ ys) ≡ (domain_bounds domain).agents
@@ -115,22 +109,22 @@ module _ {D N : Type 0} {d : discipline.Ghosts D N} {m : machine.Ghosts Reclaimi
               pub numbered_others : AreNumbered seat (suc (seat w3).agent) ys
               numbered_others = subst (λ n. AreNumbered seat (suc n) ys) (sym (only.puts.agent ∙ numbered2.0)) numbered2.1
 
-              more3 : IsPrefix (journal w2) (journal w3)
+              more3 : IsPrefix (journal_of w2) (journal_of w3)
               more3 = (drains.adds.part, sym drains.adds.journal)
 
-              pub seen_others : AllByRecursion (λ p. IsPrefix (journal p) (journal w3)) ys
-              seen_others = recursion_from_All (λ p. IsPrefix (journal p) (journal w3)) ys (λ i p l.
-                  subst (λ z. IsPrefix z (journal w3)) (sym (All-from_recursion (λ q. journal q ≡ journal w2) ys one_list.1 i p l)) more3)
+              pub seen_others : AllByRecursion (λ p. IsPrefix (journal_of p) (journal_of w3)) ys
+              seen_others = recursion_from_All (λ p. IsPrefix (journal_of p) (journal_of w3)) ys (λ i p l.
+                  subst (λ z. IsPrefix z (journal_of w3)) (sym (All-from_recursion (λ q. journal_of q ≡ journal_of w2) ys one_list.1 i p l)) more3)
 
-              module _ (w4 : Pass d m) (zs : List (Pass d m)) (later : Hears seat by journal w3 w4) (same : journal w4 ≡ journal w3)
-                  (turns : DrainInTurn seat journal (domain_bounds domain) (journal w3) ys zs)
+              module _ (w4 : Pass d m) (zs : List (Pass d m)) (later : Hears seat by journal_of w3 w4) (same : journal_of w4 ≡ journal_of w3)
+                  (turns : DrainInTurn seat journal_of (domain_bounds domain) (journal_of w3) ys zs)
                 where
-                  all_turns : DrainInTurn seat journal (domain_bounds domain) (journal w2) (w2 ∷ ys) (w4 ∷ zs)
+                  all_turns : DrainInTurn seat journal_of (domain_bounds domain) (journal_of w2) (w2 ∷ ys) (w4 ∷ zs)
                   all_turns = (
-                    drains_next domain (journal w2) w2 w2 w3 w4 is2 idle2.0 is3 idle3
-                        (record { same = record { agent = refl; slots = refl; fresh = refl }; more = ([], nil (journal w2)); own = refl }) refl drains only
+                    drains_next domain (journal_of w2) w2 w2 w3 w4 is2 idle2.0 is3 idle3
+                        (record { same = record { agent = refl; slots = refl; fresh = refl }; more = ([], nil (journal_of w2)); own = refl }) refl drains only
                         later same,
-                    subst (λ z. DrainInTurn seat journal (domain_bounds domain) z ys zs) (sym same) turns,
+                    subst (λ z. DrainInTurn seat journal_of (domain_bounds domain) z ys zs) (sym same) turns,
                   )
                     where
                       nil : (l : List (Step N)) → l ++ [] ≡ l
@@ -138,7 +132,7 @@ module _ {D N : Type 0} {d : discipline.Ghosts D N} {m : machine.Ghosts Reclaimi
                       nil (x ∷ l) = ap (λ z. x ∷ z) (nil l)
 
                   same4 : Pairwise (HoldsSame seat) (w2 ∷ ys) (w4 ∷ zs)
-                  same4 = turns_same seat journal (domain_bounds domain) (journal w2) (w2 ∷ ys) (w4 ∷ zs) all_turns
+                  same4 = turns_same seat journal_of (domain_bounds domain) (journal_of w2) (w2 ∷ ys) (w4 ∷ zs) all_turns
 
                   numbered4 : AreNumbered seat 0 (w4 ∷ zs)
                   numbered4 = numbered_all seat 0 (w2 ∷ ys) (w4 ∷ zs) same4 numbered2
@@ -146,24 +140,24 @@ module _ {D N : Type 0} {d : discipline.Ghosts D N} {m : machine.Ghosts Reclaimi
                   pub third_differs : AllByRecursion (λ p. (seat w4).agent ≢ (seat p).agent) zs
                   third_differs = differ w4 zs numbered4
 
-                  module _ (w6 : Pass d m) (ts : List (Pass d m)) (l6 : LearnsAll seat by journal w4 w6 zs ts) (is6 : IsPassOf domain w6)
+                  module _ (w6 : Pass d m) (ts : List (Pass d m)) (l6 : LearnsAll seat by journal_of w4 w6 zs ts) (is6 : IsPassOf domain w6)
                       (others6 : AllByRecursion (λ p. IsPassOf domain p) ts)
                     where
                       abbrev f : List (Step N)
-                      f = journal w6
+                      f = journal_of w6
 
-                      hear : Pairwise (HearsAll seat by journal f) (w4 ∷ zs) (w6 ∷ ts)
+                      hear : Pairwise (HearsAll seat by journal_of f) (w4 ∷ zs) (w6 ∷ ts)
                       hear = l6.each
 
-                      within : (top : List (Step N)) → AllByRecursion (λ p. IsPrefix (journal p) top) (w4 ∷ zs) → IsPrefix f top
-                      within top = one_of_all seat by journal (λ z. IsPrefix z top) (w4 ∷ zs) f l6.longest
+                      within : (top : List (Step N)) → AllByRecursion (λ p. IsPrefix (journal_of p) top) (w4 ∷ zs) → IsPrefix f top
+                      within top = one_of_all seat by journal_of (λ z. IsPrefix z top) (w4 ∷ zs) f l6.longest
 
                       same6 : Pairwise (HoldsSame seat) (w ∷ ws) (w6 ∷ ts)
                       same6 = pairwise_join (HoldsSame seat) (HoldsSame seat) (HoldsSame seat) (same_trans seat)
                           (w ∷ ws) (w4 ∷ zs) (w6 ∷ ts)
                           (pairwise_join (HoldsSame seat) (HoldsSame seat) (HoldsSame seat) (same_trans seat)
                           (w ∷ ws) (w2 ∷ ys) (w4 ∷ zs) same2 same4)
-                          (pairwise_map (HearsAll seat by journal f) (HoldsSame seat) (λ p q h. h.hears.same)
+                          (pairwise_map (HearsAll seat by journal_of f) (HoldsSame seat) (λ p q h. h.hears.same)
                           (w4 ∷ zs) (w6 ∷ ts) hear)
 
                       numbered6 : AreNumbered seat 0 (w6 ∷ ts)
@@ -186,19 +180,19 @@ module _ {D N : Type 0} {d : discipline.Ghosts D N} {m : machine.Ghosts Reclaimi
                       idle_after = All-from_recursion (λ p. IsIdle (seat p)) (w6 ∷ ts) (idle_all seat (w ∷ ws) (w6 ∷ ts) same6 idle_first)
 
                       one_after : SawOneList (w6 ∷ ts)
-                      one_after = All-from_recursion (λ p. journal p ≡ f) (w6 ∷ ts)
-                          (pairwise_all (HearsAll seat by journal f) (λ p. IsIdle (seat p)) (λ q. journal q ≡ f)
+                      one_after = All-from_recursion (λ p. journal_of p ≡ f) (w6 ∷ ts)
+                          (pairwise_all (HearsAll seat by journal_of f) (λ p. IsIdle (seat p)) (λ q. journal_of q ≡ f)
                           (λ p q h _. h.seen) (w4 ∷ zs) (w6 ∷ ts) hear (idle_all seat (w2 ∷ ys) (w4 ∷ zs) same4 idle2))
 
                       own_after : SawAll (w6 ∷ ts)
                       own_after i p l = ap (steps_of (seat (slice_index_or (w6 ∷ ts) i p)).agent) (sym (one_after i p l))
 
-                      reached : IsReachedState (run_of (domain_bounds domain) (journal w2))
+                      reached : IsReachedState (run_of (domain_bounds domain) (journal_of w2))
                       reached = record {
                         bounds = domain_bounds domain;
-                        steps = plain (journal w2);
+                        steps = plain (journal_of w2);
                         shape = in_range domain.board.words.shape.shape;
-                        lawful = plain_lawful _ (journal w2) is2.board.keeps.now.lawful.0;
+                        lawful = plain_lawful _ (journal_of w2) is2.board.keeps.now.lawful.0;
                         is = refl;
                       }
 
@@ -206,12 +200,12 @@ module _ {D N : Type 0} {d : discipline.Ghosts D N} {m : machine.Ghosts Reclaimi
                       some = let e = long2 in omega (arith, e)
 
                       rest_after : IsAtRest (run_of (domain_bounds domain) f)
-                      rest_after = rests seat journal domain.board.words.shape (journal w2) (w2 ∷ ys) (w4 ∷ zs) all_turns numbered2 one_list
+                      rest_after = rests seat journal_of domain.board.words.shape (journal_of w2) (w2 ∷ ys) (w4 ∷ zs) all_turns numbered2 one_list
                           (domain_bounds domain).agents long2 w2 (w6 ∷ ts) f hear within some is6.board.keeps.now.below reached
-                          (ap (λ (x : Bounds). x.agents) (bounds_run (domain_bounds domain) (journal w2)))
+                          (ap (λ (x : Bounds). x.agents) (bounds_run (domain_bounds domain) (journal_of w2)))
 
-                      nothing_after : project (domain_bounds domain) f ≡ project (domain_bounds domain) (journal w2)
-                      nothing_after = nothing_more seat journal domain.board.words.shape (journal w2) (w2 ∷ ys) (w4 ∷ zs) all_turns numbered2 one_list
+                      nothing_after : project (domain_bounds domain) f ≡ project (domain_bounds domain) (journal_of w2)
+                      nothing_after = nothing_more seat journal_of domain.board.words.shape (journal_of w2) (w2 ∷ ys) (w4 ∷ zs) all_turns numbered2 one_list
                           (domain_bounds domain).agents long2 w2 (w6 ∷ ts) f hear within some is6.board.keeps.now.below
 
                       settled_after : HaveNoBacklog (w6 ∷ ts)
@@ -220,37 +214,37 @@ module _ {D N : Type 0} {d : discipline.Ghosts D N} {m : machine.Ghosts Reclaimi
                           let g = passes6 i p l in
                           let low : (seat q).agent < (run_of (domain_bounds domain) f).bounds.agents = subst (λ (x : Bounds). (seat q).agent < x.agents)
                           (sym (bounds_run (domain_bounds domain) f)) g.board.keeps.number in
-                          let r = subst IsResting (ap (λ z. record_at (run_of (domain_bounds domain) z) (seat q).agent) (sym (one_after i p l)) ∙ mine q g)
+                          let r = subst IsResting (ap (λ z. record_at (run_of (domain_bounds domain) z) (seat q).agent) (sym (one_after i p l)) ∙ mine domain q g)
                           (rest_after.agents (seat q).agent low) in
                           λ k. length (r.list k) + cond (is_some (r.hand k) || is_some (r.scan k)) 1 0
 
-                      further : IsPrefix (journal w2) f
-                      further = goes_further seat journal domain.board.words.shape (journal w2) (w2 ∷ ys) (w4 ∷ zs) all_turns numbered2 one_list
+                      further : IsPrefix (journal_of w2) f
+                      further = goes_further seat journal_of domain.board.words.shape (journal_of w2) (w2 ∷ ys) (w4 ∷ zs) all_turns numbered2 one_list
                           (domain_bounds domain).agents long2 w2 (w6 ∷ ts) f hear within some is6.board.keeps.now.below
 
-                      heard_each : (vs qs : List (Pass d m)) → Pairwise (HearsAll seat by journal (journal w2)) vs qs
-                          → AllByRecursion (λ p. IsPrefix (journal p) f) vs
+                      heard_each : (vs qs : List (Pass d m)) → Pairwise (HearsAll seat by journal_of (journal_of w2)) vs qs
+                          → AllByRecursion (λ p. IsPrefix (journal_of p) f) vs
                       heard_each [] [] h = tt
                       heard_each (v ∷ vs) (q ∷ qs) h = (
-                        goes_on (journal v) (journal w2) f (subst (IsPrefix (journal v)) h.0.seen h.0.hears.more) further,
+                        goes_on (journal_of v) (journal_of w2) f (subst (IsPrefix (journal_of v)) h.0.seen h.0.hears.more) further,
                         heard_each vs qs h.1,
                       )
                       heard_each [] (q ∷ qs) h = absurd h
                       heard_each (v ∷ vs) [] h = absurd h
 
                       heard_after : All (λ p. IsPrefix (journal_of p) (whole_journal (w6 ∷ ts))) ps
-                      heard_after = subst (All (λ p. IsPrefix (journal p) f)) (sym is)
-                          (All-from_recursion (λ p. IsPrefix (journal p) f) (w ∷ ws) (heard_each (w ∷ ws) (w2 ∷ ys) heard))
+                      heard_after = subst (All (λ p. IsPrefix (journal_of p) f)) (sym is)
+                          (All-from_recursion (λ p. IsPrefix (journal_of p) f) (w ∷ ws) (heard_each (w ∷ ws) (w2 ∷ ys) heard))
 
-                      first_more : IsPrefix (journal w) f
-                      first_more = goes_on (journal w) (journal w2) f heard.0.hears.more further
+                      first_more : IsPrefix (journal_of w) f
+                      first_more = goes_on (journal_of w) (journal_of w2) f heard.0.hears.more further
 
                       later_after : IsPrefix (whole_journal ps) (whole_journal (w6 ∷ ts))
                       later_after = subst (λ z. IsPrefix (whole_journal z) f) (sym is) first_more
 
                       -- what is true of each list that a pass had seen is true of the one that all saw
-                      one_of : (P : List (Step N) → Type 0) → All (λ p. P (journal p)) (w ∷ ws) → P (journal w2)
-                      one_of P h = one_of_all seat by journal P (w ∷ ws) (journal w2) l2.longest (recursion_from_All (λ p. P (journal p)) (w ∷ ws) h)
+                      one_of : (P : List (Step N) → Type 0) → All (λ p. P (journal_of p)) (w ∷ ws) → P (journal_of w2)
+                      one_of P h = one_of_all seat by journal_of P (w ∷ ws) (journal_of w2) l2.longest (recursion_from_All (λ p. P (journal_of p)) (w ∷ ws) h)
 
                       longest_after : IsNoLonger domain ps (w6 ∷ ts)
                       longest_after most h = subst (λ (z : List (Event N)). length z ≤ most) (sym nothing_after)
@@ -258,7 +252,7 @@ module _ {D N : Type 0} {d : discipline.Ghosts D N} {m : machine.Ghosts Reclaimi
 
                       quiet_after : AddsNoEvents domain ps (w6 ∷ ts)
                       quiet_after j h = nothing_after ∙ ap (project (domain_bounds domain))
-                          (one_of (λ z. z ≡ j) (subst (λ z. All (λ p. journal p ≡ j) z) is h))
+                          (one_of (λ z. z ≡ j) (subst (λ z. All (λ p. journal_of p ≡ j) z) is h))
 
                       pub drained : Drained domain ps (w6 ∷ ts)
                       drained = record {

@@ -148,10 +148,17 @@ target_held : (b : Bounds) (d : Agent) (o : Option ℕ) → may_target b d o ≡
 target_held b d None h = λ r e. cc
 target_held b d (Some r) h = λ q e. let same : r ≡ q = cc in subst (λ z. any_holds d.slots z ≡ true) same (and_both (nat_lt r b.rows) (any_holds d.slots r) h).1
 
-module _ {D N : Type 0} {d : discipline.Ghosts D N} {k : MachineShape N} (s t : Stage d k) (at : At) (from to : Want) (note : Option N) (n : ℕ)
-    (m : Makes (bounds_in k) (asks (LinkCas (word_at at) (row_link from) (row_link to))) note s.view n t.view) (is : Between s)
-    (there : HoldsPlace (heap_numbers k) (seat s).slots at) (other : IsNotFresh (seat s) at)
-    (hf : HoldsWant (seat s).slots from) (ht : HoldsWant (seat s).slots to) where
+-- a pass between calls tried to exchange the link at a place
+pub record Exchanges {D N : Type 0} {d : discipline.Ghosts D N} {k : MachineShape N} (s t : Stage d k) (at : At) (from to : Want) (note : Option N) (n : ℕ) : Type 0
+  where
+    pub makes : Makes (bounds_in k) (asks (LinkCas (word_at at) (row_link from) (row_link to))) note s.view n t.view
+    pub is : Between s
+    pub there : HoldsPlace (heap_numbers k) (seat s).slots at
+    pub other : IsNotFresh (seat s) at
+    pub links : HoldsWant (seat s).slots from × HoldsWant (seat s).slots to
+
+module _ {D N : Type 0} {d : discipline.Ghosts D N} {k : MachineShape N} {s t : Stage d k} {at : At} {from to : Want} {note : Option N} {n : ℕ}
+    (a : Exchanges s t at from to note n) where
   abbrev b : Bounds
   b = bounds_in k
 
@@ -168,13 +175,13 @@ module _ {D N : Type 0} {d : discipline.Ghosts D N} {k : MachineShape N} (s t : 
   q = asks (LinkCas (word_at at) (row_link from) (row_link to))
 
   abbrev j : List (Step N)
-  j = s.view.journal ++ m.met
+  j = s.view.journal ++ a.makes.met
 
   abbrev x : Place
   x = place_in (seat s).slots at
 
   abbrev g : ℕ
-  g = word_in (run_of (bounds_in k) (s.view.journal ++ m.met)) (word_at at)
+  g = word_in (run_of (bounds_in k) (s.view.journal ++ a.makes.met)) (word_at at)
 
   place_has : (p : At) → HoldsPlace (heap_numbers k) (seat s).slots p → HasPlace s.view.record_is (word_at p)
   place_has (AtRoot r) h = tt
@@ -183,39 +190,39 @@ module _ {D N : Type 0} {d : discipline.Ghosts D N} {k : MachineShape N} (s t : 
 
   -- the links and the place, where the step stands
   place_there : node_place (present_ids b j) w ≡ Some x
-  place_there = same_place (ids_of b s.view) (present_ids b j) s.view.record_is (before_keep q note s t n m) w (place_has at there)
-      ∙ place_named (ids_of b s.view) (heap_numbers k) s.view.record_is.slots at there
+  place_there = same_place (ids_of b s.view) (present_ids b j) s.view.record_is (before_keep q note s t n a.makes) w (place_has at a.there)
+      ∙ place_named (ids_of b s.view) (heap_numbers k) s.view.record_is.slots at a.there
 
   from_there : node_link (present_ids b j) f ≡ link_in (seat s).slots from
-  from_there = same_link (ids_of b s.view) (present_ids b j) s.view.record_is (before_keep q note s t n m) f (want_has s from hf)
-      ∙ link_named (ids_of b s.view) s.view.record_is.slots from hf
+  from_there = same_link (ids_of b s.view) (present_ids b j) s.view.record_is (before_keep q note s t n a.makes) f (want_has s from a.links.0)
+      ∙ link_named (ids_of b s.view) s.view.record_is.slots from a.links.0
 
   to_there : node_link (present_ids b j) l ≡ link_in (seat s).slots to
-  to_there = same_link (ids_of b s.view) (present_ids b j) s.view.record_is (before_keep q note s t n m) l (want_has s to ht)
-      ∙ link_named (ids_of b s.view) s.view.record_is.slots to ht
+  to_there = same_link (ids_of b s.view) (present_ids b j) s.view.record_is (before_keep q note s t n a.makes) l (want_has s to a.links.1)
+      ∙ link_named (ids_of b s.view) s.view.record_is.slots to a.links.1
 
   -- the agent still holds the old target, which may have to be counted down
   pub old_held : ForSome (cond (same_target f.to l.to) None f.to) (λ r. any_holds t.view.record_is.slots r ≡ true)
-  old_held = subst (λ (e : Agent). ForSome (cond (same_target f.to l.to) None f.to) (λ r. any_holds e.slots r ≡ true)) (sym m.record_is)
+  old_held = subst (λ (e : Agent). ForSome (cond (same_target f.to l.to) None f.to) (λ r. any_holds e.slots r ≡ true)) (sym a.makes.record_is)
       (cases (same_target f.to l.to))
     where
       cases : (c : Bool) → ForSome (cond c None f.to) (λ r. any_holds s.view.record_is.slots r ≡ true)
       cases true = λ r e. cc
-      cases false = target_held (bounds_in k) s.view.record_is f.to (want_target s from hf)
+      cases false = target_held (bounds_in k) s.view.record_is f.to (want_target s from a.links.0)
 
   -- the step as one that leaves nothing
-  leaves_it : LeavesNothing s.view.agent s.view.journal t.view.journal
-  leaves_it = leaves_by q note s t n m tt
+  pub exchange_leaves : LeavesNothing s.view.agent s.view.journal t.view.journal
+  exchange_leaves = leaves_by q note s t n a.makes tt
 
   -- the link was another one
   module _ (lost : n ≢ 1) where
     not_won : (g == link_word f) ≡ false
-    not_won = was_false (g == link_word f) n m.answer lost
+    not_won = was_false (g == link_word f) n a.makes.answer lost
 
     abbrev found : Link
     found = node_link (present_ids b j) (link_of g)
 
-    event : step_events q note s t n m ≡ event_by s.view.agent (Miss x (link_in (seat s).slots from) found) None ∷ []
+    event : step_events q note s t n a.makes ≡ event_by s.view.agent (Miss x (link_in (seat s).slots from) found) None ∷ []
     event =
         ap (λ (o : Option Place). events_of (step_of s.view.agent q note) (option_map (exchange_act (present_ids b j) g f l) o)) place_there
         ∙ (ap (λ (c : Bool). events_of (step_of s.view.agent q note)
@@ -223,28 +230,25 @@ module _ {D N : Type 0} {d : discipline.Ghosts D N} {k : MachineShape N} (s t : 
         ∙ ap (λ z. event_by s.view.agent (Miss x z found) None ∷ []) from_there)
 
     unchanged : Only (event_by s.view.agent (Miss x (link_in (seat s).slots from) found) None ∷ []) (seat s) (seat t)
-    unchanged = subst (λ es. Only es (seat s) (seat t)) event (only q note s t n m (ap (λ (e : Agent). e.slots) m.record_is)
-        (ap (λ (e : Agent). e.fresh) m.record_is
+    unchanged = subst (λ es. Only es (seat s) (seat t)) event (only q note s t n a.makes (ap (λ (e : Agent). e.slots) a.makes.record_is)
+        (ap (λ (e : Agent). e.fresh) a.makes.record_is
         ∙ ap (λ (c : Bool). cond c (fresh_left f.to l.to s.view.record_is.fresh) s.view.record_is.fresh) not_won))
 
     pub misses : Swings at from to note (seat s) false (seat t)
     misses =
-        let fits = event_fits b j (its_step q note s t n m) (in_range k.shape) (whole_lawful q note s t n m) (subst StoresUnmarked m.journal t.unmarked) in
+        let fits = event_fits b j (its_step q note s t n a.makes) (in_range k.shape) (whole_lawful q note s t n a.makes) (subst StoresUnmarked a.makes.journal t.unmarked) in
         let fit = subst (Each (FitsAfter (heap_numbers k) (project b j))) event fits in
         record { slots = unchanged.slots; fresh = unchanged.fresh; puts = record { found = found; other = fit.1; puts = unchanged.puts } }
 
     pub missed_untouched : IsFreshUntouched (heap_numbers k) (seat t)
-    missed_untouched id e = still_untouched s t _ unchanged.puts (λ z. refl) id (is.untouched id (sym unchanged.fresh ∙ e))
-
-    pub missed_leaves : LeavesNothing s.view.agent s.view.journal t.view.journal
-    missed_leaves = leaves_it
+    missed_untouched id e = still_untouched s t _ unchanged.puts (λ z. refl) id (a.is.untouched id (sym unchanged.fresh ∙ e))
 
   -- it was the wanted one
   module _ (won : n ≡ 1) where
     is_won : (g == link_word f) ≡ true
-    is_won = was_true (g == link_word f) n m.answer won
+    is_won = was_true (g == link_word f) n a.makes.answer won
 
-    moved : step_events q note s t n m ≡ move_of (seat s) at from to note ∷ []
+    moved : step_events q note s t n a.makes ≡ move_of (seat s) at from to note ∷ []
     moved =
         ap (λ (o : Option Place). events_of (step_of s.view.agent q note) (option_map (exchange_act (present_ids b j) g f l) o)) place_there
         ∙ (ap (λ (c : Bool). events_of (step_of s.view.agent q note) (Some (if c then Move x (node_link (present_ids b j) f) (node_link (present_ids b j) l)
@@ -255,14 +259,14 @@ module _ {D N : Type 0} {d : discipline.Ghosts D N} {k : MachineShape N} (s t : 
     old_not_fresh : (r : ℕ) → f.to ≡ Some r → names s.view.record_is.fresh r ≡ false
     old_not_fresh r e =
         let e0 = s.view.record_is in
-        let same : link_of g ≡ f = ap link_of (eqb-true g (link_word f) is_won) ∙ link_back f (want_low s from hf) in
+        let same : link_of g ≡ f = ap link_of (eqb-true g (link_word f) is_won) ∙ link_back f (want_low s from a.links.0) in
         let target : (link_of g).to ≡ Some r = ap (λ (z : RowLink). z.to) same ∙ e in
-        old_other q note s t n m is w (λ y. any_holds e0.slots y && not (names e0.fresh y))
+        old_other q note s t n a.makes a.is w (λ y. any_holds e0.slots y && not (names e0.fresh y))
         (λ y h. has_either (any_holds e0.slots y) (names e0.fresh y) (and_both (any_holds e0.slots y) (not (names e0.fresh y)) h).0)
-        (cas_place s at there other) r target
+        (cas_place s at a.there a.other) r target
 
     fresh_now : t.view.record_is.fresh ≡ fresh_left f.to l.to s.view.record_is.fresh
-    fresh_now = ap (λ (e : Agent). e.fresh) m.record_is
+    fresh_now = ap (λ (e : Agent). e.fresh) a.makes.record_is
         ∙ ap (λ (c : Bool). cond c (fresh_left f.to l.to s.view.record_is.fresh) s.view.record_is.fresh) is_won
 
     -- rows that the agent has are different nodes
@@ -270,7 +274,7 @@ module _ {D N : Type 0} {d : discipline.Ghosts D N} {k : MachineShape N} (s t : 
     apart y z e o same =
         let e0 = s.view.record_is in
         let one : HasRow e0 y = or_right (any_holds e0.slots y) (names e0.fresh y) (ap (λ u. names u y) e ∙ eq-eqb y y refl) in
-        (mirrors s).apart y z (has_is_out s y one) (has_is_out s z (target_has to ht z o)) same
+        (mirrors s).apart y z (has_is_out s y one) (has_is_out s z (target_has to a.links.1 z o)) same
       where
         target_has : (v : Want) → HoldsWant (seat s).slots v → (z : ℕ) → (row_link v).to ≡ Some z → HasRow s.view.record_is z
         target_has (WantNull mark) h z e = cc
@@ -282,27 +286,27 @@ module _ {D N : Type 0} {d : discipline.Ghosts D N} {k : MachineShape N} (s t : 
         let p = ids_of b s.view in
         let r = ids_of b t.view in
         record {
-          slots = ap (map (slot_by r)) (ap (λ (e : Agent). e.slots) m.record_is) ∙ slots_keep q note s t n m;
+          slots = ap (map (slot_by r)) (ap (λ (e : Agent). e.slots) a.makes.record_is) ∙ slots_keep q note s t n a.makes;
           fresh = ap (option_map r.node) fresh_now
-              ∙ (same_fresh p r (fresh_left f.to l.to e0.fresh) (λ y h. ids_keep q note s t n m y (or_right (any_holds e0.slots y) (names e0.fresh y)
+              ∙ (same_fresh p r (fresh_left f.to l.to e0.fresh) (λ y h. ids_keep q note s t n a.makes y (or_right (any_holds e0.slots y) (names e0.fresh y)
               (left_less (same_target f.to l.to) (same_target e0.fresh l.to) e0.fresh y h)))
               ∙ (fresh_after p.node f.to l.to e0.fresh apart old_not_fresh
-              ∙ ap (λ (z : Link). unless_node (seat s).fresh z.to) (link_named p e0.slots to ht)));
-          puts = subst (λ es. Puts (seat s) es (seat t)) moved (puts q note s t n m);
+              ∙ ap (λ (z : Link). unless_node (seat s).fresh z.to) (link_named p e0.slots to a.links.1)));
+          puts = subst (λ es. Puts (seat s) es (seat t)) moved (puts q note s t n a.makes);
         }
 
     -- what is pending then
     pub swung_up : t.view.record_is.inc ≡ cond (same_target f.to l.to) None l.to
     swung_up =
         let e0 = s.view.record_is in
-        ap (λ (e : Agent). e.inc) m.record_is ∙ (ap (λ (c : Bool). cond c (cond (same_target f.to l.to) e0.inc l.to) e0.inc) is_won
-        ∙ ap (λ o. cond (same_target f.to l.to) o l.to) is.ready.inc)
+        ap (λ (e : Agent). e.inc) a.makes.record_is ∙ (ap (λ (c : Bool). cond c (cond (same_target f.to l.to) e0.inc l.to) e0.inc) is_won
+        ∙ ap (λ o. cond (same_target f.to l.to) o l.to) a.is.ready.inc)
 
     pub swung_down : t.view.record_is.dec ≡ cond (same_target f.to l.to) None f.to
     swung_down =
         let e0 = s.view.record_is in
-        ap (λ (e : Agent). e.dec) m.record_is ∙ (ap (λ (c : Bool). cond c (cond (same_target f.to l.to) e0.dec f.to) e0.dec) is_won
-        ∙ ap (λ o. cond (same_target f.to l.to) o f.to) is.ready.dec)
+        ap (λ (e : Agent). e.dec) a.makes.record_is ∙ (ap (λ (c : Bool). cond c (cond (same_target f.to l.to) e0.dec f.to) e0.dec) is_won
+        ∙ ap (λ o. cond (same_target f.to l.to) o f.to) a.is.ready.dec)
 
     pub countable : IsCountable t.view.record_is
     countable =
@@ -310,10 +314,10 @@ module _ {D N : Type 0} {d : discipline.Ghosts D N} {k : MachineShape N} (s t : 
         let inc = swung_up in
         let dec = swung_down in
         record {
-          enrolled = ap (λ (e : Agent). e.enrolled) m.record_is ∙ is.ready.enrolled;
-          eight = ap (λ (e : Agent). length e.slots) m.record_is ∙ is.ready.eight;
-          due = ap (λ (e : Agent). e.due) m.record_is ∙ is.ready.due;
-          zero = ap (λ (e : Agent). slot_of e 0) m.record_is ∙ is.ready.zero;
+          enrolled = ap (λ (e : Agent). e.enrolled) a.makes.record_is ∙ a.is.ready.enrolled;
+          eight = ap (λ (e : Agent). length e.slots) a.makes.record_is ∙ a.is.ready.eight;
+          due = ap (λ (e : Agent). e.due) a.makes.record_is ∙ a.is.ready.due;
+          zero = ap (λ (e : Agent). slot_of e 0) a.makes.record_is ∙ a.is.ready.zero;
           others = λ r h. ap (λ o. names o r) fresh_now ∙ ⊎_elim (λ e. inc_other f.to l.to e0.fresh r (sym inc ∙ e))
               (λ e. dec_other f.to l.to e0.fresh r old_not_fresh (sym dec ∙ e)) h;
         }
@@ -331,8 +335,8 @@ module _ {D N : Type 0} {d : discipline.Ghosts D N} {k : MachineShape N} (s t : 
       swung_untouched id e =
           let was = unless_some (seat s).fresh (link_in (seat s).slots to).to id (sym swings.fresh ∙ (sym z.only.fresh ∙ e)) in
           still_untouched t u [] z.only.puts (λ y. refl) id
-          (untouched_at s t (move_of (seat s) at from to note ∷ []) swings.puts id (ap (λ y. y || false) was.1) (is.untouched id was.0))
+          (untouched_at s t (move_of (seat s) at from to note ∷ []) swings.puts id (ap (λ y. y || false) was.1) (a.is.untouched id was.0))
 
       pub swung_leaves : LeavesNothing s.view.agent s.view.journal u.view.journal
-      swung_leaves = leaves_then s.view.agent s.view.journal t.view.journal u.view.journal leaves_it
-          (subst (λ a. LeavesNothing a t.view.journal u.view.journal) m.agent z.leaves)
+      swung_leaves = leaves_then s.view.agent s.view.journal t.view.journal u.view.journal exchange_leaves
+          (subst (λ a. LeavesNothing a t.view.journal u.view.journal) a.makes.agent z.leaves)

@@ -39,14 +39,16 @@ use Rattle.orc_projection.specs.PresentIds.{PresentIds, node_link, node_place}
 use Rattle.orc_projection.specs.Projection.{act_of, events_of, present_ids, project}
 use Rattle.orc_projection.specs.Taken.{LinksOut}
 use Rattle.orc_domain.proofs.Loading.{found_out, ids_same, load_may, look_event, looks_at}
+use Rattle.orc_domain.proofs.LeftParts.{same_by}
 use Rattle.orc_domain.proofs.Protecting.{either_way, held_ready, promoted_fresh, promoted_full, reload_may, target_named, true_false, word_row}
 use Rattle.orc_domain.proofs.Seats.{before_keep, ids_keep, ready_calm, sets}
 use Rattle.orc_domain.proofs.Setting.{clear_may, set_twice}
 use Rattle.orc_machine_rest.proofs.TakenIn.{done_then}
+use Rattle.orc_domain.proofs.Ending.{Ends}
 use Rattle.orc_domain.proofs.Stages.{Between, Stage, Steps, before_lawful, before_out, before_unmarked, done_one, seat}
 use Rattle.orc_domain.proofs.Untouched.{still_between, untouched_more}
 use Rattle.orc_domain.specs.Calls.{SameParts, Unlocks}
-use Rattle.orc_machine_rest.specs.OwnSteps.{HasDone}
+use Rattle.orc_machine_rest.specs.OwnSteps.{HasDone, LeavesNothing, TakesInCleared}
 use Rattle.orc_domain.specs.Seats.{IsCalm, SetsSlot, slot_by}
 use Rattle.orc_shared_words.proofs.Events.{others_add}
 use Rattle.orc_sound.specs.Journals.{IsLawfulJournal}
@@ -60,12 +62,13 @@ use Rattle.orc_words.specs.declared.place.Word.{Word}
 pub record Names (op : Op) (slot r : ℕ) : Type 0 where
   pub record_is : (e : Agent) (n : ℕ) → after op e n ≡ record e { slots = slice_set e.slots slot (cond (names e.fresh r) (Held r) (Published r)) }
   pub no_act : (p : PresentIds) (e : Agent) (n : ℕ) (want : Option RowLink) → act_of p e n op want ≡ None
+  pub clears_none : (ops : List Op) → TakesInCleared ops → TakesInCleared (op ∷ ops)
 
 pub publish_names : (slot r : ℕ) → Names (Publish slot r) slot r
-publish_names slot r = record { record_is = λ e n. refl; no_act = λ p e n want. refl }
+publish_names slot r = record { record_is = λ e n. refl; no_act = λ p e n want. refl; clears_none = λ ops in_order. in_order }
 
 pub move_names : (slot r : ℕ) → Names (MoveOn slot r) slot r
-move_names slot r = record { record_is = λ e n. refl; no_act = λ p e n want. refl }
+move_names slot r = record { record_is = λ e n. refl; no_act = λ p e n want. refl; clears_none = λ ops in_order. in_order }
 
 module _ {D N : Type 0} {d : discipline.Ghosts D N} {k : MachineShape N} where
   -- between calls, a load of the link at this place found this one
@@ -111,16 +114,8 @@ module _ {D N : Type 0} {d : discipline.Ghosts D N} {k : MachineShape N} {s t : 
       (looks_at s t w None (link_word one) l.made may_load x l.there refl)
 
   pub loaded_same : SameParts s.view.record_is t.view.record_is
-  loaded_same = record {
-    enrolled = ap (λ (e : Agent). e.enrolled) l.made.record_is;
-    slots = ap (λ (e : Agent). e.slots) l.made.record_is;
-    fresh = ap (λ (e : Agent). e.fresh) l.made.record_is;
-    due = ap (λ (e : Agent). e.due) l.made.record_is;
-    inc = ap (λ (e : Agent). e.inc) l.made.record_is;
-    dec = ap (λ (e : Agent). e.dec) l.made.record_is;
-    doom = ap (λ (e : Agent). e.doom) l.made.record_is;
-    scan = ap (λ (e : Agent). e.scan) l.made.record_is;
-  }
+  loaded_same = same_by s.view.record_is _ t.view.record_is l.made.record_is
+      (record { enrolled = refl; slots = refl; fresh = refl; due = refl; inc = refl; dec = refl; doom = refl; scan = refl })
 
   pub done1 : HasDone s.view.agent (LinkLoad w None ∷ []) s.view.journal t.view.journal
   done1 = done_one (asks (LinkLoad w None)) None s t (link_word one) l.made
@@ -267,11 +262,18 @@ module _ {D N : Type 0} {d : discipline.Ghosts D N} {k : MachineShape N} {s t : 
         pub not_null : (node_link (ids_of b t.view) one).to ≢ None
         not_null e = let some : Some ((ids_of b t.view).node r) ≡ None = sym (ap (option_map (ids_of b t.view).node) to) ∙ e in cc
 
-        pub done3 : HasDone s.view.agent (LinkLoad w None ∷ m.op ∷ LinkLoad w (Some slot) ∷ []) s.view.journal y.view.journal
+        done3 : HasDone s.view.agent (LinkLoad w None ∷ m.op ∷ LinkLoad w (Some slot) ∷ []) s.view.journal y.view.journal
         done3 = done_then s.view.agent s.view.journal u.view.journal y.view.journal (LinkLoad w None ∷ m.op ∷ [])
             (LinkLoad w (Some slot) ∷ []) done2
             (subst (λ a. HasDone a (LinkLoad w (Some slot) ∷ []) u.view.journal y.view.journal) agent2
             (done_one (asks (LinkLoad w (Some slot))) None u y (link_word two) g.made))
+
+        pub leaves3 : LeavesNothing s.view.agent s.view.journal y.view.journal
+        leaves3 = record {
+          ops = LinkLoad w None ∷ m.op ∷ LinkLoad w (Some slot) ∷ [];
+          done = done3;
+          taken_in = m.its.clears_none (LinkLoad w (Some slot) ∷ []) tt;
+        }
 
         -- the same link twice: the slot holds its target
         module _ (same : two ≡ one) where
@@ -293,6 +295,9 @@ module _ {D N : Type 0} {d : discipline.Ghosts D N} {k : MachineShape N} {s t : 
           held_between = still_between s y own l.between follows.puts follows.fresh (λ id. refl)
               (held_ready s.view.record_is y.view.record_is slot r m.above l.between.ready
               (subst (λ z. SameParts (record s.view.record_is { slots = slice_set s.view.record_is.slots slot z }) y.view.record_is) held reloaded_same))
+
+          pub held_ends : Ends s y
+          held_ends = record { between = held_between; leaves = leaves3 }
 
         pub calm3 : IsCalm y.view.record_is
         calm3 = let f = reloaded_same in let h = l.between.ready in
@@ -351,7 +356,14 @@ module _ {D N : Type 0} {d : discipline.Ghosts D N} {k : MachineShape N} {s t : 
             scan = f.scan ∙ h.scan;
           }
 
-          pub done5 : HasDone s.view.agent (LinkLoad w None ∷ m.op ∷ LinkLoad w (Some slot) ∷ Clear slot ∷ TakeIn slot ∷ []) s.view.journal z.view.journal
+          done5 : HasDone s.view.agent (LinkLoad w None ∷ m.op ∷ LinkLoad w (Some slot) ∷ Clear slot ∷ TakeIn slot ∷ []) s.view.journal z.view.journal
           done5 = done_then s.view.agent s.view.journal y.view.journal z.view.journal (LinkLoad w None ∷ m.op ∷ LinkLoad w (Some slot) ∷ [])
               (Clear slot ∷ TakeIn slot ∷ []) done3 (subst (λ a. HasDone a (Clear slot ∷ TakeIn slot ∷ []) y.view.journal z.view.journal)
               (g.made.agent ∙ agent2) un.done)
+
+          pub leaves5 : LeavesNothing s.view.agent s.view.journal z.view.journal
+          leaves5 = record {
+            ops = LinkLoad w None ∷ m.op ∷ LinkLoad w (Some slot) ∷ Clear slot ∷ TakeIn slot ∷ [];
+            done = done5;
+            taken_in = m.its.clears_none (LinkLoad w (Some slot) ∷ Clear slot ∷ TakeIn slot ∷ []) (refl, tt);
+          }

@@ -37,6 +37,7 @@ use Rattle.orc_projection.specs.Projection.{present_ids}
 use Rattle.orc_domain.proofs.Protecting.{empty_slot, held_ready, publish_may, still_ready}
 use Rattle.orc_domain.proofs.Seats.{calm_forced, ids_keep, only, ready_calm, sets}
 use Rattle.orc_machine_rest.proofs.TakenIn.{done_later}
+use Rattle.orc_domain.proofs.Ending.{Ends}
 use Rattle.orc_domain.proofs.Stages.{Between, Stage, Steps, done_one, leaves_by, leaves_then, seat}
 use Rattle.orc_machine_rest.specs.OwnSteps.{LeavesNothing}
 use Rattle.orc_domain.specs.Searches.{Gets}
@@ -83,6 +84,12 @@ module _ {D N : Type 0} {d : discipline.Ghosts D N} {k : MachineShape N} where
     pub low : r < (bounds_in k).rows
     pub got : Gets (bounds_in k) r s.view t.view
     pub between : Between s
+
+  -- the row was filled and published: the node is given
+  pub record Gave (s t : Stage d k) (r slot first second : ℕ) (w : Stage d k) : Type 0 where
+    pub gives : (h : Hold) → h ≡ record { row = r; slot = slot } → Gives (heap_numbers k) slot first second (seat s) h (seat w)
+    pub ends : Ends s w
+    pub filled : IsPrefix t.view.journal w.view.journal
 
   module _ (s t : Stage d k) (r : ℕ) (took : Took s t r) where
     abbrev b : Bounds
@@ -198,7 +205,7 @@ module _ {D N : Type 0} {d : discipline.Ghosts D N} {k : MachineShape N} where
               ∙ ap (with_value 1 second) (filled N s.view.agent id 0 first (new_node s.view.agent))) in
               subst (λ x. slice_get (run_heap n (seat w).seen).nodes id ≡ Some x) is there.there
 
-          pub gives : (h : Hold) → h ≡ record { row = r; slot = slot } → Gives (heap_numbers k) slot first second (seat s) h (seat w)
+          gives : (h : Hold) → h ≡ record { row = r; slot = slot } → Gives (heap_numbers k) slot first second (seat s) h (seat w)
           gives h e = subst (λ (z : Hold). Gives (heap_numbers k) slot first second (seat s) z (seat w)) (sym e) record {
             id = id;
             new = took.got.new;
@@ -222,7 +229,7 @@ module _ {D N : Type 0} {d : discipline.Ghosts D N} {k : MachineShape N} where
           }
 
           -- no link was made to the node
-          pub gives_between : Between w
+          gives_between : Between w
           gives_between =
               let g = gives (record { row = r; slot = slot }) refl in
               record {
@@ -234,12 +241,12 @@ module _ {D N : Type 0} {d : discipline.Ghosts D N} {k : MachineShape N} where
                     (record { node = given_node s.view.agent first second; there = g.node; mine = refl; unnamed = refl; unlinked = refl });
               }
 
-          pub filled_later : IsPrefix t.view.journal w.view.journal
+          filled_later : IsPrefix t.view.journal w.view.journal
           filled_later = (goes_on t.view.journal u.view.journal w.view.journal (done_later _ _ _ _ (done_one (asks (FillStep r 0 first)) None t u n1 m1))
               (goes_on u.view.journal v.view.journal w.view.journal (done_later _ _ _ _ (done_one (asks (FillStep r 1 second)) None u v n2 m2))
               (done_later _ _ _ _ (done_one (asks (Publish slot r)) None v w n3 m3))))
 
-          pub gives_leaves : LeavesNothing s.view.agent s.view.journal w.view.journal
+          gives_leaves : LeavesNothing s.view.agent s.view.journal w.view.journal
           gives_leaves =
               let filled_both = leaves_then t.view.agent t.view.journal u.view.journal v.view.journal (leaves_by (asks (FillStep r 0 first)) None t u n1 m1 tt)
               (subst (λ a. LeavesNothing a u.view.journal v.view.journal) m1.agent (leaves_by (asks (FillStep r 1 second)) None u v n2 m2 tt)) in
@@ -248,5 +255,5 @@ module _ {D N : Type 0} {d : discipline.Ghosts D N} {k : MachineShape N} where
               leaves_then s.view.agent s.view.journal t.view.journal w.view.journal took.got.leaves
               (subst (λ a. LeavesNothing a t.view.journal w.view.journal) agent both)
 
-          pub gives_later : IsPrefix s.view.journal w.view.journal
-          gives_later = goes_on s.view.journal t.view.journal w.view.journal (took.got.more, sym took.got.journal) filled_later
+          pub gave : Gave s t r slot first second w
+          gave = record { gives = gives; ends = record { between = gives_between; leaves = gives_leaves }; filled = filled_later }

@@ -1,5 +1,6 @@
 pub mod Aiming
 pub mod Counting
+pub mod Ending
 pub mod Exchanging
 pub mod Filling
 pub mod Following
@@ -7,6 +8,7 @@ pub mod FreshRows
 pub mod Giving
 pub mod Held
 pub mod Learning
+pub mod LeftParts
 pub mod Linking
 pub mod Loading
 pub mod Looking

@@ -21,7 +21,7 @@ use Rattle.orc_machine_board.specs.declared.machine.MachineShape.{MachineShape}
 use Rattle.orc_machine_board.specs.declared.machine.Reclaiming.{Reclaiming}
 use Rattle.orc_machine_board.specs.declared.machine.Request.{Request}
 use Rattle.orc_domain.proofs.Settling.{settle_can}
-use Rattle.orc_domain.proofs.Stages.{stage}
+use Rattle.orc_domain.proofs.Ending.{between_of, stage_of}
 use Rattle.orc_domain.specs.Drains.{AreNumbered, DrainInTurn, DrainsNext, DrainsPart}
 use Rattle.orc_domain.specs.Passes.{IsPassOf, domain_bounds, journal_of, seat_of}
 use Rattle.orc_domain.specs.declared.domain.OrcDomain.{OrcDomain}
@@ -46,14 +46,14 @@ module _ {D N : Type 0} {d : discipline.Ghosts D N} {m : machine.Ghosts Reclaimi
     abbrev journal : Pass d m → List (Step N)
     journal p = journal_of p
 
-    mine : (p : Pass d m) → IsPassOf domain p → record_at (run_of (domain_bounds domain) (journal p)) (seat p).agent ≡ (shows p.pass).record_is
+    pub mine : (p : Pass d m) → IsPassOf domain p → record_at (run_of (domain_bounds domain) (journal p)) (seat p).agent ≡ (shows p.pass).record_is
     mine p h = h.board.keeps.now.mine
 
     -- a pass that is idle is between rounds
     pub between_rounds : (p : Pass d m) → IsPassOf domain p → IsIdle (seat p)
         → IsBetweenRounds (record_at (run_of (domain_bounds domain) (journal p)) (seat p).agent)
     between_rounds p h idle = subst IsBetweenRounds (sym (mine p h))
-        (settle_can (stage d domain.board.words.shape _ _ h.board.keeps) (record { ready = h.ready; untouched = h.untouched }) idle)
+        (settle_can (stage_of h.board) (between_of h) idle)
 
     -- a pass that was v, then learned, drained, and learned once more
     module _ (j : List (Step N)) (v p q w : Pass d m) (is_v : IsPassOf domain v) (idle_v : IsIdle (seat v)) (is_q : IsPassOf domain q)

@@ -32,11 +32,12 @@ use Rattle.orc_domain.proofs.Protecting.{still_ready, true_false}
 use Rattle.orc_domain.proofs.Releasing.{release_between, release_can}
 use Rattle.orc_domain.proofs.Seats.{calm_forced, puts, ready_calm, slots_keep}
 use Rattle.orc_machine_rest.proofs.TakenIn.{done_none, done_then}
+use Rattle.orc_domain.proofs.Ending.{Ends}
 use Rattle.orc_domain.proofs.Stages.{Between, Stage, Steps, before_lawful, before_out, before_record, before_unmarked, done_one, seat, whole_lawful}
 use Rattle.orc_domain.proofs.Untouched.{untouched_before}
 use Rattle.orc_domain.proofs.Wearing.{check_may}
 use Rattle.orc_domain.specs.Calls.{Retires, SameParts, Unlocks}
-use Rattle.orc_machine_rest.specs.OwnSteps.{HasDone, LeavesNothing, TakesInCleared}
+use Rattle.orc_machine_rest.specs.OwnSteps.{HasDone, TakesInCleared}
 use Rattle.orc_domain.specs.Passes.{IsFreshUntouched}
 use Rattle.orc_domain.specs.Seats.{IsReady, seat_by, slot_by}
 use Rattle.orc_sound.specs.declared.steps.Step.{Step}
@@ -249,13 +250,13 @@ module _ {D N : Type 0} {d : discipline.Ghosts D N} {k : MachineShape N} where
         puts = Puts-trans (seat s) (seat t) (seat u) [] [] g.puts un.sets.puts;
       }
 
-      pub released_between : Between u
-      released_between = release_between t g.between h still_held g.linked u un
-
-      pub release_leaves : LeavesNothing s.view.agent s.view.journal u.view.journal
-      release_leaves = record {
-        ops = g.ops ++ Clear h.slot ∷ TakeIn h.slot ∷ [];
-        done = done_then s.view.agent s.view.journal t.view.journal u.view.journal g.ops (Clear h.slot ∷ TakeIn h.slot ∷ []) g.done
-            (subst (λ a. HasDone a (Clear h.slot ∷ TakeIn h.slot ∷ []) t.view.journal u.view.journal) g.puts.agent un.done);
-        taken_in = g.bare (Clear h.slot ∷ TakeIn h.slot ∷ []) (refl, tt);
+      pub release_ends : Ends s u
+      release_ends = record {
+        between = release_between t g.between h still_held g.linked u un;
+        leaves = record {
+          ops = g.ops ++ Clear h.slot ∷ TakeIn h.slot ∷ [];
+          done = done_then s.view.agent s.view.journal t.view.journal u.view.journal g.ops (Clear h.slot ∷ TakeIn h.slot ∷ []) g.done
+              (subst (λ a. HasDone a (Clear h.slot ∷ TakeIn h.slot ∷ []) t.view.journal u.view.journal) g.puts.agent un.done);
+          taken_in = g.bare (Clear h.slot ∷ TakeIn h.slot ∷ []) (refl, tt);
+        };
       }

@@ -21,8 +21,9 @@ use Rattle.orc_heap.specs.declared.holds.At.{At}
 use Rattle.orc_heap.specs.declared.holds.Want.{Want}
 use Rattle.orc_machine_board.specs.Rules.{bounds_in, heap_numbers}
 use Rattle.orc_machine_board.specs.declared.machine.MachineShape.{MachineShape}
+use Rattle.orc_domain.proofs.Protecting.{still_ready}
 use Rattle.orc_domain.proofs.Seats.{by-append}
-use Rattle.orc_domain.proofs.Stages.{Stage, leaves_then, seat}
+use Rattle.orc_domain.proofs.Stages.{Between, Stage, leaves_then, seat}
 use Rattle.orc_domain.proofs.Untouched.{still_untouched}
 use Rattle.orc_machine_rest.specs.OwnSteps.{LeavesNothing}
 use Rattle.orc_domain.specs.Passes.{IsFreshUntouched}
@@ -38,6 +39,9 @@ if_err_map (Err e) f h = f e h
 module _ {D N : Type 0} {d : discipline.Ghosts D N} {k : MachineShape N} (s t : Stage d k) (idle : Idles (bounds_in k) s.view t.view) where
   pub read_untouched : IsFreshUntouched (heap_numbers k) (seat s) → IsFreshUntouched (heap_numbers k) (seat t)
   read_untouched u id e = still_untouched s t [] idle.only.puts (λ y. refl) id (u id (sym idle.only.fresh ∙ e))
+
+  pub read_between : Between s → Between t
+  read_between is = record { ready = still_ready s.view.record_is t.view.record_is idle.same is.ready; untouched = read_untouched is.untouched }
 
   -- what the pass showed before, with what it has seen since
   abbrev meanwhile : List (Event N) → Seat N

@@ -21,12 +21,12 @@ use Rattle.orc_machine_board.specs.Licences.{ids_of}
 use Rattle.orc_machine_board.specs.Rules.{bounds_in, heap_numbers, run_of, step_of}
 use Rattle.orc_machine_board.specs.declared.machine.MachineShape.{MachineShape}
 use Rattle.orc_projection.specs.Projection.{events_of, is_taken}
+use Rattle.orc_domain.proofs.LeftParts.{same_by}
 use Rattle.orc_domain.proofs.Searching.{found_at, found_now, found_or_same, idle_trans, idles}
 use Rattle.orc_domain.proofs.Seats.{slots_keep, step_events}
-use Rattle.orc_domain.proofs.Stages.{Stage, Steps, before_lawful, before_record, seat, leaves_by, leaves_then}
+use Rattle.orc_domain.proofs.Stages.{Stage, Steps, before_lawful, before_record, leaves_by, leaves_then, seat}
 use Rattle.orc_machine_rest.specs.OwnSteps.{LeavesNothing}
 use Rattle.orc_domain.proofs.Taking.{Takes, takes}
-use Rattle.orc_domain.specs.Calls.{SameParts}
 use Rattle.orc_domain.specs.Causes.{IsTaken}
 use Rattle.orc_domain.specs.Searches.{Fails, Gets, Idles}
 use Rattle.orc_domain.specs.Seats.{slot_by}
@@ -59,62 +59,67 @@ was_none : (t : Bool) (n : ℕ) → n ≡ cond t 1 0 → n ≢ 1 → t ≡ false
 was_none true n e ne = absurd (ne e)
 was_none false n e ne = refl
 
--- a record that a step left, where its parts are these
-parts : (d e f : Agent) → f ≡ e → SameParts d e → SameParts d f
-parts d e f is p = subst (SameParts d) (sym is) p
+-- the gate of a row of the table was looked at, and this was its word
+pub record LooksAt {D N : Type 0} {d : discipline.Ghosts D N} {k : MachineShape N} (s t : Stage d k) (r n : ℕ) : Type 0 where
+  pub low : r < (bounds_in k).rows
+  pub made : Steps (GateLook r) s n t
 
-module _ {D N : Type 0} {d : discipline.Ghosts D N} {k : MachineShape N} (s t : Stage d k) (r n : ℕ) (below : r < (bounds_in k).rows)
-    (m1 : Steps (GateLook r) s n t) where
+-- the row was free, and its counter was read
+pub record ReadsCounter {D N : Type 0} {d : discipline.Ghosts D N} {k : MachineShape N} (t u : Stage d k) (r n c : ℕ) : Type 0 where
+  pub free : (n % 2 == 1) ≡ false
+  pub made : Steps (CounterLoad r Check) t c u
+
+module _ {D N : Type 0} {d : discipline.Ghosts D N} {k : MachineShape N} {s t : Stage d k} {r n : ℕ} (l : LooksAt s t r n) where
   abbrev b : Bounds
   b = bounds_in k
 
   abbrev j1 : List (Step N)
-  j1 = s.view.journal ++ m1.met
+  j1 = s.view.journal ++ l.made.met
 
   abbrev x1 : Step N
   x1 = step_of s.view.agent (asks (GateLook r)) None
 
   look_idle : Idles b s.view t.view
-  look_idle = idles (asks (GateLook r)) s t n m1 tt refl (parts s.view.record_is _ t.view.record_is m1.record_is
+  look_idle = idles (asks (GateLook r)) s t n l.made tt refl (same_by s.view.record_is _ t.view.record_is l.made.record_is
       (record { enrolled = refl; slots = refl; fresh = refl; due = refl; inc = refl; dec = refl; doom = refl; scan = refl }))
 
   -- the gate was seen out, or at the limit
   pub look_fails : ((n % 2 == 1) ≡ true) ⊎ (b.limit ≤ n / 2) → Fails b r s.view t.view
   look_fails h = record {
     idle = look_idle;
-    found = found_at b s.view.agent s.view.journal m1.met x1 [] [] (x1 ∷ []) t.view.journal r refl m1.journal refl
-        (subst (λ z. IsTaken b (run_of b z) r) (sym (append-nil j1)) (taken_by_gate b (run_of b j1) r n m1.answer h));
+    found = found_at b s.view.agent s.view.journal l.made.met x1 [] [] (x1 ∷ []) t.view.journal r refl l.made.journal refl
+        (subst (λ z. IsTaken b (run_of b z) r) (sym (append-nil j1)) (taken_by_gate b (run_of b j1) r n l.made.answer h));
   }
 
-  module _ (u : Stage d k) (c : ℕ) (free : (n % 2 == 1) ≡ false) (m2 : Steps (CounterLoad r Check) t c u) where
+  module _ {u : Stage d k} {c : ℕ} (a : ReadsCounter t u r n c) where
     abbrev x2 : Step N
     x2 = step_of t.view.agent (asks (CounterLoad r Check)) None
 
     count_idle : Idles b s.view u.view
-    count_idle = idle_trans b s.view t.view u.view look_idle (idles (asks (CounterLoad r Check)) t u c m2 tt refl
-        (parts t.view.record_is _ u.view.record_is m2.record_is
+    count_idle = idle_trans b s.view t.view u.view look_idle (idles (asks (CounterLoad r Check)) t u c a.made tt refl
+        (same_by t.view.record_is _ u.view.record_is a.made.record_is
         (record { enrolled = refl; slots = refl; fresh = refl; due = refl; inc = refl; dec = refl; doom = refl; scan = refl })))
 
     -- where the counter is read
-    before2 : t.view.journal ++ m2.met ≡ j1 ++ x1 ∷ m2.met
-    before2 = ap (λ z. z ++ m2.met) m1.journal ∙ append_assoc j1 (x1 ∷ []) m2.met
+    before2 : t.view.journal ++ a.made.met ≡ j1 ++ x1 ∷ a.made.met
+    before2 = ap (λ z. z ++ a.made.met) l.made.journal ∙ append_assoc j1 (x1 ∷ []) a.made.met
 
-    after2 : u.view.journal ≡ (j1 ++ x1 ∷ m2.met) ++ x2 ∷ []
-    after2 = m2.journal ∙ ap (λ z. z ++ x2 ∷ []) before2
+    after2 : u.view.journal ≡ (j1 ++ x1 ∷ a.made.met) ++ x2 ∷ []
+    after2 = a.made.journal ∙ ap (λ z. z ++ x2 ∷ []) before2
 
-    lawful2 : IsLawfulJournal (new_machine b) (j1 ++ x1 ∷ m2.met)
-    lawful2 = subst (IsLawfulJournal (new_machine b)) before2 (before_lawful (asks (CounterLoad r Check)) None t u c m2)
+    lawful2 : IsLawfulJournal (new_machine b) (j1 ++ x1 ∷ a.made.met)
+    lawful2 = subst (IsLawfulJournal (new_machine b)) before2 (before_lawful (asks (CounterLoad r Check)) None t u c a.made)
 
     -- the sequence was read at the limit: if the gate is no more what it was, the row was out meanwhile
     pub count_fails : b.limit ≤ sequence_of c → Fails b r s.view u.view
     count_fails high = record {
       idle = count_idle;
       found = ⊎_elim
-          (λ same. found_now b s.view.agent s.view.journal m1.met x1 m2.met x2 u.view.journal r refl after2
-          (taken_by_count b (run_of b (j1 ++ x1 ∷ m2.met)) r n c (same ∙ sym m1.answer) free
-          (m2.answer ∙ ap (λ z. word_in (run_of b z) (Counter r)) before2) high))
+          (λ same. found_now b s.view.agent s.view.journal l.made.met x1 a.made.met x2 u.view.journal r refl after2
+          (taken_by_count b (run_of b (j1 ++ x1 ∷ a.made.met)) r n c (same ∙ sym l.made.answer) a.free
+          (a.made.answer ∙ ap (λ z. word_in (run_of b z) (Counter r)) before2) high))
           (λ f. f)
-          (found_or_same b s.view.agent s.view.journal m1.met x1 m2.met x2 u.view.journal r (in_range k.shape) below refl after2 lawful2);
+          (found_or_same b s.view.agent s.view.journal l.made.met x1 a.made.met x2 u.view.journal r (in_range k.shape) l.low refl after2 lawful2);
     }
 
     module _ (w : Stage d k) (o : ℕ) (m3 : Steps (GateTake r) u o w) where
@@ -146,24 +151,24 @@ module _ {D N : Type 0} {d : discipline.Ghosts D N} {k : MachineShape N} (s t : 
         }))
 
         -- where the gate is tried
-        before3 : u.view.journal ++ m3.met ≡ j1 ++ x1 ∷ (m2.met ++ x2 ∷ m3.met)
+        before3 : u.view.journal ++ m3.met ≡ j1 ++ x1 ∷ (a.made.met ++ x2 ∷ m3.met)
         before3 =
             ap (λ z. z ++ m3.met) after2
-            ∙ (append_assoc (j1 ++ x1 ∷ m2.met) (x2 ∷ []) m3.met
-            ∙ append_assoc j1 (x1 ∷ m2.met) (x2 ∷ m3.met))
+            ∙ (append_assoc (j1 ++ x1 ∷ a.made.met) (x2 ∷ []) m3.met
+            ∙ append_assoc j1 (x1 ∷ a.made.met) (x2 ∷ m3.met))
 
-        after3 : w.view.journal ≡ (j1 ++ x1 ∷ (m2.met ++ x2 ∷ m3.met)) ++ x3 ∷ []
+        after3 : w.view.journal ≡ (j1 ++ x1 ∷ (a.made.met ++ x2 ∷ m3.met)) ++ x3 ∷ []
         after3 = m3.journal ∙ ap (λ z. z ++ x3 ∷ []) before3
 
-        lawful3 : IsLawfulJournal (new_machine b) (j1 ++ x1 ∷ (m2.met ++ x2 ∷ m3.met))
+        lawful3 : IsLawfulJournal (new_machine b) (j1 ++ x1 ∷ (a.made.met ++ x2 ∷ m3.met))
         lawful3 = subst (IsLawfulJournal (new_machine b)) before3 (before_lawful (asks (GateTake r)) None u w o m3)
 
         -- the life that was looked at
         looked : 2 * number_of u.view.record_is.looked ≡ n
         looked =
-            ap (λ (e : Agent). 2 * number_of e.looked) m2.record_is
-            ∙ (ap (λ (e : Agent). 2 * number_of e.looked) m1.record_is
-            ∙ (ap (λ z. 2 * number_of (cond (z % 2 == 0) (Some (record { row = r; number = z / 2 })) None)) (sym m1.answer) ∙ looked_number n r free))
+            ap (λ (e : Agent). 2 * number_of e.looked) a.made.record_is
+            ∙ (ap (λ (e : Agent). 2 * number_of e.looked) l.made.record_is
+            ∙ (ap (λ z. 2 * number_of (cond (z % 2 == 0) (Some (record { row = r; number = z / 2 })) None)) (sym l.made.answer) ∙ looked_number n r a.free))
 
         -- the gate was no more what it had been: the row was out meanwhile
         pub take_fails : Fails b r s.view w.view
@@ -171,9 +176,9 @@ module _ {D N : Type 0} {d : discipline.Ghosts D N} {k : MachineShape N} (s t : 
           idle = take_idle;
           found = ⊎_elim
               (λ same. absurd (false≢true (sym not_taken ∙ eq-eqb gate (2 * number_of u.view.record_is.looked)
-              (ap (λ z. word_in (run_of b z) (Gate r)) before3 ∙ (same ∙ (sym m1.answer ∙ sym looked))))))
+              (ap (λ z. word_in (run_of b z) (Gate r)) before3 ∙ (same ∙ (sym l.made.answer ∙ sym looked))))))
               (λ f. f)
-              (found_or_same b s.view.agent s.view.journal m1.met x1 (m2.met ++ x2 ∷ m3.met) x3 w.view.journal r (in_range k.shape) below refl after3 lawful3);
+              (found_or_same b s.view.agent s.view.journal l.made.met x1 (a.made.met ++ x2 ∷ m3.met) x3 w.view.journal r (in_range k.shape) l.low refl after3 lawful3);
         }
 
       -- the take that succeeds
@@ -181,7 +186,7 @@ module _ {D N : Type 0} {d : discipline.Ghosts D N} {k : MachineShape N} (s t : 
       take_gets won =
           let q = asks (GateTake r) in
           let t3 : Takes r u w = takes u w r o m3 won in
-          let agents : u.view.agent ≡ s.view.agent = m2.agent ∙ m1.agent in
+          let agents : u.view.agent ≡ s.view.agent = a.made.agent ∙ l.made.agent in
           let slots3 : w.view.record_is.slots ≡ u.view.record_is.slots = ap (λ (e : Agent). e.slots) m3.record_is in
           let old = count_idle.same in
           let part = m3.met ++ step_of u.view.agent q None ∷ [] in

@@ -23,6 +23,7 @@ use Rattle.orc_projection.specs.Projection.{present_ids, project}
 use Rattle.orc_domain.proofs.Held.{hold_has, hold_low, hold_slot}
 use Rattle.orc_domain.proofs.Rounds.{begin_le}
 use Rattle.orc_domain.proofs.Searching.{get_seam, idles}
+use Rattle.orc_domain.proofs.LeftParts.{same_by}
 use Rattle.orc_domain.proofs.Seats.{before_keep, calm_forced}
 use Rattle.orc_machine_rest.proofs.TakenIn.{done_later}
 use Rattle.orc_domain.proofs.Stages.{Stage, Steps, before_lawful, before_out, done_one, seat}
@@ -58,16 +59,8 @@ module _ {D N : Type 0} {d : discipline.Ghosts D N} {k : MachineShape N} (s : St
     x = step_of s.view.agent (asks (CounterLoad h.row Check)) None
 
     pub checks : Idles (bounds_in k) s.view t.view
-    checks = idles (asks (CounterLoad h.row Check)) s t n m tt refl (record {
-      enrolled = ap (λ (e : Agent). e.enrolled) m.record_is;
-      slots = ap (λ (e : Agent). e.slots) m.record_is;
-      fresh = ap (λ (e : Agent). e.fresh) m.record_is;
-      due = ap (λ (e : Agent). e.due) m.record_is;
-      inc = ap (λ (e : Agent). e.inc) m.record_is;
-      dec = ap (λ (e : Agent). e.dec) m.record_is;
-      doom = ap (λ (e : Agent). e.doom) m.record_is;
-      scan = ap (λ (e : Agent). e.scan) m.record_is;
-    })
+    checks = idles (asks (CounterLoad h.row Check)) s t n m tt refl (same_by s.view.record_is _ t.view.record_is m.record_is
+        (record { enrolled = refl; slots = refl; fresh = refl; due = refl; inc = refl; dec = refl; doom = refl; scan = refl }))
 
     -- the load adds no event
     silent : project b t.view.journal ≡ project b j

@@ -1,5 +1,5 @@
 -- A row that is published in a slot, with the second read of the link by which the slot comes to hold it.
-use Rattle.std.specs.Prelude.{Bool, Some, cond, false, true, ℕ, ◌==◌, ◌≡◌, ◌≢◌}
+use Rattle.std.specs.Prelude.{Bool, Some, false, suc, true, zero, ℕ, ◌≡◌, ◌≢◌}
 use Rattle.orc_core.specs.declared.ops.Op.TheVariants.{Clear, LinkLoad, Publish}
 use Rattle.orc_core.specs.declared.records.Agent.{Agent}
 use Rattle.orc_heap.specs.declared.discipline.Discipline as discipline
@@ -15,13 +15,15 @@ use Rattle.orc_domain.specs.Seats.{IsCalm}
 use Rattle.orc_shared_words.specs.declared.machine.Machine as machine
 use Rattle.orc_sound.specs.declared.steps.Step.{Step}
 use Rattle.orc_words.specs.Packed.{link_of, link_word}
+use Rattle.orc_words.specs.Places.{link_at}
 use Rattle.orc_words.specs.declared.packed.RowLink.{RowLink}
 use Rattle.orc_words.specs.declared.place.Word.{Word}
-use Rattle.orc_words.specs.declared.place.Word.TheVariants.{Next, Root, Side}
+use Rattle.orc_words.specs.declared.place.Word.TheVariants.{Root}
 
--- a link word by the kind of its place, and the root or the row
+-- the link word that two numbers tell: a root, or the link of a row by its number, counted from 1 on
 abbrev pub word_by : ℕ → ℕ → Word
-word_by kind number = cond (kind == 0) (Root number) (cond (kind == 1) (Next number) (Side number))
+word_by zero root = Root root
+word_by (suc number) row = link_at number row
 
 module _ {D N : Type 0} (d : discipline.Ghosts D N) (m : machine.Ghosts Reclaiming N (MachineShape N) Request (Step N) Agent Agent) where
   -- a pass of a board

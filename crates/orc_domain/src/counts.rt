@@ -69,6 +69,20 @@ impl<D: Discipline> OrcDomain<D> {
         self.try_due(p, due_by(row, word.wrapping_add(DECREMENT)));
     }
 
+    // Counts the new target up, if a change of a link left one pending.
+    #[inline(always)]
+    fn count_new(&self, p: &mut MachineBoardPass<D>, up: Option<u32>)
+        requires up { (shows p.old).record_is.inc ≡ up }
+        requires belongs { Belongs self.now.board p.old }
+        requires countable { IsCountable (shows p.old).record_is }
+        ensures belongs { Belongs self.now.board p.new }
+        ensures becomes { Becomes (domain_bounds self.now) (record (shows p.old).record_is { inc = None }) (shows p.old) (shows p.new) }
+    {
+        if let Some(row) = up {
+            self.count_up(p, row);
+        }
+    }
+
     // Counts what a change of a link left pending: the new target up, and then the old one down.
     pub(crate) fn complete(&self, p: &mut MachineBoardPass<D>, up: Option<u32>, down: Option<u32>)
         requires up { (shows p.old).record_is.inc ≡ up }
@@ -78,9 +92,7 @@ impl<D: Discipline> OrcDomain<D> {
         ensures belongs { Belongs self.now.board p.new }
         ensures becomes { Becomes (domain_bounds self.now) (record (shows p.old).record_is { inc = None; dec = None }) (shows p.old) (shows p.new) }
     {
-        if let Some(row) = up {
-            self.count_up(p, row);
-        }
+        self.count_new(p, up);
         if let Some(row) = down {
             self.count_down(p, row);
         }
@@ -102,9 +114,7 @@ impl<D: Discipline> OrcDomain<D> {
         ensures belongs { Belongs self.now.board p.new }
         ensures becomes { Becomes (domain_bounds self.now) (record (shows p.old).record_is { inc = None; dec = None }) (shows p.old) (shows p.new) }
     {
-        if let Some(row) = up {
-            self.count_up(p, row);
-        }
+        self.count_new(p, up);
         if let Some(row) = down {
             self.count_down_held(p, row);
         }

@@ -4,21 +4,18 @@ use Rattle.orc_core.specs.declared.records.Agent.{Agent}
 use Rattle.orc_words.specs.Operations.{word_add}
 use Rattle.orc_words.specs.declared.packed.TheConstants.{DECREMENT}
 use Rattle.orc_domain.proofs.Counting.{counts_down_held, dec_held_can}
-use Rattle.orc_domain.proofs.Stages.{stage}
+use Rattle.orc_domain.proofs.Ending.{stage_of}
 use Rattle.orc_domain.proofs.domain.OrcDomain.count_down_held.Goals as goal
 
 pub dec_held-word-requires-clause-allowed : goal.dec_held-word-requires-clause-allowed
 dec_held-word-requires-clause-allowed g c =
-    let s = stage g.D.Discipline c.args.self.now.board.words.shape _ _ c.requires.belongs.keeps in
+    let s = stage_of c.requires.belongs in
     dec_held_can s c.args.row c.requires.countable c.requires.inc c.requires.dec c.requires.held
 
 pub returns-clause-becomes : goal.returns-clause-becomes
 returns-clause-becomes g c =
-    let k = c.args.self.now.board.words.shape in
-    let s = stage g.D.Discipline k _ _ c.requires.belongs.keeps in
-    let t = stage g.D.Discipline k _ _ c.dec_held-word.ensures.belongs.keeps in
-    let u = stage g.D.Discipline k _ _ c.try_due.ensures.belongs.keeps in
-    counts_down_held s t c.args.row c.dec_held-word.result c.requires.countable c.dec_held-word.ensures.made u c.try_due.ensures.becomes
+    counts_down_held (stage_of c.requires.belongs) (stage_of c.dec_held-word.ensures.belongs) c.args.row c.dec_held-word.result c.requires.countable
+    c.dec_held-word.ensures.made (stage_of c.try_due.ensures.belongs) c.try_due.ensures.becomes
 
 pub try_due-requires-clause-pending : goal.try_due-requires-clause-pending
 try_due-requires-clause-pending g c =

@@ -1,46 +1,31 @@
 use Rattle.std.proofs.Common.{sym, ◌∙◌}
 use Rattle.orc_machine_board.specs.Views.{shows}
 use Rattle.orc_domain.proofs.Settling.{backlog_none, settle_can, settled_between, settles_nothing}
-use Rattle.orc_domain.proofs.Stages.{stage}
+use Rattle.orc_domain.proofs.Ending.{between_of, pass_of, stage_of}
 use Rattle.orc_domain.proofs.domain.OrcDomain.drain.Goals as goal
 
 pub drain-requires-clause-between : goal.drain-requires-clause-between
-drain-requires-clause-between g c =
-    let is = c.requires.pass in
-    let s = stage g.D.Discipline c.args.self.now.board.words.shape _ _ is.board.keeps in
-    settle_can s (record { ready = is.ready; untouched = is.untouched }) c.requires.idle
+drain-requires-clause-between g c = settle_can (stage_of c.requires.pass.board) (between_of c.requires.pass) c.requires.idle
 
 pub returns-clause-pass : goal.returns-clause-pass
 returns-clause-pass g c =
-    let k = c.args.self.now.board.words.shape in
-    let is = c.requires.pass in
     let e = c.drain.ensures in
-    let s = stage g.D.Discipline k _ _ is.board.keeps in
-    let t = stage g.D.Discipline k _ _ e.belongs.keeps in
-    let next = settled_between s (record { ready = is.ready; untouched = is.untouched }) c.requires.idle t e.between e.agent e.quiet in
-    record { board = e.belongs; ready = next.ready; untouched = next.untouched; inside = is.inside }
+    let s = stage_of c.requires.pass.board in
+    pass_of e.belongs (settled_between s (between_of c.requires.pass) c.requires.idle (stage_of e.belongs) e.between e.agent e.quiet) c.requires.pass.inside
 
 pub returns-clause-later : goal.returns-clause-later
 returns-clause-later g c = let adds = c.drain.ensures.drains.adds in (adds.part, sym adds.journal)
 
 pub returns-clause-nothing : goal.returns-clause-nothing
 returns-clause-nothing g c =
-    let k = c.args.self.now.board.words.shape in
-    let is = c.requires.pass in
     let e = c.drain.ensures in
-    let s = stage g.D.Discipline k _ _ is.board.keeps in
-    let t = stage g.D.Discipline k _ _ e.belongs.keeps in
-    settles_nothing s (record { ready = is.ready; untouched = is.untouched }) c.requires.idle t e.between e.agent e.quiet
+    settles_nothing (stage_of c.requires.pass.board) (between_of c.requires.pass) c.requires.idle (stage_of e.belongs) e.between e.agent e.quiet
 
 pub returns-clause-settled : goal.returns-clause-settled
 returns-clause-settled g c alone = backlog_none (shows c.drain.new.p).record_is (c.drain.ensures.done alone)
 
 pub returns-clause-idle : goal.returns-clause-idle
 returns-clause-idle g c =
-    let k = c.args.self.now.board.words.shape in
-    let is = c.requires.pass in
     let e = c.drain.ensures in
-    let s = stage g.D.Discipline k _ _ is.board.keeps in
-    let t = stage g.D.Discipline k _ _ e.belongs.keeps in
-    let only = settles_nothing s (record { ready = is.ready; untouched = is.untouched }) c.requires.idle t e.between e.agent e.quiet in
+    let only = settles_nothing (stage_of c.requires.pass.board) (between_of c.requires.pass) c.requires.idle (stage_of e.belongs) e.between e.agent e.quiet in
     record { slots = only.slots ∙ c.requires.idle.slots; fresh = only.fresh ∙ c.requires.idle.fresh }

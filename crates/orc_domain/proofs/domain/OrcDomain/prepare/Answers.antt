@@ -5,7 +5,8 @@ use Rattle.orc_heap.specs.Seats.{HoldsWant}
 use Rattle.orc_machine_board.specs.Views.{shows}
 use Rattle.orc_domain.proofs.Linking.{link_other}
 use Rattle.orc_domain.proofs.Searching.{idle_none}
-use Rattle.orc_domain.proofs.Stages.{seat, stage}
+use Rattle.orc_domain.proofs.Ending.{stage_of}
+use Rattle.orc_domain.proofs.Stages.{seat}
 use Rattle.orc_domain.proofs.Swinging.{if_err_map, not_equal}
 use Rattle.orc_domain.specs.Passes.{domain_bounds}
 use Rattle.orc_domain.specs.Seats.{seat_by}
@@ -20,7 +21,7 @@ returns-then-eq-clause-checks g c = idle_none (domain_bounds c.args.self.now) (s
 
 pub returns-clause-spent : goal.returns-clause-spent
 returns-clause-spent g c =
-    let s = stage g.D.Discipline c.args.self.now.board.words.shape _ _ c.requires.belongs.keeps in
+    let s = stage_of c.requires.belongs in
     let links = c.requires.links in
     let held = subst (HoldsWant (seat s).slots) c.in-Node.is links.1 in
     let ne : (row_link c.args.from.now).to ≢ Some c.in-Node.h.now.row = λ same.

@@ -3,7 +3,7 @@ use Rattle.std.proofs.lemmas.Bool.{eqb-true, false≢true}
 use Rattle.std.specs.Prelude.{◌/◌}
 use Rattle.orc_core.specs.declared.ops.Op.TheVariants.{LinkLoad}
 use Rattle.orc_domain.proofs.Loading.{is_low, known_low}
-use Rattle.orc_domain.proofs.Stages.{stage}
+use Rattle.orc_domain.proofs.Ending.{stage_of}
 use Rattle.orc_domain.specs.Passes.{domain_bounds}
 use Rattle.orc_machine_board.specs.Kinds.{MakesPlain}
 use Rattle.orc_machine_board.specs.Views.{shows}
@@ -16,11 +16,10 @@ pack_link-requires g c row is = known_low c.args.one c.requires.known row is
 
 pub returns-clause-again : goal.returns-clause-again
 returns-clause-again g c =
-    let k = c.args.self.now.board.words.shape in
     let e = c.link_load-word.ensures in
     let n = c.link_load-word.result in
-    let s = stage g.D.Discipline k _ _ c.requires.belongs.keeps in
-    let t = stage g.D.Discipline k _ _ e.belongs.keeps in
+    let s = stage_of c.requires.belongs in
+    let t = stage_of e.belongs in
     let low = is_low s t c.args.at (Some c.args.slot) None None n e.makes c.requires.allowed tt in
     let half : n / 2 ≤ 65535 = omega (arith, low) in
     let back : link_word (link_of n) ≡ n = word_back n half in

@@ -3,14 +3,14 @@ use Rattle.std.specs.Prelude.{None, cond}
 use Rattle.orc_core.specs.RecordParts.{same_target}
 use Rattle.orc_domain.proofs.Aiming.{StoresFresh, store_countable, store_down, store_up, stored_leaves, stored_untouched, stores}
 use Rattle.orc_domain.proofs.Linking.{store_can}
-use Rattle.orc_domain.proofs.Stages.{stage}
+use Rattle.orc_domain.proofs.Ending.{stage_of}
 use Rattle.orc_domain.proofs.domain.OrcDomain.store.Given.{Over}
 use Rattle.orc_domain.proofs.domain.OrcDomain.store.Goals.{After-link_store-old}
 use Rattle.orc_domain.proofs.domain.OrcDomain.store.Goals as goal
 
 -- the store
 stored : (g : Over) (c : After-link_store-old g) → let k = c.args.self.now.board.words.shape in
-    StoresFresh (stage g.D.Discipline k _ _ c.requires.belongs.keeps) (stage g.D.Discipline k _ _ c.link_store-old.ensures.belongs.keeps) c.args.row
+    StoresFresh (stage_of c.requires.belongs) (stage_of c.link_store-old.ensures.belongs) c.args.row
     c.args.number c.args.to c.link_store-old.result
 stored g c =
     let r = c.requires in
@@ -26,7 +26,7 @@ stored g c =
 pub link_store-old-requires-clause-allowed : goal.link_store-old-requires-clause-allowed
 link_store-old-requires-clause-allowed g c =
     let r = c.requires in
-    let s = stage g.D.Discipline c.args.self.now.board.words.shape _ _ r.belongs.keeps in
+    let s = stage_of r.belongs in
     store_can s c.args.row c.args.number c.args.to r.number r.ready r.fresh r.target r.low
 
 pub complete-requires-clause-countable : goal.complete-requires-clause-countable
@@ -36,19 +36,19 @@ pub returns-clause-untouched : goal.returns-clause-untouched
 returns-clause-untouched g c =
     let e = c.complete.ensures in
     stored_untouched (stored g (goal.at.returns-clause-untouched g c).After-link_store-old)
-    (stage g.D.Discipline c.args.self.now.board.words.shape _ _ e.belongs.keeps) e.becomes
+    (stage_of e.belongs) e.becomes
 
 pub returns-clause-stores : goal.returns-clause-stores
 returns-clause-stores g c =
     let e = c.complete.ensures in
     stores (stored g (goal.at.returns-clause-stores g c).After-link_store-old)
-    (stage g.D.Discipline c.args.self.now.board.words.shape _ _ e.belongs.keeps) e.becomes
+    (stage_of e.belongs) e.becomes
 
 pub returns-clause-leaves : goal.returns-clause-leaves
 returns-clause-leaves g c =
     let e = c.complete.ensures in
     stored_leaves (stored g (goal.at.returns-clause-leaves g c).After-link_store-old)
-    (stage g.D.Discipline c.args.self.now.board.words.shape _ _ e.belongs.keeps) e.becomes
+    (stage_of e.belongs) e.becomes
 
 pub complete-requires-clause-up : goal.complete-requires-clause-up
 complete-requires-clause-up g c =

@@ -1,7 +1,7 @@
 use Rattle.std.proofs.Common.{ap, sym, subst, ◌+◌, ◌∙◌, ◌≡◌}
 use Rattle.orc_core.specs.RecordParts.{is_empty, slot_of}
 use Rattle.orc_machine_board.specs.Views.{Belongs, shows}
-use Rattle.orc_domain.proofs.Stages.{stage}
+use Rattle.orc_domain.proofs.Ending.{stage_of}
 use Rattle.orc_domain.proofs.TakingIn.{TookIn, took_none, took_one, took_past}
 use Rattle.orc_domain.specs.Passes.{domain_bounds}
 use Rattle.orc_domain.proofs.domain.OrcDomain.take_in_free.Goals.{else-is_empty, then-is_empty}
@@ -12,17 +12,15 @@ loop-slot-init g c = (c.requires.belongs, took_none (domain_bounds c.args.self.n
 
 pub loop-slot-preserved : goal.loop-slot-preserved
 loop-slot-preserved g c =
-    let k = c.args.self.now.board.words.shape in
-    let d = g.D.Discipline in
     let slot = c.loop-slot.slot in
     let i = c.loop-slot.invariant in
-    let s = stage d k _ _ c.requires.belongs.keeps in
-    let t = stage d k _ _ i.0.keeps in
+    let s = stage_of c.requires.belongs in
+    let t = stage_of i.0 in
     let is : c.is_empty.result ≡ is_empty (slot_of t.view.record_is slot) =
     c.is_empty.ensures ∙ (ap is_empty c.slot.ensures ∙ c.kept.ensures.empty slot) in
     elim c.if-is_empty.branch [
       | then-is_empty w ↦
-          let u = stage d k _ _ w.take_in.ensures.belongs.keeps in
+          let u = stage_of w.take_in.ensures.belongs in
           subst (λ p. Belongs c.args.self.now.board p × TookIn (domain_bounds c.args.self.now) (slot + 1) s.view (shows p)) (sym w.p-is)
           (w.take_in.ensures.belongs, took_one s t u slot w.take_in.result i.1 w.take_in.ensures.made)
       | else-is_empty w ↦

@@ -1,22 +1,21 @@
 use Rattle.std.proofs.Common.{None, Some, ◌∙◌, ◌≡◌}
 use Rattle.orc_machine_board.specs.Views.{shows}
 use Rattle.orc_domain.proofs.Counting.{becomes_self, try_can, tries, without_due}
-use Rattle.orc_domain.proofs.Stages.{stage}
+use Rattle.orc_domain.proofs.Ending.{stage_of}
 use Rattle.orc_domain.specs.Passes.{domain_bounds}
 use Rattle.orc_domain.proofs.domain.OrcDomain.try_due.Goals as goal
 
 pub set_retired-requires-clause-allowed : goal.set_retired-requires-clause-allowed
 set_retired-requires-clause-allowed g c =
-    let s = stage g.D.Discipline c.args.self.now.board.words.shape _ _ c.requires.belongs.keeps in
+    let s = stage_of c.requires.belongs in
     let seen = c.in-Some.seen in
     let due : s.view.record_is.due ≡ Some seen = c.requires.pending ∙ c.in-Some.is in
     try_can s seen c.requires.enrolled due (c.requires.due seen due).0
 
 pub returns-in-Some-clause-becomes : goal.returns-in-Some-clause-becomes
 returns-in-Some-clause-becomes g c =
-    let k = c.args.self.now.board.words.shape in
-    let s = stage g.D.Discipline k _ _ c.requires.belongs.keeps in
-    let t = stage g.D.Discipline k _ _ c.set_retired.ensures.belongs.keeps in
+    let s = stage_of c.requires.belongs in
+    let t = stage_of c.set_retired.ensures.belongs in
     let seen = c.in-Some.seen in
     let due : s.view.record_is.due ≡ Some seen = c.requires.pending ∙ c.in-Some.is in
     tries s t seen c.set_retired.result c.set_retired.ensures.made (c.requires.due seen due).1

@@ -1,73 +1,49 @@
 use Rattle.std.proofs.Common.{arith, eqb-true, inl, inr, ◌/◌, ◌≤◌, ◌%◌}
 use Rattle.std.proofs.lemmas.Bool.{eq-eqb, eqb-false, ne_eqb}
-use Rattle.orc_domain.proofs.Stages.{stage}
-use Rattle.orc_domain.proofs.Trying.{count_fails, look_fails, take_fails, take_gets}
+use Rattle.orc_domain.proofs.Ending.{stage_of}
+use Rattle.orc_domain.proofs.Trying.{LooksAt, ReadsCounter, count_fails, look_fails, take_fails, take_gets}
 use Rattle.orc_domain.specs.Passes.{domain_bounds}
 use Rattle.orc_words.specs.Packed.{sequence_of}
+use Rattle.orc_domain.proofs.domain.OrcDomain.try_take.Given.{Over}
+use Rattle.orc_domain.proofs.domain.OrcDomain.try_take.Goals.{After-counter_load-counter, After-gate_look-gate}
 use Rattle.orc_domain.proofs.domain.OrcDomain.try_take.Goals as goal
+
+looks : (g : Over) (c : After-gate_look-gate g)
+    → LooksAt (stage_of c.requires.belongs) (stage_of c.gate_look-gate.ensures.belongs) c.args.row c.gate_look-gate.result
+looks g c = record { low = c.requires.row; made = c.gate_look-gate.ensures.made }
+
+reads : (g : Over) (c : After-counter_load-counter g)
+    → ReadsCounter (stage_of c.gate_look-gate.ensures.belongs) (stage_of c.counter_load-counter.ensures.belongs) c.args.row c.gate_look-gate.result
+    c.counter_load-counter.result
+reads g c = record { free = ne_eqb (c.gate_look-gate.result % 2) 1 c.if-gate-eq1.false; made = c.counter_load-counter.ensures.made }
 
 pub returns-then-gate-eq1-clause-lost : goal.returns-then-gate-eq1-clause-lost
 returns-then-gate-eq1-clause-lost g c f =
-    let k = c.args.self.now.board.words.shape in
-    let d = g.D.Discipline in
-    let one = c.gate_look-gate in
-    let s = stage d k _ _ c.requires.belongs.keeps in
-    let t = stage d k _ _ one.ensures.belongs.keeps in
-    look_fails s t c.args.row one.result c.requires.row one.ensures.made (inl (eq-eqb (one.result % 2) 1 c.if-gate-eq1.true))
+    look_fails (looks g (goal.at.returns-then-gate-eq1-clause-lost g c).After-gate_look-gate) (inl (eq-eqb (c.gate_look-gate.result % 2) 1 c.if-gate-eq1.true))
 
 pub returns-then-gate-limit-clause-lost : goal.returns-then-gate-limit-clause-lost
 returns-then-gate-limit-clause-lost g c f =
-    let k = c.args.self.now.board.words.shape in
-    let d = g.D.Discipline in
-    let one = c.gate_look-gate in
-    let s = stage d k _ _ c.requires.belongs.keeps in
-    let t = stage d k _ _ one.ensures.belongs.keeps in
     let above = c.if-gate-limit.true in
     let same = c.limit-limit.ensures in
-    let high : (domain_bounds c.args.self.now).limit ≤ one.result / 2 = grind arith in
-    look_fails s t c.args.row one.result c.requires.row one.ensures.made (inr high)
+    let high : (domain_bounds c.args.self.now).limit ≤ c.gate_look-gate.result / 2 = grind arith in
+    look_fails (looks g (goal.at.returns-then-gate-limit-clause-lost g c).After-gate_look-gate) (inr high)
 
 pub returns-then-counter-limit-clause-lost : goal.returns-then-counter-limit-clause-lost
 returns-then-counter-limit-clause-lost g c f =
-    let k = c.args.self.now.board.words.shape in
-    let d = g.D.Discipline in
-    let one = c.gate_look-gate in
-    let s = stage d k _ _ c.requires.belongs.keeps in
-    let t = stage d k _ _ one.ensures.belongs.keeps in
-    let two = c.counter_load-counter in
-    let u = stage d k _ _ two.ensures.belongs.keeps in
-    let free = ne_eqb (one.result % 2) 1 c.if-gate-eq1.false in
+    let at = goal.at.returns-then-counter-limit-clause-lost g c in
     let above = c.if-counter-limit.true in
     let same = c.limit-limit.ensures in
-    let high : (domain_bounds c.args.self.now).limit ≤ sequence_of two.result = grind arith in
-    count_fails s t c.args.row one.result c.requires.row one.ensures.made u two.result free two.ensures.made high
+    let high : (domain_bounds c.args.self.now).limit ≤ sequence_of c.counter_load-counter.result = grind arith in
+    count_fails (looks g at.After-gate_look-gate) (reads g at.After-counter_load-counter) high
 
 pub returns-clause-lost : goal.returns-clause-lost
 returns-clause-lost g c f =
-    let k = c.args.self.now.board.words.shape in
-    let d = g.D.Discipline in
-    let one = c.gate_look-gate in
-    let s = stage d k _ _ c.requires.belongs.keeps in
-    let t = stage d k _ _ one.ensures.belongs.keeps in
-    let two = c.counter_load-counter in
-    let u = stage d k _ _ two.ensures.belongs.keeps in
-    let free = ne_eqb (one.result % 2) 1 c.if-gate-eq1.false in
-    let three = c.gate_take-taken in
-    let w = stage d k _ _ three.ensures.belongs.keeps in
-    take_fails s t c.args.row one.result c.requires.row one.ensures.made u two.result free two.ensures.made w three.result three.ensures.made
-    (eqb-false three.result 1 f)
+    let at = goal.at.returns-clause-lost g c in
+    let e = c.gate_take-taken in
+    take_fails (looks g at.After-gate_look-gate) (reads g at.After-counter_load-counter) (stage_of e.ensures.belongs) e.result e.ensures.made (eqb-false e.result 1 f)
 
 pub returns-clause-took : goal.returns-clause-took
 returns-clause-took g c f =
-    let k = c.args.self.now.board.words.shape in
-    let d = g.D.Discipline in
-    let one = c.gate_look-gate in
-    let s = stage d k _ _ c.requires.belongs.keeps in
-    let t = stage d k _ _ one.ensures.belongs.keeps in
-    let two = c.counter_load-counter in
-    let u = stage d k _ _ two.ensures.belongs.keeps in
-    let free = ne_eqb (one.result % 2) 1 c.if-gate-eq1.false in
-    let three = c.gate_take-taken in
-    let w = stage d k _ _ three.ensures.belongs.keeps in
-    take_gets s t c.args.row one.result c.requires.row one.ensures.made u two.result free two.ensures.made w three.result three.ensures.made
-    (eqb-true three.result 1 f)
+    let at = goal.at.returns-clause-took g c in
+    let e = c.gate_take-taken in
+    take_gets (looks g at.After-gate_look-gate) (reads g at.After-counter_load-counter) (stage_of e.ensures.belongs) e.result e.ensures.made (eqb-true e.result 1 f)

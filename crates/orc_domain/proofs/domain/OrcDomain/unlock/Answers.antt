@@ -3,7 +3,7 @@ use Rattle.orc_core.specs.Allowed.{may}
 use Rattle.orc_core.specs.declared.ops.Op.TheVariants.{TakeIn}
 use Rattle.orc_machine_board.specs.Views.{shows}
 use Rattle.orc_domain.proofs.Setting.{may_take_in, unlocks}
-use Rattle.orc_domain.proofs.Stages.{stage}
+use Rattle.orc_domain.proofs.Ending.{stage_of}
 use Rattle.orc_domain.specs.Passes.{domain_bounds}
 use Rattle.orc_domain.proofs.domain.OrcDomain.unlock.Goals as goal
 
@@ -16,8 +16,7 @@ take_in-requires-clause-allowed g c =
 
 pub returns-clause-unlocks : goal.returns-clause-unlocks
 returns-clause-unlocks g c =
-    let k = c.args.self.now.board.words.shape in
-    let s = stage g.D.Discipline k _ _ c.requires.belongs.keeps in
-    let t = stage g.D.Discipline k _ _ c.clear.ensures.belongs.keeps in
-    let u = stage g.D.Discipline k _ _ c.take_in.ensures.belongs.keeps in
+    let s = stage_of c.requires.belongs in
+    let t = stage_of c.clear.ensures.belongs in
+    let u = stage_of c.take_in.ensures.belongs in
     unlocks s t u c.args.slot c.clear.result c.take_in.result c.clear.ensures.made c.take_in.ensures.made

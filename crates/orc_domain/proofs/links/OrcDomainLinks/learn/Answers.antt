@@ -1,33 +1,21 @@
 use Rattle.orc_domain.proofs.Learning.{first_later, grown_between, learns, second_later}
-use Rattle.orc_domain.proofs.Stages.{stage}
+use Rattle.orc_domain.proofs.Ending.{between_of, pass_of, stage_of}
 use Rattle.orc_domain.proofs.links.OrcDomainLinks.learn.Goals as goal
 
 pub returns-clause-passes : goal.returns-clause-passes
 returns-clause-passes g c =
-    let k = c.args.self.now.board.words.shape in
-    let d = g.D.Discipline in
     let one = c.requires.passes.0 in
     let two = c.requires.passes.1 in
-    let s = stage d k _ _ one.board.keeps in
-    let u = stage d k _ _ two.board.keeps in
-    let t = stage d k _ _ c.learn.ensures.into.keeps in
-    let w = stage d k _ _ c.learn.ensures.from.keeps in
-    let l = c.learn.ensures.learns in
-    let into = grown_between s t l.into (first_later s u t w l) (record { ready = one.ready; untouched = one.untouched }) in
-    let from = grown_between u w l.from (second_later s u t w l) (record { ready = two.ready; untouched = two.untouched }) in (
-      record { board = c.learn.ensures.into; ready = into.ready; untouched = into.untouched; inside = one.inside },
-      record { board = c.learn.ensures.from; ready = from.ready; untouched = from.untouched; inside = two.inside },
+    let e = c.learn.ensures in
+    let s = stage_of one.board in
+    let u = stage_of two.board in
+    let t = stage_of e.into in
+    let w = stage_of e.from in (
+      pass_of e.into (grown_between s t e.learns.into (first_later s u t w e.learns) (between_of one)) one.inside,
+      pass_of e.from (grown_between u w e.learns.from (second_later s u t w e.learns) (between_of two)) two.inside,
     )
 
 pub returns-clause-learned : goal.returns-clause-learned
 returns-clause-learned g c =
-    let k = c.args.self.now.board.words.shape in
-    let d = g.D.Discipline in
-    let one = c.requires.passes.0 in
-    let two = c.requires.passes.1 in
-    let s = stage d k _ _ one.board.keeps in
-    let u = stage d k _ _ two.board.keeps in
-    let t = stage d k _ _ c.learn.ensures.into.keeps in
-    let w = stage d k _ _ c.learn.ensures.from.keeps in
-    let l = c.learn.ensures.learns in
-    learns s u t w l
+    let e = c.learn.ensures in
+    learns (stage_of c.requires.passes.0.board) (stage_of c.requires.passes.1.board) (stage_of e.into) (stage_of e.from) e.learns

@@ -1,72 +1,65 @@
-use Rattle.std.proofs.Common.{None, Some, false, refl, subst, sym, true, ℕ, ◌≡◌, ◌≢◌, ◌∙◌}
+use Rattle.std.proofs.Common.{None, Some, false, refl, subst, sym, true, ◌∙◌, ◌≡◌}
 use Rattle.orc_heap.proofs.Calls.{looks_beside}
-use Rattle.orc_heap.specs.Seats.{place_in}
-use Rattle.orc_heap.specs.declared.holds.Looked.TheVariants.{Moved, Stable}
-use Rattle.orc_domain.proofs.Looking.{Begun, begin_can, held_leaves, look_between, look_held, look_moved, look_null, moved_between, moved_leaves, moved_mark, null_between, null_leaves}
-use Rattle.orc_domain.proofs.MovingOn.{Leaves, move_between, move_calm, move_can, move_clear_can, move_held, move_leaves, move_off, move_second_can, off_between, off_leaves}
-use Rattle.orc_machine_rest.proofs.TakenIn.{done_later}
-use Rattle.orc_domain.proofs.Protected.{marked_by, may_protect, stayed, went_off}
-use Rattle.orc_domain.proofs.Stages.{stage}
-use Rattle.orc_domain.specs.Passes.{seat_of}
+use Rattle.orc_heap.specs.declared.holds.Looked.TheVariants.{Stable}
+use Rattle.orc_domain.proofs.Following.{reload_can}
+use Rattle.orc_domain.proofs.Looking.{Begun, Starts, begin_can, loaded, look_null, null_ends}
+use Rattle.orc_domain.proofs.MovingOn.{Leaves, MovesSlot, move_calm, move_can, move_clear_can, move_ends, move_held, move_off, moved, off_ends}
+use Rattle.orc_domain.proofs.Protected.{Followed, held, held_so, in_held, marked_by, may_protect, stays_off, went_so}
+use Rattle.orc_domain.proofs.Ending.{between_of, ends_later, pass_of, stage_of}
 use Rattle.orc_domain.specs.Protections.{MayProtect}
 use Rattle.orc_words.specs.Packed.{link_of, link_word}
 use Rattle.orc_words.specs.declared.packed.RowLink.{RowLink}
 use Rattle.orc_domain.proofs.links.OrcDomainLinks.look_on.Given.{Over}
-use Rattle.orc_domain.proofs.links.OrcDomainLinks.look_on.Goals.{After-word_at-word}
+use Rattle.orc_domain.proofs.links.OrcDomainLinks.look_on.Goals.{After-load-one, After-read_again-stays, After-protect_marked-same, After-slot-moving, After-word_at-word}
 use Rattle.orc_domain.proofs.links.OrcDomainLinks.look_on.Goals as goal
 
 -- where the call begins
-begun : (g : Over) (c : After-word_at-word g)
-    → Begun (stage g.D.Discipline c.args.self.now.board.words.shape _ _ c.requires.pass.board.keeps) c.args.place.now c.word_at-word.result c.args.slot
-begun g c = record {
-  between = record { ready = c.requires.pass.ready; untouched = c.requires.pass.untouched };
-  place = c.requires.place;
-  word = c.word_at-word.ensures;
-  free = c.requires.slot;
+begun : (g : Over) (c : After-word_at-word g) → Begun (stage_of c.requires.pass.board) c.args.place.now c.word_at-word.result c.args.slot
+begun g c = record { between = between_of c.requires.pass; place = c.requires.place; word = c.word_at-word.ensures; free = c.requires.slot }
+
+-- what the first load found
+starts : (g : Over) (c : After-load-one g)
+    → Starts (stage_of c.requires.pass.board) c.args.place.now c.word_at-word.result c.args.slot c.load-one.result (stage_of c.load-one.ensures.belongs)
+starts g c = record {
+  begun = record { between = between_of c.requires.pass; place = c.requires.place; word = c.word_at-word.ensures; free = c.requires.slot };
+  made = c.load-one.ensures.made;
+  is = c.load-one.ensures.link;
 }
 
--- the hold that may move on, by its slot
-leaves : (g : Over) (c : After-word_at-word g) (slot : ℕ) → slot ≡ c.args.from.slot
-    → Leaves (stage g.D.Discipline c.args.self.now.board.words.shape _ _ c.requires.pass.board.keeps) c.args.place.now c.args.from slot
-leaves g c slot is = record { held = c.requires.from; linked = c.requires.linked; outside = c.requires.outside; is = is }
-
 pub load-one-requires-clause-allowed : goal.load-one-requires-clause-allowed
-load-one-requires-clause-allowed g c =
-    begin_can (begun g (goal.at.load-one-requires-clause-allowed g c).After-word_at-word)
+load-one-requires-clause-allowed g c = begin_can (begun g (goal.at.load-one-requires-clause-allowed g c).After-word_at-word)
 
+-- the link is null
 pub returns-in_default-clause-pass : goal.returns-in_default-clause-pass
 returns-in_default-clause-pass g c =
-    let k = c.args.self.now.board.words.shape in
-    let l = begun g (goal.at.returns-in_default-clause-pass g c).After-word_at-word in
-    let one = c.load-one in
-    let t = stage g.D.Discipline k _ _ one.ensures.belongs.keeps in
-    let next = null_between l t one.result one.ensures.made one.ensures.link in
-    record { board = one.ensures.belongs; ready = next.ready; untouched = next.untouched; inside = c.requires.pass.inside }
+    pass_of c.load-one.ensures.belongs (null_ends (starts g (goal.at.returns-in_default-clause-pass g c).After-load-one)).between c.requires.pass.inside
 
 pub returns-in_default-clause-looked : goal.returns-in_default-clause-looked
 returns-in_default-clause-looked g c =
-    let k = c.args.self.now.board.words.shape in
-    let l = begun g (goal.at.returns-in_default-clause-looked g c).After-word_at-word in
-    let one = c.load-one in
-    let t = stage g.D.Discipline k _ _ one.ensures.belongs.keeps in
-    looks_beside (place_in (seat_of c.args.self.now c.args.p.now).slots c.args.place.now) c.args.slot (seat_of c.args.self.now c.args.p.now) c.args.from
-    (Stable (record { null = true; mark = one.result.mark }) None) _ (look_null l t one.result one.ensures.made one.ensures.link c.in_default.is) tt
+    looks_beside _ c.args.slot _ c.args.from (Stable (record { null = true; mark = c.load-one.result.mark }) None) _
+    (look_null (starts g (goal.at.returns-in_default-clause-looked g c).After-load-one) c.in_default.is) tt
 
 pub returns-in_default-clause-taken_in : goal.returns-in_default-clause-taken_in
-returns-in_default-clause-taken_in g c =
-    let k = c.args.self.now.board.words.shape in
-    let l = begun g (goal.at.returns-in_default-clause-taken_in g c).After-word_at-word in
-    let one = c.load-one in
-    let t = stage g.D.Discipline k _ _ one.ensures.belongs.keeps in
-    null_leaves l t one.result one.ensures.made one.ensures.link
+returns-in_default-clause-taken_in g c = (null_ends (starts g (goal.at.returns-in_default-clause-taken_in g c).After-load-one)).leaves
 
+-- it is marked: the target is protected in the other slot
 pub protect_marked-same-requires-clause-allowed : goal.protect_marked-same-requires-clause-allowed
 protect_marked-same-requires-clause-allowed g c =
-    let l = begun g (goal.at.protect_marked-same-requires-clause-allowed g c).After-word_at-word in
-    let one = c.load-one in
     subst (λ w. MayProtect c.args.self.now.board w c.args.slot c.in-Some.row c.load-one.new.p) (c.word_at-word.ensures ∙ sym c.numbers_of-kind.ensures)
-    (may_protect c.args.self.now.board _ _ c.args.place.now c.word_at-word.result c.args.slot one.result c.requires.pass.board one.ensures.belongs l
-    one.ensures.made one.ensures.link c.in-Some.row c.in-Some.is)
+    (may_protect c.requires.pass.board c.load-one.ensures.belongs (starts g (goal.at.protect_marked-same-requires-clause-allowed g c).After-load-one) c.in-Some.is)
+
+followed : (g : Over) (c : After-protect_marked-same g)
+    → Followed c.requires.pass.board c.load-one.ensures.belongs c.args.place.now c.word_at-word.result c.args.slot c.in-Some.row c.load-one.result
+    c.protect_marked-same.result c.protect_marked-same.new.p
+followed g c = record {
+  starts = record {
+    begun = record { between = between_of c.requires.pass; place = c.requires.place; word = c.word_at-word.ensures; free = c.requires.slot };
+    made = c.load-one.ensures.made;
+    is = c.load-one.ensures.link;
+  };
+  to = c.in-Some.is;
+  protects = marked_by c.protect_marked-same.ensures.protects (c.numbers_of-kind.ensures ∙ sym c.word_at-word.ensures) c.in-Some.is c.if-mark.true refl;
+}
 
 pub protect_marked-same-requires-clause-known : goal.protect_marked-same-requires-clause-known
 protect_marked-same-requires-clause-known g c =
@@ -74,242 +67,103 @@ protect_marked-same-requires-clause-known g c =
 
 pub returns-then-mark-clause-pass : goal.returns-then-mark-clause-pass
 returns-then-mark-clause-pass g c =
-    let k = c.args.self.now.board.words.shape in
-    let l = begun g (goal.at.returns-then-mark-clause-pass g c).After-word_at-word in
-    let one = c.load-one in
-    let t = stage g.D.Discipline k _ _ one.ensures.belongs.keeps in
-    let e = went_off (marked_by c.protect_marked-same.ensures.protects (c.numbers_of-kind.ensures ∙ sym c.word_at-word.ensures) c.in-Some.is c.if-mark.true refl) c.if-same.false in
-    let u = stage g.D.Discipline k _ _ e.published.belongs.keeps in
-    let y = stage g.D.Discipline k _ _ e.reread.belongs.keeps in
-    let z = stage g.D.Discipline k _ _ c.protect_marked-same.ensures.belongs.keeps in
-    let next = moved_between l t one.result one.ensures.made one.ensures.link c.in-Some.row c.in-Some.is u e.published.number e.published.made
-    y e.two e.reread.made e.reread.is e.other z e.unlocks in
-    record { board = c.protect_marked-same.ensures.belongs; ready = next.ready; untouched = next.untouched; inside = c.requires.pass.inside }
+    pass_of c.protect_marked-same.ensures.belongs (went_so (followed g (goal.at.returns-then-mark-clause-pass g c).After-protect_marked-same) c.if-same.false c.protect_marked-same.ensures.belongs).between
+    c.requires.pass.inside
 
 pub returns-then-mark-clause-looked : goal.returns-then-mark-clause-looked
 returns-then-mark-clause-looked g c =
-    let k = c.args.self.now.board.words.shape in
-    let l = begun g (goal.at.returns-then-mark-clause-looked g c).After-word_at-word in
-    let one = c.load-one in
-    let t = stage g.D.Discipline k _ _ one.ensures.belongs.keeps in
-    let e = went_off (marked_by c.protect_marked-same.ensures.protects (c.numbers_of-kind.ensures ∙ sym c.word_at-word.ensures) c.in-Some.is c.if-mark.true refl) c.if-same.false in
-    let u = stage g.D.Discipline k _ _ e.published.belongs.keeps in
-    let y = stage g.D.Discipline k _ _ e.reread.belongs.keeps in
-    let z = stage g.D.Discipline k _ _ c.protect_marked-same.ensures.belongs.keeps in
-    let told = look_moved l t one.result one.ensures.made one.ensures.link c.in-Some.row c.in-Some.is u e.published.number e.published.made
-    y e.two e.reread.made e.reread.is e.other z e.unlocks in
-    let mark = moved_mark l t one.result one.ensures.made one.ensures.link c.in-Some.row c.in-Some.is u e.published.number e.published.made
-    y e.two e.reread.made e.reread.is e.other z e.unlocks in
-    looks_beside (place_in (seat_of c.args.self.now c.args.p.now).slots c.args.place.now) c.args.slot (seat_of c.args.self.now c.args.p.now) c.args.from
-    Moved _ told (mark ∙ c.if-mark.true)
+    stays_off (followed g (goal.at.returns-then-mark-clause-looked g c).After-protect_marked-same) c.if-same.false c.protect_marked-same.ensures.belongs c.args.from c.if-mark.true
 
 pub returns-then-mark-clause-taken_in : goal.returns-then-mark-clause-taken_in
 returns-then-mark-clause-taken_in g c =
-    let k = c.args.self.now.board.words.shape in
-    let l = begun g (goal.at.returns-then-mark-clause-taken_in g c).After-word_at-word in
-    let one = c.load-one in
-    let t = stage g.D.Discipline k _ _ one.ensures.belongs.keeps in
-    let e = went_off (marked_by c.protect_marked-same.ensures.protects (c.numbers_of-kind.ensures ∙ sym c.word_at-word.ensures) c.in-Some.is c.if-mark.true refl) c.if-same.false in
-    let u = stage g.D.Discipline k _ _ e.published.belongs.keeps in
-    let y = stage g.D.Discipline k _ _ e.reread.belongs.keeps in
-    let z = stage g.D.Discipline k _ _ c.protect_marked-same.ensures.belongs.keeps in
-    moved_leaves l t one.result one.ensures.made one.ensures.link c.in-Some.row c.in-Some.is u e.published.number e.published.made
-    y e.two e.reread.made e.reread.is e.other z e.unlocks
+    (went_so (followed g (goal.at.returns-then-mark-clause-taken_in g c).After-protect_marked-same) c.if-same.false c.protect_marked-same.ensures.belongs).leaves
 
 pub returns-then-mark-clause-later : goal.returns-then-mark-clause-later
 returns-then-mark-clause-later g c =
-    let k = c.args.self.now.board.words.shape in
-    let l = begun g (goal.at.returns-then-mark-clause-later g c).After-word_at-word in
-    let one = c.load-one in
-    let t = stage g.D.Discipline k _ _ one.ensures.belongs.keeps in
-    let e = went_off (marked_by c.protect_marked-same.ensures.protects (c.numbers_of-kind.ensures ∙ sym c.word_at-word.ensures) c.in-Some.is c.if-mark.true refl) c.if-same.false in
-    let u = stage g.D.Discipline k _ _ e.published.belongs.keeps in
-    let y = stage g.D.Discipline k _ _ e.reread.belongs.keeps in
-    let z = stage g.D.Discipline k _ _ c.protect_marked-same.ensures.belongs.keeps in
-    done_later _ _ _ _ (moved_leaves l t one.result one.ensures.made one.ensures.link c.in-Some.row c.in-Some.is u e.published.number e.published.made
-    y e.two e.reread.made e.reread.is e.other z e.unlocks).done
+    ends_later (went_so (followed g (goal.at.returns-then-mark-clause-later g c).After-protect_marked-same) c.if-same.false c.protect_marked-same.ensures.belongs)
 
 pub returns-then-same-clause-pass : goal.returns-then-same-clause-pass
 returns-then-same-clause-pass g c =
-    let k = c.args.self.now.board.words.shape in
-    let l = begun g (goal.at.returns-then-same-clause-pass g c).After-word_at-word in
-    let one = c.load-one in
-    let t = stage g.D.Discipline k _ _ one.ensures.belongs.keeps in
-    let e = stayed (marked_by c.protect_marked-same.ensures.protects (c.numbers_of-kind.ensures ∙ sym c.word_at-word.ensures) c.in-Some.is c.if-mark.true refl) c.if-same.true in
-    let u = stage g.D.Discipline k _ _ e.published.belongs.keeps in
-    let y = stage g.D.Discipline k _ _ e.reread.belongs.keeps in
-    let next = look_between l t one.result one.ensures.made one.ensures.link c.in-Some.row c.in-Some.is u e.published.number e.published.made
-    y one.result e.reread.made e.reread.is refl in
-    record { board = e.reread.belongs; ready = next.ready; untouched = next.untouched; inside = c.requires.pass.inside }
+    let e = followed g (goal.at.returns-then-same-clause-pass g c).After-protect_marked-same in
+    pass_of (in_held e c.if-same.true) (held_so e c.if-same.true).between c.requires.pass.inside
 
 pub returns-then-same-clause-looked : goal.returns-then-same-clause-looked
 returns-then-same-clause-looked g c =
-    let k = c.args.self.now.board.words.shape in
-    let l = begun g (goal.at.returns-then-same-clause-looked g c).After-word_at-word in
-    let one = c.load-one in
-    let t = stage g.D.Discipline k _ _ one.ensures.belongs.keeps in
-    let e = stayed (marked_by c.protect_marked-same.ensures.protects (c.numbers_of-kind.ensures ∙ sym c.word_at-word.ensures) c.in-Some.is c.if-mark.true refl) c.if-same.true in
-    let u = stage g.D.Discipline k _ _ e.published.belongs.keeps in
-    let y = stage g.D.Discipline k _ _ e.reread.belongs.keeps in
-    let told = look_held l t one.result one.ensures.made one.ensures.link c.in-Some.row c.in-Some.is u e.published.number e.published.made
-    y one.result e.reread.made e.reread.is refl c.new-held.result c.new-held.ensures in
-    looks_beside (place_in (seat_of c.args.self.now c.args.p.now).slots c.args.place.now) c.args.slot (seat_of c.args.self.now c.args.p.now) c.args.from
-    (Stable (record { null = false; mark = one.result.mark }) (Some c.new-held.result)) _ told c.if-mark.true
+    looks_beside _ c.args.slot _ c.args.from (Stable (record { null = false; mark = c.load-one.result.mark }) (Some c.new-held.result)) _
+    (held (followed g (goal.at.returns-then-same-clause-looked g c).After-protect_marked-same) c.if-same.true c.new-held.result c.new-held.ensures) c.if-mark.true
 
 pub returns-then-same-clause-taken_in : goal.returns-then-same-clause-taken_in
-returns-then-same-clause-taken_in g c =
-    let k = c.args.self.now.board.words.shape in
-    let l = begun g (goal.at.returns-then-same-clause-taken_in g c).After-word_at-word in
-    let one = c.load-one in
-    let t = stage g.D.Discipline k _ _ one.ensures.belongs.keeps in
-    let e = stayed (marked_by c.protect_marked-same.ensures.protects (c.numbers_of-kind.ensures ∙ sym c.word_at-word.ensures) c.in-Some.is c.if-mark.true refl) c.if-same.true in
-    let u = stage g.D.Discipline k _ _ e.published.belongs.keeps in
-    let y = stage g.D.Discipline k _ _ e.reread.belongs.keeps in
-    held_leaves l t one.result one.ensures.made one.ensures.link c.in-Some.row c.in-Some.is u e.published.number e.published.made
-    y one.result e.reread.made e.reread.is refl
+returns-then-same-clause-taken_in g c = (held_so (followed g (goal.at.returns-then-same-clause-taken_in g c).After-protect_marked-same) c.if-same.true).leaves
 
 pub returns-then-same-clause-later : goal.returns-then-same-clause-later
-returns-then-same-clause-later g c =
-    let k = c.args.self.now.board.words.shape in
-    let l = begun g (goal.at.returns-then-same-clause-later g c).After-word_at-word in
-    let one = c.load-one in
-    let t = stage g.D.Discipline k _ _ one.ensures.belongs.keeps in
-    let e = stayed (marked_by c.protect_marked-same.ensures.protects (c.numbers_of-kind.ensures ∙ sym c.word_at-word.ensures) c.in-Some.is c.if-mark.true refl) c.if-same.true in
-    let u = stage g.D.Discipline k _ _ e.published.belongs.keeps in
-    let y = stage g.D.Discipline k _ _ e.reread.belongs.keeps in
-    done_later _ _ _ _ (held_leaves l t one.result one.ensures.made one.ensures.link c.in-Some.row c.in-Some.is u e.published.number e.published.made
-    y one.result e.reread.made e.reread.is refl).done
+returns-then-same-clause-later g c = ends_later (held_so (followed g (goal.at.returns-then-same-clause-later g c).After-protect_marked-same) c.if-same.true)
+
+-- it isn't: the hold's slot moves on
+leaves : (g : Over) (c : After-slot-moving g) → Leaves (stage_of c.requires.pass.board) c.args.place.now c.args.from c.slot-moving.result
+leaves g c = record { held = c.requires.from; linked = c.requires.linked; outside = c.requires.outside; is = c.slot-moving.ensures }
 
 pub move_on-requires-clause-allowed : goal.move_on-requires-clause-allowed
 move_on-requires-clause-allowed g c =
-    let k = c.args.self.now.board.words.shape in
-    let l = begun g (goal.at.move_on-requires-clause-allowed g c).After-word_at-word in
-    let one = c.load-one in
-    let t = stage g.D.Discipline k _ _ one.ensures.belongs.keeps in
-    let v = leaves g (goal.at.move_on-requires-clause-allowed g c).After-word_at-word c.slot-moving.result c.slot-moving.ensures in
-    move_can l v t one.result one.ensures.made one.ensures.link c.in-Some.row c.in-Some.is
+    let at = goal.at.move_on-requires-clause-allowed g c in
+    move_can (starts g at.After-load-one) (leaves g at.After-slot-moving) c.in-Some.is
 
 pub read_again-stays-requires-clause-allowed : goal.read_again-stays-requires-clause-allowed
 read_again-stays-requires-clause-allowed g c =
-    let k = c.args.self.now.board.words.shape in
-    let l = begun g (goal.at.read_again-stays-requires-clause-allowed g c).After-word_at-word in
-    let one = c.load-one in
-    let t = stage g.D.Discipline k _ _ one.ensures.belongs.keeps in
-    let v = leaves g (goal.at.read_again-stays-requires-clause-allowed g c).After-word_at-word c.slot-moving.result c.slot-moving.ensures in
-    let u = stage g.D.Discipline k _ _ c.move_on.ensures.belongs.keeps in
-    move_second_can l v t one.result one.ensures.made one.ensures.link c.in-Some.row c.in-Some.is u c.move_on.result c.move_on.ensures.made
+    let at = goal.at.read_again-stays-requires-clause-allowed g c in
+    let f = starts g at.After-load-one in
+    reload_can (loaded f) c.in-Some.is
+    (moved f (leaves g at.After-slot-moving) c.in-Some.is (stage_of c.move_on.ensures.belongs) c.move_on.result c.move_on.ensures.made)
+
+moves : (g : Over) (c : After-read_again-stays g)
+    → MovesSlot (stage_of c.requires.pass.board) (stage_of c.load-one.ensures.belongs) c.args.place.now c.word_at-word.result c.args.slot c.load-one.result
+    c.args.from c.slot-moving.result c.in-Some.row (stage_of c.move_on.ensures.belongs) c.read_again-stays.ensures.again.two (stage_of c.read_again-stays.ensures.again.reread.belongs)
+moves g c = record {
+  starts = record {
+    begun = record { between = between_of c.requires.pass; place = c.requires.place; word = c.word_at-word.ensures; free = c.requires.slot };
+    made = c.load-one.ensures.made;
+    is = c.load-one.ensures.link;
+  };
+  leaves = record { held = c.requires.from; linked = c.requires.linked; outside = c.requires.outside; is = c.slot-moving.ensures };
+  to = c.in-Some.is;
+  bare = c.if-mark.false;
+  number = c.move_on.result;
+  made = c.move_on.ensures.made;
+  again = record { made = c.read_again-stays.ensures.again.reread.made; is = c.read_again-stays.ensures.again.reread.is };
+}
 
 pub unlock_moved-requires-clause-allowed : goal.unlock_moved-requires-clause-allowed
-unlock_moved-requires-clause-allowed g c =
-    let k = c.args.self.now.board.words.shape in
-    let l = begun g (goal.at.unlock_moved-requires-clause-allowed g c).After-word_at-word in
-    let one = c.load-one in
-    let t = stage g.D.Discipline k _ _ one.ensures.belongs.keeps in
-    let v = leaves g (goal.at.unlock_moved-requires-clause-allowed g c).After-word_at-word c.slot-moving.result c.slot-moving.ensures in
-    let u = stage g.D.Discipline k _ _ c.move_on.ensures.belongs.keeps in
-    let e = c.read_again-stays.ensures.again in
-    let y = stage g.D.Discipline k _ _ e.reread.belongs.keeps in
-    move_clear_can l v t one.result one.ensures.made one.ensures.link c.in-Some.row c.in-Some.is u c.move_on.result c.move_on.ensures.made
-    y e.two e.reread.made e.reread.is
+unlock_moved-requires-clause-allowed g c = move_clear_can (moves g (goal.at.unlock_moved-requires-clause-allowed g c).After-read_again-stays)
 
 pub unlock_moved-requires-clause-calm : goal.unlock_moved-requires-clause-calm
-unlock_moved-requires-clause-calm g c =
-    let k = c.args.self.now.board.words.shape in
-    let l = begun g (goal.at.unlock_moved-requires-clause-calm g c).After-word_at-word in
-    let one = c.load-one in
-    let t = stage g.D.Discipline k _ _ one.ensures.belongs.keeps in
-    let v = leaves g (goal.at.unlock_moved-requires-clause-calm g c).After-word_at-word c.slot-moving.result c.slot-moving.ensures in
-    let u = stage g.D.Discipline k _ _ c.move_on.ensures.belongs.keeps in
-    let e = c.read_again-stays.ensures.again in
-    let y = stage g.D.Discipline k _ _ e.reread.belongs.keeps in
-    move_calm l v t one.result one.ensures.made one.ensures.link c.in-Some.row c.in-Some.is u c.move_on.result c.move_on.ensures.made
-    y e.two e.reread.made e.reread.is
+unlock_moved-requires-clause-calm g c = move_calm (moves g (goal.at.unlock_moved-requires-clause-calm g c).After-read_again-stays)
 
 pub returns-clause-pass : goal.returns-clause-pass
 returns-clause-pass g c =
-    let k = c.args.self.now.board.words.shape in
-    let l = begun g (goal.at.returns-clause-pass g c).After-word_at-word in
-    let one = c.load-one in
-    let t = stage g.D.Discipline k _ _ one.ensures.belongs.keeps in
-    let v = leaves g (goal.at.returns-clause-pass g c).After-word_at-word c.slot-moving.result c.slot-moving.ensures in
-    let u = stage g.D.Discipline k _ _ c.move_on.ensures.belongs.keeps in
-    let e = c.read_again-stays.ensures.again in
-    let y = stage g.D.Discipline k _ _ e.reread.belongs.keeps in
-    let z = stage g.D.Discipline k _ _ c.unlock_moved.ensures.belongs.keeps in
-    let other = e.moves c.if-stays.false in
-    let next = off_between l v t one.result one.ensures.made one.ensures.link c.in-Some.row c.in-Some.is u c.move_on.result c.move_on.ensures.made
-    y e.two e.reread.made e.reread.is other z c.unlock_moved.ensures.unlocks in
-    record { board = c.unlock_moved.ensures.belongs; ready = next.ready; untouched = next.untouched; inside = c.requires.pass.inside }
+    pass_of c.unlock_moved.ensures.belongs (off_ends (moves g (goal.at.returns-clause-pass g c).After-read_again-stays)
+    (c.read_again-stays.ensures.again.moves c.if-stays.false) (stage_of c.unlock_moved.ensures.belongs)
+    c.unlock_moved.ensures.unlocks).between c.requires.pass.inside
 
 pub returns-clause-looked : goal.returns-clause-looked
 returns-clause-looked g c =
-    let k = c.args.self.now.board.words.shape in
-    let l = begun g (goal.at.returns-clause-looked g c).After-word_at-word in
-    let one = c.load-one in
-    let t = stage g.D.Discipline k _ _ one.ensures.belongs.keeps in
-    let v = leaves g (goal.at.returns-clause-looked g c).After-word_at-word c.slot-moving.result c.slot-moving.ensures in
-    let u = stage g.D.Discipline k _ _ c.move_on.ensures.belongs.keeps in
-    let e = c.read_again-stays.ensures.again in
-    let y = stage g.D.Discipline k _ _ e.reread.belongs.keeps in
-    let z = stage g.D.Discipline k _ _ c.unlock_moved.ensures.belongs.keeps in
-    let other = e.moves c.if-stays.false in
-    move_off l v t one.result one.ensures.made one.ensures.link c.in-Some.row c.in-Some.is u c.move_on.result c.move_on.ensures.made
-    y e.two e.reread.made e.reread.is other z c.unlock_moved.ensures.unlocks c.if-mark.false
+    move_off (moves g (goal.at.returns-clause-looked g c).After-read_again-stays)
+    (c.read_again-stays.ensures.again.moves c.if-stays.false) (stage_of c.unlock_moved.ensures.belongs)
+    c.unlock_moved.ensures.unlocks
 
 pub returns-clause-taken_in : goal.returns-clause-taken_in
 returns-clause-taken_in g c =
-    let k = c.args.self.now.board.words.shape in
-    let l = begun g (goal.at.returns-clause-taken_in g c).After-word_at-word in
-    let one = c.load-one in
-    let t = stage g.D.Discipline k _ _ one.ensures.belongs.keeps in
-    let v = leaves g (goal.at.returns-clause-taken_in g c).After-word_at-word c.slot-moving.result c.slot-moving.ensures in
-    let u = stage g.D.Discipline k _ _ c.move_on.ensures.belongs.keeps in
-    let e = c.read_again-stays.ensures.again in
-    let y = stage g.D.Discipline k _ _ e.reread.belongs.keeps in
-    let z = stage g.D.Discipline k _ _ c.unlock_moved.ensures.belongs.keeps in
-    let other = e.moves c.if-stays.false in
-    off_leaves l v t one.result one.ensures.made one.ensures.link c.in-Some.row c.in-Some.is u c.move_on.result c.move_on.ensures.made
-    y e.two e.reread.made e.reread.is other z c.unlock_moved.ensures.unlocks
+    (off_ends (moves g (goal.at.returns-clause-taken_in g c).After-read_again-stays)
+    (c.read_again-stays.ensures.again.moves c.if-stays.false) (stage_of c.unlock_moved.ensures.belongs)
+    c.unlock_moved.ensures.unlocks).leaves
 
 pub returns-then-stays-clause-pass : goal.returns-then-stays-clause-pass
 returns-then-stays-clause-pass g c =
-    let k = c.args.self.now.board.words.shape in
-    let l = begun g (goal.at.returns-then-stays-clause-pass g c).After-word_at-word in
-    let one = c.load-one in
-    let t = stage g.D.Discipline k _ _ one.ensures.belongs.keeps in
-    let v = leaves g (goal.at.returns-then-stays-clause-pass g c).After-word_at-word c.slot-moving.result c.slot-moving.ensures in
-    let u = stage g.D.Discipline k _ _ c.move_on.ensures.belongs.keeps in
-    let e = c.read_again-stays.ensures.again in
-    let y = stage g.D.Discipline k _ _ e.reread.belongs.keeps in
-    let same = e.stays c.if-stays.true in
-    let next = move_between l v t one.result one.ensures.made one.ensures.link c.in-Some.row c.in-Some.is u c.move_on.result c.move_on.ensures.made
-    y e.two e.reread.made e.reread.is same in
-    record { board = e.reread.belongs; ready = next.ready; untouched = next.untouched; inside = c.requires.pass.inside }
+    pass_of c.read_again-stays.ensures.again.reread.belongs (move_ends (moves g (goal.at.returns-then-stays-clause-pass g c).After-read_again-stays)
+    (c.read_again-stays.ensures.again.stays c.if-stays.true)).between c.requires.pass.inside
 
 pub returns-then-stays-clause-looked : goal.returns-then-stays-clause-looked
 returns-then-stays-clause-looked g c =
-    let k = c.args.self.now.board.words.shape in
-    let l = begun g (goal.at.returns-then-stays-clause-looked g c).After-word_at-word in
-    let one = c.load-one in
-    let t = stage g.D.Discipline k _ _ one.ensures.belongs.keeps in
-    let v = leaves g (goal.at.returns-then-stays-clause-looked g c).After-word_at-word c.slot-moving.result c.slot-moving.ensures in
-    let u = stage g.D.Discipline k _ _ c.move_on.ensures.belongs.keeps in
-    let e = c.read_again-stays.ensures.again in
-    let y = stage g.D.Discipline k _ _ e.reread.belongs.keeps in
-    let same = e.stays c.if-stays.true in
-    move_held l v t one.result one.ensures.made one.ensures.link c.in-Some.row c.in-Some.is u c.move_on.result c.move_on.ensures.made
-    y e.two e.reread.made e.reread.is same c.new.result c.new.ensures c.if-mark.false
+    move_held (moves g (goal.at.returns-then-stays-clause-looked g c).After-read_again-stays) (c.read_again-stays.ensures.again.stays c.if-stays.true) c.new.result c.new.ensures
 
 pub returns-then-stays-clause-taken_in : goal.returns-then-stays-clause-taken_in
 returns-then-stays-clause-taken_in g c =
-    let k = c.args.self.now.board.words.shape in
-    let l = begun g (goal.at.returns-then-stays-clause-taken_in g c).After-word_at-word in
-    let one = c.load-one in
-    let t = stage g.D.Discipline k _ _ one.ensures.belongs.keeps in
-    let v = leaves g (goal.at.returns-then-stays-clause-taken_in g c).After-word_at-word c.slot-moving.result c.slot-moving.ensures in
-    let u = stage g.D.Discipline k _ _ c.move_on.ensures.belongs.keeps in
-    let e = c.read_again-stays.ensures.again in
-    let y = stage g.D.Discipline k _ _ e.reread.belongs.keeps in
-    let same = e.stays c.if-stays.true in
-    move_leaves l v t one.result one.ensures.made one.ensures.link c.in-Some.row c.in-Some.is u c.move_on.result c.move_on.ensures.made
-    y e.two e.reread.made e.reread.is same
+    (move_ends (moves g (goal.at.returns-then-stays-clause-taken_in g c).After-read_again-stays) (c.read_again-stays.ensures.again.stays c.if-stays.true)).leaves
