@@ -1,21 +1,20 @@
 //! Worked examples of the definitions, computed by hand and proved.
 
-ghost use Rattle.std.specs.Prelude.{◌≡◌, ℕ, List, ◌∷◌, [], Some, None, true, false};
-ghost use Rattle.orc_heap.specs.Acts.{as_linked, with_link};
+ghost use Rattle.std.specs.Prelude.{◌≡◌, List, ◌∷◌, [], Some, None, true, false};
 ghost use Rattle.orc_heap.specs.Allowed.{AllAllowed};
-ghost use Rattle.orc_heap.specs.Heap.{Heap, HeapNumbers, Node, null, link_to};
+ghost use Rattle.orc_heap.specs.Heap.{Node, null, link_to};
 ghost use Rattle.orc_heap.specs.Journals.{run_heap, event_by};
 ghost use Rattle.orc_heap.specs.Moves.{moves_in};
 ghost use Rattle.orc_heap.specs.declared.events.Act.{Act};
 ghost use Rattle.orc_heap.specs.declared.events.Event.{Event};
-ghost use Rattle.orc_heap.specs.declared.events.Link.{Link};
 ghost use Rattle.orc_heap.specs.declared.events.Place.{Place};
 ghost use Rattle.orc_history.specs.declared.set.SetEntry.{SetEntry};
 ghost use Rattle.orc_chain_rule.specs.declared.chain.ChainNote.{ChainNote};
 ghost use Rattle.orc_ordered_chains.specs.Chains.{IsPath, IsRun};
 ghost use Rattle.orc_chain_rule.specs.ChainDiscipline.{ChainMay, FollowsOn, IsAbove, IsOnNoChain, IsPresent, MayAct, entries_of, key_of, set_after};
 ghost use Rattle.orc_chain_rule.specs.Counts.{AreLeftOver, IsLeftOver, adds_in, entries_of_others, removes_in, unlinks_in};
-ghost use Rattle.orc_chain_rule.specs.Watches.{LeavesOut, node_to_add};
+ghost use Rattle.orc_chain_rule.specs.Watches.{LeavesOut};
+ghost use Rattle.container_tests.specs.ChainHeaps.{added, leads_root, linked, marked, new_node, run_of_two, two_roots};
 
 // Agents 0 and 1 make a chain of three: 5, then 3 before it, then 9 behind them. Node 1 has the key 3, node 0 the key
 // 5, node 2 the key 9.
@@ -41,64 +40,24 @@ fn a_chain_of_three()
 // From a root that names the node of 3, marked, and behind it that of 5, marked, and that of 9: agent 1's node with
 // the key 4, aimed at 9, may be linked in place of the run, and the run may be left out.
 fn a_run_of_two_marked_nodes()
-    ensures run { let h : Heap = record {
-      nodes = with_link (record { to = Some 1; mark = true }) (as_linked (node_to_add 0 3 0 None))
-          ∷ with_link (record { to = Some 2; mark = true }) (as_linked (node_to_add 0 5 0 None))
-          ∷ as_linked (node_to_add 0 9 0 None) ∷ node_to_add 1 4 0 (Some 2) ∷ [];
-      roots = link_to 0 ∷ [];
-      links = 1;
-    } in
-        IsRun h (link_to 0) (0 ∷ 1 ∷ []) (Some 2) × IsPath h (Place.Root 0) (0 ∷ 1 ∷ []) (Some 2) × IsLeftOver h 1
-        × LeavesOut 1 h (Place.Root 0) (link_to 0) (0 ∷ 1 ∷ []) (Some 2) 5
-        × (¬ IsRun h (link_to 0) (0 ∷ []) (Some 2)) × (¬ IsRun h (link_to 0) (0 ∷ 1 ∷ 2 ∷ []) None)
-        × (¬ LeavesOut 1 h (Place.Root 0) (link_to 0) (0 ∷ 1 ∷ []) (Some 2) 9) }
-    ensures left_over { let h : Heap = record {
-      nodes = with_link (record { to = Some 1; mark = true }) (as_linked (node_to_add 0 3 0 None))
-          ∷ with_link (record { to = Some 2; mark = true }) (as_linked (node_to_add 0 5 0 None))
-          ∷ as_linked (node_to_add 0 9 0 None) ∷ node_to_add 1 4 0 (Some 2) ∷ [];
-      roots = link_to 0 ∷ [];
-      links = 1;
-    } in
-        AreLeftOver h (0 ∷ 1 ∷ []) × (¬ AreLeftOver h (0 ∷ [])) }
-    ensures inserted_over { let h : Heap = record {
-      nodes = with_link (record { to = Some 1; mark = true }) (as_linked (node_to_add 0 3 0 None))
-          ∷ with_link (record { to = Some 2; mark = true }) (as_linked (node_to_add 0 5 0 None))
-          ∷ as_linked (node_to_add 0 9 0 None) ∷ node_to_add 1 4 0 (Some 2) ∷ [];
-      roots = link_to 0 ∷ [];
-      links = 1;
-    } in
-        MayAct 1 h (9 ∷ []) (Act.Move (Place.Root 0) (link_to 0) (link_to 3)) (Some (ChainNote.Entry (SetEntry.Added 1 4 true))) }
-    ensures left_out { let h : Heap = record {
-      nodes = with_link (record { to = Some 1; mark = true }) (as_linked (node_to_add 0 3 0 None))
-          ∷ with_link (record { to = Some 2; mark = true }) (as_linked (node_to_add 0 5 0 None))
-          ∷ as_linked (node_to_add 0 9 0 None) ∷ node_to_add 1 4 0 (Some 2) ∷ [];
-      roots = link_to 0 ∷ [];
-      links = 1;
-    } in
-        MayAct 1 h (9 ∷ []) (Act.Move (Place.Root 0) (link_to 0) (link_to 2)) (Some ChainNote.Unlink) }
+    ensures run { IsRun run_of_two (link_to 0) (0 ∷ 1 ∷ []) (Some 2) × IsPath run_of_two (Place.Root 0) (0 ∷ 1 ∷ []) (Some 2) × IsLeftOver run_of_two 1
+        × LeavesOut 1 run_of_two (Place.Root 0) (link_to 0) (0 ∷ 1 ∷ []) (Some 2) 5
+        × (¬ IsRun run_of_two (link_to 0) (0 ∷ []) (Some 2)) × (¬ IsRun run_of_two (link_to 0) (0 ∷ 1 ∷ 2 ∷ []) None)
+        × (¬ LeavesOut 1 run_of_two (Place.Root 0) (link_to 0) (0 ∷ 1 ∷ []) (Some 2) 9) }
+    ensures left_over { AreLeftOver run_of_two (0 ∷ 1 ∷ []) × (¬ AreLeftOver run_of_two (0 ∷ [])) }
+    ensures inserted_over { MayAct 1 run_of_two (9 ∷ []) (leads_root (link_to 3)) (added 4) }
+    ensures left_out { MayAct 1 run_of_two (9 ∷ []) (leads_root (link_to 2)) (Some ChainNote.Unlink) }
 {}
 
 // With two roots, root 1 names node 0 with the key 3, behind which a key must be greater and odd. Node 1 with the key 5
 // is given, and nothing links to it.
 fn keys_and_roots()
-    ensures follows { let h : Heap = record {
-      nodes = as_linked (node_to_add 0 3 0 None) ∷ node_to_add 1 5 0 None ∷ [];
-      roots = null ∷ link_to 0 ∷ [];
-      links = 1;
-    } in
+    ensures follows { let h = two_roots (linked 3 None ∷ new_node 5 None ∷ []) in
         FollowsOn 2 h (Place.Root 1) 5 × FollowsOn 2 h (Place.Next 0) 5 × (¬ FollowsOn 2 h (Place.Root 0) 5) × (¬ FollowsOn 2 h (Place.Next 0) 4)
         × (¬ FollowsOn 2 h (Place.Next 0) 3) × (¬ FollowsOn 2 h (Place.Next 1) 7) }
-    ensures above { let h : Heap = record {
-      nodes = as_linked (node_to_add 0 3 0 None) ∷ node_to_add 1 5 0 None ∷ [];
-      roots = null ∷ link_to 0 ∷ [];
-      links = 1;
-    } in
+    ensures above { let h = two_roots (linked 3 None ∷ new_node 5 None ∷ []) in
         IsAbove h None 5 × IsAbove h (Some 0) 2 × (¬ IsAbove h (Some 0) 3) × (key_of h 0 ≡ 3) × (key_of h 2 ≡ 0) }
-    ensures present { let h : Heap = record {
-      nodes = as_linked (node_to_add 0 3 0 None) ∷ node_to_add 1 5 0 None ∷ [];
-      roots = null ∷ link_to 0 ∷ [];
-      links = 1;
-    } in
+    ensures present { let h = two_roots (linked 3 None ∷ new_node 5 None ∷ []) in
         IsPresent 2 h 3 × IsOnNoChain h 1 }
 {}
 
@@ -107,11 +66,11 @@ fn keys_and_roots()
 fn moves_are_counted()
     ensures { let es : List (Event ChainNote) =
         event_by 0 (Act.Move (Place.Root 0) null (link_to 0)) (Some (ChainNote.Entry (SetEntry.Added 0 5 true)))
-        ∷ event_by 1 (Act.Move (Place.Next 0) null (record { to = None; mark = true })) (Some (ChainNote.Entry (SetEntry.Removed 1 5 true)))
+        ∷ event_by 1 (Act.Move (Place.Next 0) null (marked None)) (Some (ChainNote.Entry (SetEntry.Removed 1 5 true)))
         ∷ event_by 0 (Act.Move (Place.Root 0) (link_to 0) (link_to 1)) (Some (ChainNote.Entry (SetEntry.Added 0 7 true)))
         ∷ event_by 1 (Act.Look (Place.Next 1) null) (Some (ChainNote.Entry (SetEntry.Asked 1 7 true)))
         ∷ event_by 1 (Act.Look (Place.Root 0) (link_to 1)) (Some (ChainNote.Entry (SetEntry.Removed 1 5 false)))
-        ∷ event_by 1 (Act.Move (Place.Next 1) null (record { to = None; mark = true })) (Some (ChainNote.Entry (SetEntry.Removed 1 7 true)))
+        ∷ event_by 1 (Act.Move (Place.Next 1) null (marked None)) (Some (ChainNote.Entry (SetEntry.Removed 1 7 true)))
         ∷ event_by 0 (Act.Move (Place.Root 0) (link_to 1) null) (Some ChainNote.Unlink) ∷ [] in
         (adds_in (entries_of es) ≡ 2) × (removes_in (entries_of es) ≡ 2) × (unlinks_in es ≡ 1) × (moves_in es ≡ 5) × (set_after es ≡ [])
         × (entries_of_others 1 (entries_of es) ≡ SetEntry.Added 0 5 true ∷ SetEntry.Added 0 7 true ∷ []) }

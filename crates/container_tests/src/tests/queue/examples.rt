@@ -1,6 +1,6 @@
 //! Worked examples of the definitions, computed by hand and proved, and what a caller of the queue sees.
 
-ghost use Rattle.std.specs.Prelude.{◌≡◌, ◌≤◌, ℕ, ◌-◌, ◌^◌, List, ◌∷◌, [], Some, None, Ok, Err, true};
+ghost use Rattle.std.specs.Prelude.{◌≡◌, ◌≤◌, ℕ, ◌-◌, ◌^◌, List, ◌∷◌, [], Some, None, Ok, Err};
 ghost use Rattle.orc_heap.specs.Heap.{null, link_to};
 ghost use Rattle.orc_heap.specs.declared.events.Act.{Act};
 ghost use Rattle.orc_heap.specs.declared.events.Event.{Event};
@@ -14,6 +14,7 @@ ghost use Rattle.orc_heap.specs.Seats.{IsIdle};
 ghost use Rattle.orc_queue.specs.QueueCalls.{others_puts};
 ghost use Rattle.orc_queue.specs.Turns.{IsFullLook, KeepsTail, SwingsTail, TailIsLast, TailIsPast, next_position};
 ghost use Rattle.orc_heap.specs.Journals.{event_by};
+ghost use Rattle.container_tests.specs.QueueHeaps.{dummy, last_node, links_node, opening, put_at, roots_at};
 
 use orc_fifo_rule::{Fifo, FifoNote};
 use orc_heap::{Act, Links, Place};
@@ -74,27 +75,17 @@ fn other_causes()
     ensures a_row { ¬ Cause {S = Event FifoNote} (λ e. e.agent) (λ j. j) 0 (◌≡◌ {A = ℕ} 0 1) 1 1 QueueRefused.NoNode [] 0 0 }
     ensures no_turns { ¬ Cause {S = Event FifoNote} (λ e. e.agent) (λ j. j) 0 (◌≡◌ {A = ℕ} 0 0) 1 0 QueueRefused.NoNode [] 0 0 }
     ensures full { LacksPosition {S = Event FifoNote} (λ j. j) (2 ^ 62 - 1) 1
-        (event_by 1 (Act.Move (Place.Next 0) null (link_to 1)) (Some (FifoNote.Entry (QueueEntry.Put 1 7 (2 ^ 62 - 1)))) ∷ []) 1 }
+        (event_by 1 links_node (put_at (2 ^ 62 - 1)) ∷ []) 1 }
     ensures not_yet { ¬ LacksPosition {S = Event FifoNote} (λ j. j) (2 ^ 62 - 1) 1
-        (event_by 1 (Act.Move (Place.Next 0) null (link_to 1)) (Some (FifoNote.Entry (QueueEntry.Put 1 7 (2 ^ 62 - 1)))) ∷ []) 0 }
+        (event_by 1 links_node (put_at (2 ^ 62 - 1)) ∷ []) 0 }
 {}
 
 // Node 0 is the dummy and leads to node 1, the last. A tail at node 0 lags; one at node 1 doesn't, and is past the head.
 fn where_the_tail_is()
-    ensures lags { ¬ TailIsLast (record {
-      links = 1;
-      nodes = record { giver = 0; first = None; second = Some 5; link = link_to 1; side = null; named = true; linked = true }
-          ∷ record { giver = 1; first = Some 7; second = Some 6; link = null; side = null; named = true; linked = true } ∷ [];
-      roots = link_to 0 ∷ link_to 0 ∷ [];
-    }) }
-    ensures last { TailIsLast (record {
-      links = 1;
-      nodes = record { giver = 0; first = None; second = Some 5; link = link_to 1; side = null; named = true; linked = true }
-          ∷ record { giver = 1; first = Some 7; second = Some 6; link = null; side = null; named = true; linked = true } ∷ [];
-      roots = link_to 0 ∷ link_to 1 ∷ [];
-    }) }
-    ensures past { TailIsPast (record { links = 1; nodes = []; roots = link_to 0 ∷ link_to 1 ∷ [] }) }
-    ensures at_the_head { ¬ TailIsPast (record { links = 1; nodes = []; roots = link_to 0 ∷ link_to 0 ∷ [] }) }
+    ensures lags { ¬ TailIsLast (roots_at 0 0 (dummy (Some 5) (link_to 1) ∷ last_node ∷ [])) }
+    ensures last { TailIsLast (roots_at 0 1 (dummy (Some 5) (link_to 1) ∷ last_node ∷ [])) }
+    ensures past { TailIsPast (roots_at 0 1 []) }
+    ensures at_the_head { ¬ TailIsPast (roots_at 0 0 []) }
 {}
 
 // A swing of root 1, and a miss of it, help the tail on; a move of root 0 leaves it.
@@ -109,11 +100,7 @@ fn help()
 // In a queue whose first position is 2^62 a Look at the dummy's null link finds no position left; one at the link of a
 // node that was never linked does not.
 fn no_position_is_left()
-    ensures first { let es : List (Event FifoNote) =
-        event_by 0 Act.Give None
-        ∷ event_by 0 (Act.Fill 0 1 (2 ^ 62)) None
-        ∷ event_by 0 (Act.Move (Place.Root 0) null (link_to 0)) (Some FifoNote.Begin)
-        ∷ event_by 0 (Act.Move (Place.Root 1) null (link_to 0)) (Some FifoNote.Begin) ∷ [] in
+    ensures first { let es = opening (2 ^ 62) in
         (next_position (record { roots = 2; links = 1 }) es ≡ 2 ^ 62) × IsFullLook (record { roots = 2; links = 1 }) 1 es (event_by 1 (Act.Look (Place.Next 0) null) None) }
     ensures unlinked { let es : List (Event FifoNote) =
         event_by 0 Act.Give None

@@ -1,4 +1,5 @@
 use Rattle.std.proofs.Common.{[], arith, inl, inr, refl, ◌∷◌}
+use Rattle.container_tests.proofs.Adding.{may_add}
 use Rattle.container_tests.proofs.tests.chain_rule.examples.a_chain_of_three.Goals as goal
 
 pub returns : goal.returns
@@ -10,26 +11,7 @@ returns c = (
       (
         record {
           fits = (refl, record { node = _; there = refl; known = inl refl });
-          may_act = (
-            refl,
-            record {
-              on_chain = refl;
-              below = tt;
-              plain = refl;
-              id = 0;
-              to_is = refl;
-              node = _;
-              there = refl;
-              unlinked = refl;
-              rank_is = refl;
-              own_plain =
-                  refl;
-              side_null = λ link at. cc;
-              over = [];
-              run = refl;
-              above = tt;
-            },
-          );
+          may_act = (refl, may_add 1 _ _ _ 0 _ 5 _ _ _ [] refl refl tt refl refl tt);
           own = refl;
         },
         (
@@ -39,8 +21,7 @@ returns c = (
             (
               record {
                 fits = (record { node = _; there = refl; mine = refl; unlinked = refl }, record { node = _; there = refl; known = inr refl });
-                may_act
-                    = refl;
+                may_act = refl;
                 own = tt;
               },
               (
@@ -48,22 +29,7 @@ returns c = (
                   fits = (refl, record { node = _; there = refl; known = inl refl });
                   may_act = (
                     refl,
-                    record {
-                      on_chain = refl;
-                      below = tt;
-                      plain = refl;
-                      id = 1;
-                      to_is = refl;
-                      node = _;
-                      there = refl;
-                      unlinked = refl;
-                      rank_is = refl;
-                      own_plain = refl;
-                      side_null = λ link at. cc;
-                      over = [];
-                      run = refl;
-                      above = (5, record { node = _; there = refl; linked = refl; rank_is = refl }, omega arith);
-                    },
+                    may_add 1 _ _ _ 1 _ 3 _ _ _ [] refl refl tt refl refl (5, record { node = _; there = refl; linked = refl; rank_is = refl }, omega arith),
                   );
                   own = refl;
                 },
@@ -76,26 +42,9 @@ returns c = (
                         fits = (refl, record { node = _; there = refl; known = inl refl });
                         may_act = (
                           refl,
-                          record {
-                            on_chain = record {
-                              over = 1 ∷ [];
-                              path =
-                                  (record { link = _; at = refl; to_is = refl }, record { link = _; at = refl; to_is = refl });
-                            };
-                            below = (5, record { node = _; there = refl; linked = refl; rank_is = refl }, omega arith);
-                            plain = refl;
-                            id = 2;
-                            to_is = refl;
-                            node = _;
-                            there = refl;
-                            unlinked = refl;
-                            rank_is = refl;
-                            own_plain = refl;
-                            side_null = λ link at. cc;
-                            over = [];
-                            run = refl;
-                            above = tt;
-                          },
+                          may_add 1 _ _ _ 2 _ 9 _ _ _ [] refl
+                              (record { over = 1 ∷ []; path = (record { link = _; at = refl; to_is = refl }, record { link = _; at = refl; to_is = refl }) })
+                              (5, record { node = _; there = refl; linked = refl; rank_is = refl }, omega arith) refl refl tt,
                         );
                         own = refl;
                       },

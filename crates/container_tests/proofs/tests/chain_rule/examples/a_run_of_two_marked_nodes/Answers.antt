@@ -3,40 +3,46 @@ use Rattle.orc_heap.proofs.SingleActs.{some_same}
 use Rattle.std.specs.List.{slice_get, slice_index_or}
 use Rattle.orc_heap.specs.Acts.{as_linked, with_link}
 use Rattle.orc_heap.specs.Allowed.{HasLink}
-use Rattle.orc_heap.specs.Heap.{Heap, Node, null}
+use Rattle.orc_heap.specs.Heap.{Heap, Node, link_to, null}
 use Rattle.orc_chain_rule.specs.Watches.{node_to_add}
 use Rattle.orc_heap.specs.declared.events.Link.{Link}
 use Rattle.orc_chain_rule.specs.Laws.Kinds.{key_one}
+use Rattle.orc_chain_rule.specs.Counts.{IsLeftOver}
+use Rattle.orc_ordered_chains.specs.Chains.{IsRun}
+use Rattle.container_tests.proofs.Adding.{may_add}
+use Rattle.container_tests.specs.ChainHeaps.{run_of_two}
 use Rattle.container_tests.proofs.Runs.{link_one}
 use Rattle.container_tests.proofs.tests.chain_rule.examples.a_run_of_two_marked_nodes.Goals as goal
 
+-- a run over both leads to node 2
+over_both : IsRun run_of_two (link_to 0) (0 ∷ 1 ∷ []) (Some 2)
+over_both = (
+  refl,
+  _,
+  record { node = _; there = refl; linked = refl; link_is = refl },
+  refl,
+  (refl, _, record { node = _; there = refl; linked = refl; link_is = refl }, refl, refl),
+)
+
+-- node 1 is left over
+one_left : IsLeftOver run_of_two 1
+one_left = record {
+  root = 0;
+  on_chain = record { over = 0 ∷ []; path = (record { link = _; at = refl; to_is = refl }, record { link = _; at = refl; to_is = refl }) };
+  link = _;
+  has_link = record { node = _; there = refl; linked = refl; link_is = refl };
+  marked = refl;
+}
+
 pub returns-clause-run : goal.returns-clause-run
 returns-clause-run c = (
-  (
-    refl,
-    _,
-    record { node = _; there = refl; linked = refl; link_is = refl },
-    refl,
-    (refl, _, record { node = _; there = refl; linked = refl; link_is = refl }, refl, refl),
-  ),
+  over_both,
   (record { link = _; at = refl; to_is = refl }, (record { link = _; at = refl; to_is = refl }, record { link = _; at = refl; to_is = refl })),
-  record {
-    root = 0;
-    on_chain = record { over = 0 ∷ []; path = (record { link = _; at = refl; to_is = refl }, record { link = _; at = refl; to_is = refl }) };
-    link = _;
-    has_link = record { node = _; there = refl; linked = refl; link_is = refl };
-    marked = refl;
-  },
+  one_left,
   record {
     below = refl;
     unmarked = refl;
-    run = (
-      refl,
-      _,
-      record { node = _; there = refl; linked = refl; link_is = refl },
-      refl,
-      (refl, _, record { node = _; there = refl; linked = refl; link_is = refl }, refl, refl),
-    );
+    run = over_both;
     above = (9, record { node = _; there = refl; linked = refl; rank_is = refl }, omega arith);
   },
   (λ run.
@@ -77,13 +83,7 @@ pub returns-clause-left_over : goal.returns-clause-left_over
 returns-clause-left_over c = (
   (λ id w. marked_one id _ w.link refl w.has_link w.marked),
   (λ all.
-      let (i, low, is) = all 1 (record {
-        root = 0;
-        on_chain = record { over = 0 ∷ []; path = (record { link = _; at = refl; to_is = refl }, record { link = _; at = refl; to_is = refl }) };
-        link = _;
-        has_link = record { node = _; there = refl; linked = refl; link_is = refl };
-        marked = refl;
-      }) in
+      let (i, low, is) = all 1 one_left in
       no_one i low is),
 )
   where
@@ -94,28 +94,8 @@ returns-clause-left_over c = (
 pub returns-clause-inserted_over : goal.returns-clause-inserted_over
 returns-clause-inserted_over c = (
   refl,
-  record {
-    on_chain = refl;
-    below = tt;
-    plain = refl;
-    id = 3;
-    to_is = refl;
-    node = _;
-    there = refl;
-    unlinked = refl;
-    rank_is = refl;
-    own_plain = refl;
-    side_null = λ link at. cc;
-    over = 0 ∷ 1 ∷ [];
-    run = (
-      refl,
-      _,
-      record { node = _; there = refl; linked = refl; link_is = refl },
-      refl,
-      (refl, _, record { node = _; there = refl; linked = refl; link_is = refl }, refl, refl),
-    );
-    above = (9, record { node = _; there = refl; linked = refl; rank_is = refl }, omega arith);
-  },
+  may_add 1 _ _ _ 3 _ 4 _ (Some 2) _ (0 ∷ 1 ∷ []) refl refl tt refl over_both
+      (9, record { node = _; there = refl; linked = refl; rank_is = refl }, omega arith),
 )
 
 pub returns-clause-left_out : goal.returns-clause-left_out
@@ -125,11 +105,5 @@ returns-clause-left_out c = record {
   plain_after = refl;
   first = 0;
   others = 1 ∷ [];
-  run = (
-    refl,
-    _,
-    record { node = _; there = refl; linked = refl; link_is = refl },
-    refl,
-    (refl, _, record { node = _; there = refl; linked = refl; link_is = refl }, refl, refl),
-  );
+  run = over_both;
 }

@@ -1,13 +1,12 @@
 use Rattle.std.proofs.Common.{List, None, Option, Some, [], ap, arith, refl, suc, zero, ℕ, ◌∙◌, ◌∷◌, ◌≡◌}
 use Rattle.orc_heap.proofs.SingleActs.{some_same}
-use Rattle.orc_heap.specs.Acts.{as_linked}
-use Rattle.orc_heap.specs.Heap.{Heap, link_to, null, shown}
+use Rattle.orc_heap.specs.Heap.{Heap, shown}
 use Rattle.orc_heap.specs.declared.events.Link.{Link}
 use Rattle.orc_heap.specs.declared.events.Place.{Place}
 use Rattle.orc_heap.specs.declared.events.Place.TheVariants.{Next, Root, Side}
 use Rattle.orc_ordered_chains.specs.Chains.{IsPath}
-use Rattle.orc_chain_rule.specs.Watches.{node_to_add}
 use Rattle.orc_chain_rule.specs.Laws.Kinds.{key_one}
+use Rattle.container_tests.specs.ChainHeaps.{linked, new_node, two_roots}
 use Rattle.container_tests.proofs.tests.chain_rule.examples.keys_and_roots.Goals as goal
 
 pub returns-clause-follows : goal.returns-clause-follows
@@ -30,7 +29,7 @@ returns-clause-above c = (
 )
 
 abbrev two : Heap
-two = record { nodes = as_linked (node_to_add 0 3 0 None) ∷ node_to_add 1 5 0 None ∷ []; roots = null ∷ link_to 0 ∷ []; links = 1 }
+two = two_roots (linked 3 None ∷ new_node 5 None ∷ [])
 
 -- no place has a link to node 1
 apart : (p : Place) (link : Link) → shown two p ≡ Some link → link.to ≡ Some 1 → ⊥

@@ -4,28 +4,15 @@ use Rattle.orc_heap.proofs.SingleActs.{link_same, some_same}
 use Rattle.orc_heap.specs.Acts.{as_linked}
 use Rattle.orc_heap.specs.Heap.{Node, link_to, null}
 use Rattle.orc_chain_rule.specs.Watches.{node_to_add}
+use Rattle.container_tests.proofs.Adding.{may_add}
 use Rattle.container_tests.proofs.Runs.{run_ends}
 use Rattle.container_tests.proofs.tests.chain_rule.refusals.an_added.Goals as goal
 
 pub returns-clause-allowed : goal.returns-clause-allowed
 returns-clause-allowed c = (
   refl,
-  record {
-    on_chain = record { over = []; path = record { link = _; at = refl; to_is = refl } };
-    below = (3, record { node = _; there = refl; linked = refl; rank_is = refl }, omega arith);
-    plain = refl;
-    id = 1;
-    to_is = refl;
-    node = _;
-    there = refl;
-    unlinked = refl;
-    rank_is = refl;
-    own_plain = refl;
-    side_null = λ link at. cc;
-    over = [];
-    run = refl;
-    above = tt;
-  },
+  may_add 2 _ _ _ 1 _ 5 _ None _ [] refl (record { over = []; path = record { link = _; at = refl; to_is = refl } })
+      (3, record { node = _; there = refl; linked = refl; rank_is = refl }, omega arith) refl refl tt,
 )
 
 pub returns-clause-past_an_unmarked_node : goal.returns-clause-past_an_unmarked_node

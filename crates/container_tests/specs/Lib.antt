@@ -1,0 +1,2 @@
+pub mod ChainHeaps
+pub mod QueueHeaps
