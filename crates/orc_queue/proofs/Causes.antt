@@ -1,14 +1,12 @@
 -- From what a call did to its clauses on journals.
-use Rattle.std.proofs.Common.{List, Ok, Err, Option, Result, [], ap, append-nil, arith, drop, inr, length, refl, subst, sym, true, ℕ, ◌*◌, ◌++◌, ◌+◌, ◌<◌, ◌==◌, ◌^◌, ◌∙◌, ◌∷◌, ◌≡◌, ◌≢◌, ◌≤◌, ◌⊎◌}
+use Rattle.std.proofs.Common.{List, Ok, Err, Option, Result, [], ap, append-nil, arith, drop, length, refl, subst, sym, ℕ, ◌*◌, ◌++◌, ◌+◌, ◌<◌, ◌^◌, ◌∙◌, ◌∷◌, ◌≡◌, ◌≢◌, ◌≤◌, ◌⊎◌}
 use Rattle.std.proofs.lemmas.List.{length-append}
-use Rattle.std.proofs.lemmas.List.Elements.{filter-append}
 use Rattle.std.proofs.Math.Seq.{drop-append_seam, take-length}
-use Rattle.std.specs.List.{list_all, AllByRecursion}
 use Rattle.std.specs.Prelude.{IfErr, IfOk, IsErr, ◌↔◌}
 use mathlib.Core.List.{IsPrefix}
 use Rattle.orc_heap.proofs.Moved.{gives_in-append}
 use Rattle.orc_heap.proofs.OwnParts.{from_own-others, own_from}
-use Rattle.orc_heap.proofs.Steps.{events_grow, part_bounds, part_events}
+use Rattle.orc_heap.proofs.Steps.{events_grow, part_bounds}
 use Rattle.orc_heap.proofs.Stays.{allowed-right}
 use Rattle.orc_heap.specs.Allowed.{AllAllowed, events_by}
 use Rattle.orc_heap.specs.Heap.{HeapNumbers}
@@ -18,7 +16,7 @@ use Rattle.orc_heap.specs.OwnEvents.{Only}
 use Rattle.orc_history.specs.Parts.{InPart, IsAlone, part_begin}
 use Rattle.orc_heap.specs.Seats.{Seat}
 use Rattle.orc_heap.specs.declared.events.Event.{Event}
-use Rattle.orc_history.specs.Journals.{Adds, LearnsEntries, Within, own_of}
+use Rattle.orc_history.specs.Journals.{Adds, Within}
 use Rattle.orc_history.specs.QueueHistory.{agent_of_entry, entry_of_dequeue, puts_in}
 use Rattle.orc_history.specs.declared.queue.QueueEntry.{QueueEntry}
 use Rattle.orc_history.specs.declared.queue.QueueEntry.TheVariants.{Put}
@@ -27,7 +25,6 @@ use Rattle.orc_history.specs.declared.queue.QueueRefused.TheVariants.{Again, NoN
 use Rattle.orc_fault.specs.declared.Again.{Again as AgainFault}
 use Rattle.orc_fifo_rule.proofs.OwnEntries.{entries_own}
 use Rattle.orc_fifo_rule.specs.declared.fifo.FifoNote.{FifoNote}
-use Rattle.orc_heap.specs.declared.links.Links.{Ghosts as LinksOf}
 use Rattle.orc_fifo_rule.specs.QueueDiscipline.{FifoMay, entries_of, position_of, entries_in}
 use Rattle.orc_queue.specs.Answers.{CallFindsFull, IsCall, PutAnswers, StopsShort, TakeAnswers, gives_of}
 use Rattle.orc_queue.specs.Causes.{BeforeFirstStep, Cause, FromFirstStep, LacksPosition, UsesTurns}

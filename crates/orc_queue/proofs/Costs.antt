@@ -10,7 +10,7 @@ use Rattle.orc_heap.proofs.Moved.{moves_in-append}
 use Rattle.orc_heap.proofs.OwnEntries.{noted-append, own_of_events}
 use Rattle.orc_heap.proofs.OwnParts.{from_own-others, moves_from_own, own_from}
 use Rattle.orc_heap.proofs.Stays.{allowed-left, allowed-right}
-use Rattle.orc_heap.proofs.Steps.{PartEvents, part_bounds, part_events}
+use Rattle.orc_heap.proofs.Steps.{PartEvents, part_bounds}
 use Rattle.orc_heap.specs.Allowed.{AllAllowed, events_by}
 use Rattle.orc_heap.specs.Heap.{HeapNumbers}
 use Rattle.orc_heap.specs.Moves.{AllOwn, from_own, moves_in}

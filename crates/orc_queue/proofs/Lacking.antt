@@ -1,7 +1,6 @@
 -- Where no row could be given: from the first step of the call's part of the journal on, or before it.
 use Rattle.std.proofs.Common.{Bool, List, [], ap, append_assoc, arith, cond, false, inl, inr, length, refl, subst, suc, sym, true, ℕ, ◌++◌, ◌+◌, ◌<◌, ◌==◌, ◌∙◌, ◌∷◌, ◌≡◌, ◌≤◌, ◌⊎◌}
 use Rattle.std.proofs.lemmas.List.{length-append}
-use Rattle.std.proofs.Math.Seq.{drop-append_seam}
 use mathlib.Core.List.{IsPrefix}
 use Rattle.orc_heap.proofs.Parting.{begin_is, first_low}
 use Rattle.orc_heap.proofs.Steps.{part_bounds}

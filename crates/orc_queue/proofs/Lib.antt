@@ -8,6 +8,7 @@ pub mod Joins
 pub mod Lacking
 pub mod Linking
 pub mod Looking
+pub mod Missing
 pub mod Openings
 pub mod Pieces
 pub mod PutTurns

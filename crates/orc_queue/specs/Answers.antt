@@ -1,10 +1,10 @@
 -- What a call did, by its answer.
-use Rattle.std.specs.Prelude.{Err, List, None, Ok, Option, Result, Some, [], drop, length, suc, zero, ℕ, ◌*◌, ◌+◌, ◌<◌, ◌^◌, ◌∷◌, ◌≡◌, ◌≢◌, ◌≤◌, ◌⊎◌}
+use Rattle.std.specs.Prelude.{Err, List, None, Ok, Option, Result, Some, [], drop, length, suc, zero, ℕ, ◌*◌, ◌++◌, ◌+◌, ◌<◌, ◌^◌, ◌∷◌, ◌≡◌, ◌≢◌, ◌≤◌, ◌⊎◌}
 use Rattle.orc_fault.specs.declared.Again.{Again as AgainFault}
 use Rattle.orc_heap.specs.Heap.{HeapNumbers}
 use Rattle.orc_heap.specs.Moves.{AllOwn, from_own, gives_in, moves_in}
 use Rattle.orc_heap.specs.OwnEvents.{Puts}
-use Rattle.orc_heap.specs.Seats.{IsIdle, Seat}
+use Rattle.orc_heap.specs.Seats.{IsIdle, Seat, heap_of}
 use Rattle.orc_heap.specs.declared.events.Event.{Event}
 use Rattle.orc_history.specs.QueueHistory.{entry_of_dequeue}
 use Rattle.orc_history.specs.declared.queue.QueueEntry.{QueueEntry}
@@ -12,8 +12,8 @@ use Rattle.orc_history.specs.declared.queue.QueueEntry.TheVariants.{Put}
 use Rattle.orc_history.specs.declared.queue.QueueRefused.{QueueRefused}
 use Rattle.orc_history.specs.declared.queue.QueueRefused.TheVariants.{Again, NoNode, Positions}
 use Rattle.orc_fifo_rule.specs.declared.fifo.FifoNote.{FifoNote}
-use Rattle.orc_fifo_rule.specs.QueueDiscipline.{entries_of}
-use Rattle.orc_queue.specs.Turns.{EndsHelping, FindsFull, KeepsTail, Piece, back_moves_in}
+use Rattle.orc_fifo_rule.specs.QueueDiscipline.{entries_of, position_of}
+use Rattle.orc_queue.specs.Turns.{EndsHelping, FindsFull, KeepsTail, Piece, TailIsLast, back_moves_in}
 use Rattle.orc_queue.specs.declared.put.PutTurn.{PutTurn}
 use Rattle.orc_queue.specs.declared.put.PutTurn.TheVariants.{Full, Over as PutOver, Put as PutDone}
 
@@ -111,3 +111,8 @@ pub record StopsShort (given : ℕ) (s : Seat FifoNote) (entries : List QueueEnt
 abbrev pub PutStops : ℕ → Type 0 → Seat FifoNote → Option ℕ → Seat FifoNote → Type 0
 PutStops job Lacks s (Some at) t = StopsShort 1 s (Put s.agent job at ∷ []) t
 PutStops job Lacks s None t = StopsShort 1 s [] t ⊎ (Lacks × StopsShort 0 s [] t)
+
+-- if no other agent's event is new to the pass, and root 1 named the last node before, then no position is left behind that node
+abbrev pub IsFullAlone : HeapNumbers → Seat FifoNote → Seat FifoNote → Type 0
+IsFullAlone n s t = (part : List (Event FifoNote)) → t.seen ≡ s.seen ++ part → AllOwn s.agent part → (l : TailIsLast (heap_of n s))
+    → 2 ^ 62 ≤ position_of (heap_of n s) l.last

@@ -10,7 +10,7 @@ use Rattle.orc_history.specs.declared.queue.QueueRefused.{QueueRefused}
 use Rattle.orc_fifo_rule.specs.declared.fifo.FifoNote.{FifoNote}
 use Rattle.orc_fifo_rule.specs.Counts.{tooks_in}
 use Rattle.orc_fifo_rule.specs.QueueDiscipline.{entries_in, position_of}
-use Rattle.orc_queue.specs.Answers.{CallFindsFull}
+use Rattle.orc_queue.specs.Answers.{CallFindsFull, IsFullAlone}
 use Rattle.orc_queue.specs.Causes.{BeforeFirstStep, Cause, FromFirstStep, UsesTurns, entered_by_others}
 use Rattle.orc_queue.specs.Turns.{KeepsTail, TailIsLast}
 
@@ -53,6 +53,10 @@ module _ {L D P S : Type 0} (members : LinksOf L D P S FifoNote) (links : L) whe
   -- the call found the end of the queue where no position was left
   abbrev pub FindsNoPosition : P → P → Type 0
   FindsNoPosition old new = CallFindsFull (members.numbers links) (members.seat links old) (members.seat links new)
+
+  -- if no other agent's event is new to the pass, and the tail was at the last node before, then no position is left behind that node
+  abbrev pub LacksPositionAlone : P → P → Type 0
+  LacksPositionAlone old new = IsFullAlone (members.numbers links) (members.seat links old) (members.seat links new)
 
   -- the tail is at the last node, as far as the pass has seen
   abbrev pub LeavesTailLast : P → Type 0

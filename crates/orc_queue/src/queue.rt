@@ -13,7 +13,7 @@ ghost use Rattle.orc_fifo_rule.specs.QueueDiscipline.{entries_of, position_of};
 ghost use Rattle.orc_queue.specs.Answers.{gives_of};
 ghost use Rattle.orc_queue.specs.Causes.{Cause};
 ghost use Rattle.orc_queue.specs.Laws.Histories.{cause_puts, cause_stays, entries_below, history_grows, seen_legal};
-ghost use Rattle.orc_queue.specs.QueueCalls.{Enters, EntersNone, FindsNoPosition, LacksRow, LeavesTail, LeavesTailLast, UsesAllTurns};
+ghost use Rattle.orc_queue.specs.QueueCalls.{Enters, EntersNone, FindsNoPosition, LacksPositionAlone, LacksRow, LeavesTail, LeavesTailLast, UsesAllTurns};
 ghost use Rattle.orc_queue.specs.QueueCalls.{HasCause, others_puts, others_tooks};
 ghost use Rattle.orc_queue.specs.Turns.{HasDummy};
 
@@ -134,7 +134,8 @@ impl<L: Links<Rule = Fifo>> Queue<L> {
     /// No event of the call moves the tail, which lags from then on until another call helps it on.
     ///
     /// Answers the job's position; None where nothing was linked: no row could be given; or a node was, and was let go,
-    /// because no position was left, or the tail lagged or moved on meanwhile.
+    /// because no position was left, or the tail lagged or moved on meanwhile. So where the tail was at the last node before, and no
+    /// other agent has an event among those that are new to the pass, None comes only for want of a row or a position.
     pub fn put_and_stop(&self, p: &mut L::Pass, job: u64) -> Option<u64>
         requires pass { L.belongs self.now.links p.old }
         requires idle { IsIdle (L.seat self.now.links p.old) }
@@ -144,6 +145,7 @@ impl<L: Links<Rule = Fifo>> Queue<L> {
         ensures agent { agent L.Links self.now.links p.new ≡ agent L.Links self.now.links p.old }
         ensures put { IfSome result (λ at. Enters L.Links self.now.links p.old p.new (λ agent. QueueEntry.Put agent job at ∷ [])) }
         ensures none { result ≡ None → EntersNone L.Links self.now.links p.old p.new }
+        ensures missed { result ≡ None → LacksRow L.Links self.now.links p.old p.new ⊎ LacksPositionAlone L.Links self.now.links p.old p.new }
         ensures gives { GivesNodes L.Links self.now.links 1 p.old p.new ⊎ ((result ≡ None) × LacksRow L.Links self.now.links p.old p.new) }
         ensures tries { MakesAtMost L.Links self.now.links 9 p.old p.new }
         ensures tail { LeavesTail L.Links self.now.links p.old p.new }

@@ -1,11 +1,11 @@
 //! A put that stops half-way, as a thread does that is stopped there: what tests of a lagging tail begin with.
 
-ghost use Rattle.std.specs.Prelude.{◌≡◌, ◌⊎◌, None};
+ghost use Rattle.std.specs.Prelude.{◌≡◌, ◌≢◌, ◌⊎◌, ℕ, None};
 ghost use mathlib.Core.List.{IsPrefix};
 ghost use Rattle.orc_heap.specs.Seats.{IsIdle};
 ghost use Rattle.orc_heap.specs.Slots.{IsFree};
 ghost use Rattle.orc_history.specs.Parts.{InPart};
-ghost use Rattle.orc_queue.specs.Answers.{PutStops, StopsPiece, stop_entries};
+ghost use Rattle.orc_queue.specs.Answers.{IsFullAlone, PutStops, StopsPiece, stop_entries};
 ghost use Rattle.orc_queue.specs.Turns.{HasDummy, HoldsNode};
 
 use crate::put::{PutTurn, link_node};
@@ -22,6 +22,9 @@ pub(crate) fn stop_a_put<L: Links<Rule = Fifo>>(links: &L, p: &mut L::Pass, job:
     ensures later { IsPrefix (L.journal p.old) (L.journal p.new) }
     ensures stopped { PutStops job (InPart L.agent_of (L.seat links.now p.old).agent (L.journal p.old) (L.journal p.new)
         (L.lacking links.now (L.seat links.now p.old).agent (L.journal p.new))) (L.seat links.now p.old) result (L.seat links.now p.new) }
+    ensures missed { result ≡ None → InPart L.agent_of (L.seat links.now p.old).agent (L.journal p.old) (L.journal p.new)
+        (L.lacking links.now (L.seat links.now p.old).agent (L.journal p.new))
+        ⊎ IsFullAlone (L.numbers links.now) (L.seat links.now p.old) (L.seat links.now p.new) }
 {
     let node = match links.give(p, 1, job, 0) {
         Ok(node) => node,
@@ -46,6 +49,7 @@ fn link_at_tail<L: Links<Rule = Fifo>>(links: &L, p: &mut L::Pass, node: &Held, 
     ensures later { IsPrefix (L.journal p.old) (L.journal p.new) }
     ensures stopped { StopsPiece 4 (L.seat links.now p.old) (stop_entries (L.seat links.now p.old).agent job result) (L.seat links.now p.new) }
     ensures fresh { ((L.seat links.now p.new).fresh ≡ (L.seat links.now p.old).fresh) ⊎ ((L.seat links.now p.new).fresh ≡ None) }
+    ensures missed { ((at : ℕ) → result ≢ PutTurn.Put at) → IsFullAlone (L.numbers links.now) (L.seat links.now p.old) (L.seat links.now p.new) }
 {
     match links.look(p, &At::Root(TAIL), 2) {
         Looked::Stable(_, Some(tail)) => {

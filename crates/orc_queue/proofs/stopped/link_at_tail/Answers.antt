@@ -9,6 +9,7 @@ use Rattle.orc_queue.specs.Answers.{stop_entries}
 use Rattle.orc_queue.proofs.Holding.{found_fresh, found_holds, found_kept, found_released, pass_known}
 use Rattle.orc_queue.proofs.Linking.{LinkKept, link_kept}
 use Rattle.orc_queue.proofs.Looking.{HoldsRoot, root_fresh, root_held, root_named, root_not_null, roots_there}
+use Rattle.orc_queue.proofs.Missing.{full_over, link_full, moved_full, root_still}
 use Rattle.orc_queue.proofs.Pieces.{linked_puts}
 use Rattle.orc_queue.proofs.stopped.link_at_tail.Given.{Over}
 use Rattle.orc_queue.proofs.stopped.link_at_tail.Goals.{After-link_node-turn, In-Stable-default-Some}
@@ -98,3 +99,17 @@ pub returns-in-Moved-clause-stopped : goal.returns-in-Moved-clause-stopped
 returns-in-Moved-clause-stopped g c =
     let r = c.in-Moved.ensures.looked.tells in
     record { piece = record { own = _; slots = r.3; puts = r.4; entries_are = refl; no_give = refl; few = omega arith }; keeps = refl }
+
+pub returns-in-Stable-default-Some-clause-missed : goal.returns-in-Stable-default-Some-clause-missed
+returns-in-Stable-default-Some-clause-missed g c = λ other.
+    let at = goal.at.returns-in-Stable-default-Some-clause-missed g c in
+    let f = found g at.In-Stable-default-Some in
+    let p = (kept g at.After-link_node-turn).stops.piece in
+    full_over _ _ _ _ _ _ p.own f.puts p.puts c.release.ensures.released.puts f.before f.after.all refl
+    (λ alone. link_full _ c.args.job _ c.args.node.now _ _ c.link_node-turn.result c.link_node-turn.ensures.linked other (root_still f alone))
+
+pub returns-in-Moved-clause-missed : goal.returns-in-Moved-clause-missed
+returns-in-Moved-clause-missed g c = λ other.
+    let d = c.args.links.now in
+    let r = c.in-Moved.ensures.looked.tells in
+    moved_full (g.L.Links.numbers d) _ _ r.0 r.1 r.2 r.4 (g.met.L.Links.allowed d c.look.new.p c.in-Moved.ensures.pass)

@@ -2,6 +2,8 @@
 use Rattle.std.proofs.Common.{[], ap, inl, inr, refl, ℕ, ◌∷◌}
 use Rattle.orc_history.specs.declared.queue.QueueEntry.TheVariants.{Put}
 use Rattle.orc_queue.proofs.Answering.{put_stops, stops_lacking}
+use Rattle.orc_queue.proofs.Holding.{pass_known}
+use Rattle.orc_queue.proofs.Missing.{full_over}
 use Rattle.orc_queue.proofs.stopped.stop_a_put.Goals as goal
 
 pub returns-in-Err-clause-stopped : goal.returns-in-Err-clause-stopped
@@ -20,3 +22,25 @@ returns-in-Full-clause-stopped g c =
 pub returns-in-Over-clause-stopped : goal.returns-in-Over-clause-stopped
 returns-in-Over-clause-stopped g c =
     inl (put_stops c.requires.idle c.in-Ok.ensures.given c.release.ensures.released [] [] c.in-Over.ensures.stopped c.in-Over.ensures.fresh refl)
+
+pub returns-in-Err-clause-missed : goal.returns-in-Err-clause-missed
+returns-in-Err-clause-missed g c = λ is. inl c.in-Err.ensures.lacking
+
+pub returns-in-Put-clause-missed : goal.returns-in-Put-clause-missed
+returns-in-Put-clause-missed g c = λ is. cc
+
+pub returns-in-Full-clause-missed : goal.returns-in-Full-clause-missed
+returns-in-Full-clause-missed g c = λ is.
+    let d = c.args.links.now in
+    let known = pass_known g.L.Links g.met.L.Links.opens g.met.L.Links.allowed g.met.L.Links.obeys d c.args.p.now c.requires.made c.requires.pass in
+    let e = c.in-Full.ensures in
+    inr (full_over _ _ _ _ _ _ e.stopped.piece.own c.in-Ok.ensures.given.puts e.stopped.piece.puts c.release.ensures.released.puts known
+    (g.met.L.Links.allowed d c.give.new.p c.in-Ok.ensures.pass) refl (λ alone. e.missed (λ at full. cc)))
+
+pub returns-in-Over-clause-missed : goal.returns-in-Over-clause-missed
+returns-in-Over-clause-missed g c = λ is.
+    let d = c.args.links.now in
+    let known = pass_known g.L.Links g.met.L.Links.opens g.met.L.Links.allowed g.met.L.Links.obeys d c.args.p.now c.requires.made c.requires.pass in
+    let e = c.in-Over.ensures in
+    inr (full_over _ _ _ _ _ _ e.stopped.piece.own c.in-Ok.ensures.given.puts e.stopped.piece.puts c.release.ensures.released.puts known
+    (g.met.L.Links.allowed d c.give.new.p c.in-Ok.ensures.pass) refl (λ alone. e.missed (λ at over. cc)))

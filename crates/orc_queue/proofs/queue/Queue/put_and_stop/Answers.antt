@@ -25,6 +25,7 @@ returns g c =
     let w = stopped_by c.args.job lacks s t r done.stopped in
     let any : AnyCall w.given 1 s t = record { entries = w.entries; call = w.short.call } in
     let gives = any_gives any in
+    let row = lacks_row by s.agent (g.L.Links.lacking d s.agent) (g.met.L.Links.lacking_stays d s.agent) j k k done.later ([], append-nil k) in
     record {
       pass = done.pass;
       idle = w.short.call.idle;
@@ -32,9 +33,10 @@ returns g c =
       later = done.later;
       put = stop_some seen c.args.job lacks r done.stopped;
       none = stop_none seen c.args.job lacks r done.stopped;
+      missed = λ is. elim (done.missed is) [ inl lacking ↦ inl (row lacking) | inr full ↦ inr full ];
       gives = elim w.had [
         | inl one ↦ inl (omega (arith, gives, one))
-        | inr none ↦ inr (none.1, lacks_row by s.agent (g.L.Links.lacking d s.agent) (g.met.L.Links.lacking_stays d s.agent) j k k done.later ([], append-nil k) none.2)
+        | inr none ↦ inr (none.1, row none.2)
       ];
       tries = elim w.had [
         | inl one ↦ omega (arith, any_tries any, one)
