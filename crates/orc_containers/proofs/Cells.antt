@@ -1,5 +1,5 @@
 -- Shapes for a cell.
-use Rattle.std.proofs.Common.{List, [], arith, ap, subst, sym, ◌*◌, ◌+◌, ◌<◌, ◌^◌, ◌∙◌, ◌≡◌, ◌≤◌, ℕ}
+use Rattle.std.proofs.Common.{List, [], arith, ap, ◌*◌, ◌+◌, ◌<◌, ◌∙◌, ◌≡◌, ◌≤◌, ℕ}
 use Rattle.orc_any_domain.specs.Domains.{heap_numbers}
 use Rattle.orc_cell.specs.Turns.{IsCellDomain}
 use Rattle.orc_heap.specs.Heap.{HeapNumbers}

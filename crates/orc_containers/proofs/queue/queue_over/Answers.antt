@@ -1,7 +1,7 @@
 -- The domain begins with a dummy.
 use Rattle.std.proofs.Common.{ap, refl, subst, sym, ◌∙◌}
 use Rattle.orc_any_domain.specs.Domains.{heap_numbers}
-use Rattle.orc_containers.proofs.News.{agents_are, each_fresh, each_numbered, each_usable, sizes_are}
+use Rattle.orc_containers.proofs.News.{each_usable, is_new}
 use Rattle.orc_containers.proofs.Openings.{first_position, has_dummy}
 use Rattle.orc_fifo_rule.proofs.Later.{nothing_yet}
 use Rattle.orc_fifo_rule.specs.QueueDiscipline.{entries_in, position_of}
@@ -22,36 +22,12 @@ new-requires g c =
     let d = c.in_ok-domain.domain in
     subst (λ es. HasDummy (g.L.Links.numbers d) es) (sym c.in_ok-domain.ensures.opening) (has_dummy (g.L.Links.numbers d) c.args.first)
 
-pub returns-clause-usable : goal.returns-clause-usable
-returns-clause-usable g c = each_usable g.L.Links _ _ _ c.new.ensures c.in_ok-domain.ensures.idle
-
-pub returns-clause-agents : goal.returns-clause-agents
-returns-clause-agents g c = each_numbered g.L.Links _ _ _ c.new.ensures c.in_ok-domain.ensures.idle
-
-pub returns-clause-passes : goal.returns-clause-passes
-returns-clause-passes g c =
-    let made = c.in_ok-domain.ensures in
-    made.idle.many ∙ agents_are g.L.Links g.L.Domain.bounds _ _ (bounds_of c.args.shape.now) refl made.bounds (g.met.L.Domain.agents_are c.in_ok-domain.domain)
-
-pub returns-clause-fresh : goal.returns-clause-fresh
-returns-clause-fresh g c =
-    let made = c.in_ok-domain.ensures in
-    each_fresh g.L.Links _ c.in_ok-domain.domain _ c.new.ensures made.idle entries_in _ refl
-    (λ p belongs. g.met.L.Links.seen_is c.in_ok-domain.domain p belongs) made.new
-
-pub returns-clause-all : goal.returns-clause-all
-returns-clause-all g c =
-    agents_are g.L.Links g.L.Domain.bounds _ _ (bounds_of c.args.shape.now) c.new.ensures c.in_ok-domain.ensures.bounds
-    (g.met.L.Domain.agents_are c.in_ok-domain.domain)
-
-pub returns-clause-first : goal.returns-clause-first
-returns-clause-first g c =
+pub returns : goal.returns
+returns g c =
     let d = c.in_ok-domain.domain in
-    ap (λ l. position_of (run_heap (g.L.Links.numbers l) (g.L.Links.opening l)) 0) c.new.ensures
-    ∙ (ap (λ es. position_of (run_heap (g.L.Links.numbers d) es) 0) c.in_ok-domain.ensures.opening ∙ first_position (g.L.Links.numbers d) c.args.first)
-
-pub returns-clause-bounds : goal.returns-clause-bounds
-returns-clause-bounds g c = sizes_are g.L.Links g.L.Domain.bounds _ _ _ c.new.ensures c.in_ok-domain.ensures.bounds
-
-pub returns-clause-opening : goal.returns-clause-opening
-returns-clause-opening g c = ap g.L.Links.opening c.new.ensures ∙ c.in_ok-domain.ensures.opening
+    let made = c.in_ok-domain.ensures in
+    let first = ap (λ l. position_of (run_heap (g.L.Links.numbers l) (g.L.Links.opening l)) 0) c.new.ensures
+    ∙ (ap (λ es. position_of (run_heap (g.L.Links.numbers d) es) 0) made.opening ∙ first_position (g.L.Links.numbers d) c.args.first) in
+    let new = is_new g.L.Links g.L.Domain.bounds entries_in _ d _ _ _ c.new.ensures made.idle made.bounds made.opening refl made.new (g.met.L.Links.seen_is d)
+    (g.met.L.Domain.agents_are d) in
+    assumption (each_usable g.L.Links _ d _ c.new.ensures made.idle, new, first)
