@@ -4,7 +4,7 @@ use Rattle.orc_heap.proofs.Moved.{target_roots}
 use Rattle.std.specs.List.{slice_set}
 use Rattle.std.specs.Prelude.{unwrap_or}
 use Rattle.std.proofs.lemmas.List.{length-replicate}
-use Rattle.orc_heap.proofs.ByAnswer.{LookedHeld, LookedNull}
+use Rattle.orc_heap.proofs.ByAnswer.{LookedHeld, LookedNull, Looks-held}
 use Rattle.orc_heap.proofs.Changes.{length-change, get_lt}
 use Rattle.orc_heap.specs.Allowed.{AllAllowed, IsLinkedNode, HasLink}
 use Rattle.orc_heap.specs.Calls.{ReadsValue, RefusesSwing, event_of}
@@ -31,7 +31,7 @@ use Rattle.orc_fifo_rule.specs.Watches.{WasNamed}
 use Rattle.orc_fifo_rule.specs.Laws.Events.{begun_more}
 use Rattle.orc_fifo_rule.specs.Laws.Nodes.{position_at}
 use Rattle.orc_fifo_rule.specs.Laws.Paths.{successor_linked}
-use Rattle.orc_queue.specs.Turns.{HoldsNode}
+use Rattle.orc_queue.specs.Turns.{HoldsNode, LooksAtRoot}
 use Rattle.orc_queue.proofs.Filled.{Known, some_value}
 use Rattle.orc_queue.proofs.Holding.{Found, found_id, found_other, found_other_id}
 use Rattle.orc_queue.proofs.Pieces.{named_puts, node_held}
@@ -102,10 +102,11 @@ pub record HoldsRoot (n : HeapNumbers) (root slot : ℕ) (s : Seat FifoNote) (h 
   pub one : Link
   pub puts : Puts s (event_of s (Look (Root root) one) None ∷ event_of s (Look (Root root) (link_to node.id)) None ∷ []) t
 
-pub root_held : (n : HeapNumbers) (s t : Seat FifoNote) (root slot : ℕ) (mark : Bool) (h : Hold) → root < 2 → IsFree s.slots slot → Known n s.seen
-    → Known n t.seen → LookedHeld (Root root) slot mark h s t → HoldsRoot n root slot s h t
-root_held n s t root slot mark h low free before after l =
-    let link : Link = record { to = Some l.id; mark = mark } in
+pub root_held : (n : HeapNumbers) (s t : Seat FifoNote) (root slot : ℕ) (h : Hold) → root < 2 → IsFree s.slots slot → Known n s.seen
+    → Known n t.seen → LooksAtRoot root slot s (Some h) t → HoldsRoot n root slot s h t
+root_held n s t root slot h low free before after looked =
+    let l = Looks-held {place = Root root} looked.1 refl in
+    let link : Link = record { to = Some l.id; mark = looked.0.mark } in
     let f = root_found n s t root link (event_of s (Look (Root root) l.one) None ∷ []) [] low before l.puts after.all in
     let id_is : l.id ≡ f.id = some_same (ap (λ (x : Link). x.to) f.is) in
     record {

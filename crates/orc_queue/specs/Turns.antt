@@ -2,7 +2,7 @@
 use Rattle.std.specs.Prelude.{Bool, List, None, Option, Some, [], false, is_some, length, slice_get, true, ℕ, ◌*◌, ◌++◌, ◌+◌, ◌<◌, ◌^◌, ◌∷◌, ◌≡◌, ◌≢◌, ◌≤◌, ◌⊎◌}
 use Rattle.std.specs.List.{list_any}
 use Rattle.orc_heap.specs.Allowed.{IsLinkedNode, HasLink}
-use Rattle.orc_heap.specs.Calls.{Misses, event_of, given_node}
+use Rattle.orc_heap.specs.Calls.{Looks, Misses, event_of, given_node}
 use Rattle.orc_heap.specs.Heap.{Heap, HeapNumbers, Node, null, shown, link_to}
 use Rattle.orc_heap.specs.Journals.{run_heap}
 use Rattle.orc_heap.specs.Moves.{AllOwn, from_own, gives_in, moves_in, moves_place}
@@ -14,6 +14,8 @@ use Rattle.orc_heap.specs.declared.events.Event.{Event}
 use Rattle.orc_heap.specs.declared.events.Link.{Link}
 use Rattle.orc_heap.specs.declared.events.Place.{Place}
 use Rattle.orc_heap.specs.declared.events.Place.TheVariants.{Next, Root}
+use Rattle.orc_heap.specs.declared.holds.Looked.TheVariants.{Moved, Stable}
+use Rattle.orc_heap.specs.declared.holds.Seen.{Seen}
 use Rattle.orc_history.specs.QueueHistory.{puts_in}
 use Rattle.orc_history.specs.declared.queue.QueueEntry.{QueueEntry}
 use Rattle.orc_history.specs.declared.queue.QueueEntry.TheVariants.{Empty, Put, Took}
@@ -91,6 +93,11 @@ pub record IsTurnOver (n : HeapNumbers) (IsSettled : Heap → Type 0) (s t : Sea
   pub moved : 1 ≤ moves_in (from_own s.agent piece.puts.part)
   pub settles : AllOwn s.agent (from_own s.agent piece.puts.part) → IsSettled (heap_of n t)
   pub unsettled : AllOwn s.agent piece.puts.part → IsSettled (heap_of n s) → ⊥
+
+-- a look of a root, by its answer: the node that the root names is held, or two loads differed
+abbrev pub LooksAtRoot : ℕ → ℕ → Seat FifoNote → Option Hold → Seat FifoNote → Type 0
+LooksAtRoot root slot s (Some h) t = (seen : Seen) × Looks (Root root) slot s (Stable seen (Some h)) t
+LooksAtRoot root slot s None t = Looks (Root root) slot s Moved t
 
 -- so many turns that are over: as many Moves stand in them, and another agent steps in them if they are two or more
 pub record AreOver (n : HeapNumbers) (IsSettled : Heap → Type 0) (turns : ℕ) (s t : Seat FifoNote) : Type 0 where

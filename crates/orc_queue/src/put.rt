@@ -11,7 +11,7 @@ ghost use Rattle.orc_history.specs.declared.queue.QueueRefused.{QueueRefused};
 ghost use Rattle.orc_queue.specs.Answers.{PutAnswers};
 ghost use Rattle.orc_queue.specs.Turns.{HasDummy, HoldsNode, KeepsTail, LinksBehind, PutsBehind, PutsTurn, PutsTurns, SwingsLast};
 
-use crate::swings::{TAIL, change, help_tail};
+use crate::swings::{TAIL, change, help_tail, hold_root};
 use orc_fifo_rule::{Fifo, FifoNote};
 use orc_heap::{At, Held, Links, Looked, Want};
 use orc_history::{QueueEntry, QueueRefused};
@@ -131,14 +131,13 @@ fn put_turn<L: Links<Rule = Fifo>>(links: &L, p: &mut L::Pass, node: &Held, job:
     ensures later { IsPrefix (L.journal p.old) (L.journal p.new) }
     ensures put { PutsTurn (L.numbers links.now) job node.now (L.seat links.now p.old) result (L.seat links.now p.new) }
 {
-    match links.look(p, &At::Root(TAIL), 2) {
-        Looked::Stable(_, Some(tail)) => {
+    match hold_root(links, p, TAIL, 2) {
+        Some(tail) => {
             let turn = put_behind(links, p, node, job, &tail);
             links.release(p, tail);
             turn
         }
-        Looked::Stable(_, None) => unreachable!(),
-        Looked::Moved => PutTurn::Over,
+        None => PutTurn::Over,
     }
 }
 

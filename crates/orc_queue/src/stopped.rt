@@ -9,9 +9,9 @@ ghost use Rattle.orc_queue.specs.Answers.{IsFullAlone, PutStops, StopsPiece, sto
 ghost use Rattle.orc_queue.specs.Turns.{HasDummy, HoldsNode};
 
 use crate::put::{PutTurn, link_node};
-use crate::swings::TAIL;
+use crate::swings::{TAIL, hold_root};
 use orc_fifo_rule::Fifo;
-use orc_heap::{At, Held, Links, Looked};
+use orc_heap::{Held, Links};
 
 // Puts a job, and stops before the tail is swung on.
 pub(crate) fn stop_a_put<L: Links<Rule = Fifo>>(links: &L, p: &mut L::Pass, job: u64) -> Option<u64>
@@ -51,13 +51,12 @@ fn link_at_tail<L: Links<Rule = Fifo>>(links: &L, p: &mut L::Pass, node: &Held, 
     ensures fresh { ((L.seat links.now p.new).fresh ≡ (L.seat links.now p.old).fresh) ⊎ ((L.seat links.now p.new).fresh ≡ None) }
     ensures missed { ((at : ℕ) → result ≢ PutTurn.Put at) → IsFullAlone (L.numbers links.now) (L.seat links.now p.old) (L.seat links.now p.new) }
 {
-    match links.look(p, &At::Root(TAIL), 2) {
-        Looked::Stable(_, Some(tail)) => {
+    match hold_root(links, p, TAIL, 2) {
+        Some(tail) => {
             let turn = link_node(links, p, node, job, &tail);
             links.release(p, tail);
             turn
         }
-        Looked::Stable(_, None) => unreachable!(),
-        Looked::Moved => PutTurn::Over,
+        None => PutTurn::Over,
     }
 }

@@ -1,24 +1,47 @@
 //! Swings of the queue's links.
 
-ghost use Rattle.std.specs.Prelude.{◌≡◌, ℕ, Some, true};
+ghost use Rattle.std.specs.Prelude.{◌≡◌, ◌<◌, ℕ, Some, true};
 ghost use mathlib.Core.List.{IsPrefix};
 ghost use Rattle.orc_heap.specs.Allowed.{AllowedLater, HasLink};
 ghost use Rattle.orc_heap.specs.Calls.{Swings, move_of};
 ghost use Rattle.orc_heap.specs.Journals.{run_heap};
 ghost use Rattle.orc_heap.specs.Seats.{HoldsPlace, HoldsWant, IsNotFresh, link_in, place_in};
-ghost use Rattle.orc_heap.specs.Slots.{Holds, id_in};
+ghost use Rattle.orc_heap.specs.Slots.{Holds, IsFree, id_in};
 ghost use Rattle.orc_fifo_rule.specs.QueueDiscipline.{FifoMay};
-ghost use Rattle.orc_queue.specs.Turns.{HasDummy, Helps};
+ghost use Rattle.orc_queue.specs.Turns.{HasDummy, Helps, LooksAtRoot};
 ghost use Rattle.orc_heap.specs.Heap.{link_to};
 
 use orc_fifo_rule::{Fifo, FifoNote};
-use orc_heap::{At, Held, Links, Want};
+use orc_heap::{At, Held, Links, Looked, Want};
 
 // The root that names the dummy in front of the queue.
 pub(crate) const HEAD: u32 = 0;
 
 // The root that names the last node, or the one before it.
 pub(crate) const TAIL: u32 = 1;
+
+// Looks at a root, and holds the node that it names. None where two loads differed; a root is never null.
+#[inline(always)]
+pub(crate) fn hold_root<L: Links<Rule = Fifo>>(
+    links: &L,
+    p: &mut L::Pass,
+    root: u32,
+    slot: u32,
+) -> Option<Held>
+    requires pass { L.belongs links.now p.old }
+    requires made { HasDummy (L.numbers links.now) (L.opening links.now) }
+    requires root { root < 2 }
+    requires slot { IsFree (L.seat links.now p.old).slots slot }
+    ensures pass { L.belongs links.now p.new }
+    ensures later { IsPrefix (L.journal p.old) (L.journal p.new) }
+    ensures looked { LooksAtRoot root slot (L.seat links.now p.old) result (L.seat links.now p.new) }
+{
+    match links.look(p, &At::Root(root), slot) {
+        Looked::Stable(_, Some(node)) => Some(node),
+        Looked::Stable(_, None) => unreachable!(),
+        Looked::Moved => None,
+    }
+}
 
 // Makes one compare-and-swap. It is never refused, since three links at most are made to a node in all.
 #[inline(always)]

@@ -11,7 +11,7 @@ ghost use Rattle.orc_queue.specs.Turns.{HasDummy, FindsEnd, TakesBehind, TakesFr
 ghost use Rattle.orc_heap.specs.Allowed.{HasLink};
 ghost use Rattle.orc_heap.specs.Heap.{link_to};
 
-use crate::swings::{HEAD, TAIL, change, help_tail};
+use crate::swings::{HEAD, TAIL, change, help_tail, hold_root};
 use orc_fault::Again;
 use orc_fifo_rule::{Fifo, FifoNote};
 use orc_heap::{At, Held, Links, Looked, Want};
@@ -145,14 +145,13 @@ fn take_turn<L: Links<Rule = Fifo>>(links: &L, p: &mut L::Pass) -> TakeTurn
     ensures later { IsPrefix (L.journal p.old) (L.journal p.new) }
     ensures took { TakesTurn (L.numbers links.now) (L.seat links.now p.old) result (L.seat links.now p.new) }
 {
-    match links.look(p, &At::Root(HEAD), 1) {
-        Looked::Stable(_, Some(head)) => {
+    match hold_root(links, p, HEAD, 1) {
+        Some(head) => {
             let turn = take_behind(links, p, &head);
             links.release(p, head);
             turn
         }
-        Looked::Stable(_, None) => unreachable!(),
-        Looked::Moved => TakeTurn::Over,
+        None => TakeTurn::Over,
     }
 }
 

@@ -1,60 +1,44 @@
 -- The look of the tail, the link, and the release.
 use Rattle.std.proofs.Common.{ap, arith, inl, inr, refl, ℕ, ◌∙◌}
-use Rattle.orc_heap.proofs.ByAnswer.{Looks-held, Looks-null}
 use Rattle.orc_heap.specs.Slots.{id_in}
-use Rattle.orc_heap.specs.declared.events.Place.TheVariants.{Root}
 use Rattle.orc_heap.proofs.Calls.{Puts-trans}
 use Rattle.orc_heap.proofs.Pieces.{puts_released}
 use Rattle.orc_queue.specs.Answers.{stop_entries}
 use Rattle.orc_queue.proofs.Holding.{found_fresh, found_holds, found_kept, found_released, pass_known}
 use Rattle.orc_queue.proofs.Linking.{LinkKept, link_kept}
-use Rattle.orc_queue.proofs.Looking.{HoldsRoot, root_fresh, root_held, root_named, root_not_null, roots_there}
+use Rattle.orc_queue.proofs.Looking.{HoldsRoot, root_fresh, root_held, root_named}
 use Rattle.orc_queue.proofs.Missing.{full_over, link_full, moved_full, root_still}
 use Rattle.orc_queue.proofs.Pieces.{linked_puts}
 use Rattle.orc_queue.proofs.stopped.link_at_tail.Given.{Over}
-use Rattle.orc_queue.proofs.stopped.link_at_tail.Goals.{After-link_node-turn, In-Stable-default-Some}
+use Rattle.orc_queue.proofs.stopped.link_at_tail.Goals.{After-link_node-turn, In-Some}
 use Rattle.orc_queue.proofs.stopped.link_at_tail.Goals as goal
 
 -- what the look of the tail found
-found : (g : Over) (c : In-Stable-default-Some g) → let d = c.args.links.now in
-    HoldsRoot (g.L.Links.numbers d) 1 2 (g.L.Links.seat d c.args.p.now) c.in-Stable-default-Some.tail (g.L.Links.seat d c.look.new.p)
+found : (g : Over) (c : In-Some g) → let d = c.args.links.now in
+    HoldsRoot (g.L.Links.numbers d) 1 2 (g.L.Links.seat d c.args.p.now) c.in-Some.tail (g.L.Links.seat d c.hold_root.new.p)
 found g c =
     let d = c.args.links.now in
-    let e = c.in-Stable-default-Some.ensures in
+    let e = c.in-Some.ensures in
     let known = pass_known g.L.Links g.met.L.Links.opens g.met.L.Links.allowed g.met.L.Links.obeys d in
-    root_held _ _ _ 1 2 _ _ (omega arith) c.requires.slot (known c.args.p.now c.requires.made c.requires.pass)
-    (known c.look.new.p c.requires.made e.pass) (Looks-held {place = Root 1} e.looked c.in-Stable-default-Some.field-1-is)
+    root_held _ _ _ 1 2 _ (omega arith) c.requires.slot (known c.args.p.now c.requires.made c.requires.pass) (known c.hold_root.new.p c.requires.made e.pass)
+    e.looked
 
 -- what the pass did behind it
 kept : (g : Over) (c : After-link_node-turn g) → let d = c.args.links.now in
-    LinkKept c.args.job (g.L.Links.seat d c.look.new.p) c.link_node-turn.result (g.L.Links.seat d c.link_node-turn.new.p)
+    LinkKept c.args.job (g.L.Links.seat d c.hold_root.new.p) c.link_node-turn.result (g.L.Links.seat d c.link_node-turn.new.p)
 kept g c =
     let d = c.args.links.now in
-    let tail = id_in (g.L.Links.seat d c.look.new.p).slots c.in-Stable-default-Some.tail in
+    let tail = id_in (g.L.Links.seat d c.hold_root.new.p).slots c.in-Some.tail in
     link_kept (g.L.Links.numbers d) c.args.job tail c.args.node.now _ _ c.link_node-turn.result c.link_node-turn.ensures.linked
-
-pub look-requires-clause-place : goal.look-requires-clause-place
-look-requires-clause-place g c =
-    let d = c.args.links.now in
-    let known = pass_known g.L.Links g.met.L.Links.opens g.met.L.Links.allowed g.met.L.Links.obeys d in
-    roots_there _ _ 1 (known c.args.p.now c.requires.made c.requires.pass) (omega arith)
-
-pub unreachable-requires : goal.unreachable-requires
-unreachable-requires g c =
-    let d = c.args.links.now in
-    let e = c.in-Stable-default-None.ensures in
-    let known = pass_known g.L.Links g.met.L.Links.opens g.met.L.Links.allowed g.met.L.Links.obeys d in
-    root_not_null _ _ _ 1 _ (omega arith) (known c.args.p.now c.requires.made c.requires.pass) (g.met.L.Links.allowed d c.look.new.p e.pass)
-    (Looks-null {place = Root 1} e.looked c.in-Stable-default-None.field-1-is)
 
 pub link_node-turn-requires : goal.link_node-turn-requires
 link_node-turn-requires g c =
-    let f = found g (goal.at.link_node-turn-requires g c).In-Stable-default-Some in
-    let e = c.in-Stable-default-Some.ensures in
+    let f = found g (goal.at.link_node-turn-requires g c).In-Some in
+    let e = c.in-Some.ensures in
     record {
       pass = e.pass;
       made = c.requires.made;
-      node = root_fresh f c.args.job c.args.node.now c.requires.node e.looked.fresh;
+      node = root_fresh f c.args.job c.args.node.now c.requires.node e.looked.1.fresh;
       tail = found_holds f.node;
       named = root_named f;
     }
@@ -62,12 +46,12 @@ link_node-turn-requires g c =
 pub release-requires-clause-held : goal.release-requires-clause-held
 release-requires-clause-held g c =
     let at = goal.at.release-requires-clause-held g c in
-    found_kept (found g at.In-Stable-default-Some).node (kept g at.After-link_node-turn).stops.piece.slots
+    found_kept (found g at.In-Some).node (kept g at.After-link_node-turn).stops.piece.slots
 
-pub returns-in-Stable-default-Some-clause-stopped : goal.returns-in-Stable-default-Some-clause-stopped
-returns-in-Stable-default-Some-clause-stopped g c =
-    let at = goal.at.returns-in-Stable-default-Some-clause-stopped g c in
-    let f = found g at.In-Stable-default-Some in
+pub returns-in-Some-clause-stopped : goal.returns-in-Some-clause-stopped
+returns-in-Some-clause-stopped g c =
+    let at = goal.at.returns-in-Some-clause-stopped g c in
+    let f = found g at.In-Some in
     let k = (kept g at.After-link_node-turn).stops in
     let d = c.args.links.now in
     let q = puts_released _ _ (g.L.Links.seat d c.release.new.p) k.piece.own k.piece.puts c.release.ensures.released.puts in
@@ -83,33 +67,33 @@ returns-in-Stable-default-Some-clause-stopped g c =
       keeps = k.keeps;
     }
 
-pub returns-in-Stable-default-Some-clause-fresh : goal.returns-in-Stable-default-Some-clause-fresh
-returns-in-Stable-default-Some-clause-fresh g c =
-    let at = goal.at.returns-in-Stable-default-Some-clause-fresh g c in
-    let node = (found g at.In-Stable-default-Some).node in
+pub returns-in-Some-clause-fresh : goal.returns-in-Some-clause-fresh
+returns-in-Some-clause-fresh g c =
+    let at = goal.at.returns-in-Some-clause-fresh g c in
+    let node = (found g at.In-Some).node in
     let k = kept g at.After-link_node-turn in
     let d = c.args.links.now in
     let e = c.link_node-turn.ensures in
     let all = g.met.L.Links.allowed d c.link_node-turn.new.p e.pass in
     let linked = linked_puts (g.L.Links.numbers d) _ _ k.stops.piece.own k.stops.piece.puts all node.id node.linked in
     let fresh = found_fresh node k.stops.piece.slots (λ i is. g.met.L.Links.fresh_is d c.link_node-turn.new.p i e.pass is) linked c.release.ensures.released in
-    elim k.fresh [ inl is ↦ inl (fresh ∙ (is ∙ c.in-Stable-default-Some.ensures.looked.fresh)) | inr is ↦ inr (fresh ∙ is) ]
+    elim k.fresh [ inl is ↦ inl (fresh ∙ (is ∙ c.in-Some.ensures.looked.1.fresh)) | inr is ↦ inr (fresh ∙ is) ]
 
-pub returns-in-Moved-clause-stopped : goal.returns-in-Moved-clause-stopped
-returns-in-Moved-clause-stopped g c =
-    let r = c.in-Moved.ensures.looked.tells in
+pub returns-in-None-clause-stopped : goal.returns-in-None-clause-stopped
+returns-in-None-clause-stopped g c =
+    let r = c.in-None.ensures.looked.tells in
     record { piece = record { own = _; slots = r.3; puts = r.4; entries_are = refl; no_give = refl; few = omega arith }; keeps = refl }
 
-pub returns-in-Stable-default-Some-clause-missed : goal.returns-in-Stable-default-Some-clause-missed
-returns-in-Stable-default-Some-clause-missed g c = λ other.
-    let at = goal.at.returns-in-Stable-default-Some-clause-missed g c in
-    let f = found g at.In-Stable-default-Some in
+pub returns-in-Some-clause-missed : goal.returns-in-Some-clause-missed
+returns-in-Some-clause-missed g c = λ other.
+    let at = goal.at.returns-in-Some-clause-missed g c in
+    let f = found g at.In-Some in
     let p = (kept g at.After-link_node-turn).stops.piece in
     full_over _ _ _ _ _ _ p.own f.puts p.puts c.release.ensures.released.puts f.before f.after.all refl
     (λ alone. link_full _ c.args.job _ c.args.node.now _ _ c.link_node-turn.result c.link_node-turn.ensures.linked other (root_still f alone))
 
-pub returns-in-Moved-clause-missed : goal.returns-in-Moved-clause-missed
-returns-in-Moved-clause-missed g c = λ other.
+pub returns-in-None-clause-missed : goal.returns-in-None-clause-missed
+returns-in-None-clause-missed g c = λ other.
     let d = c.args.links.now in
-    let r = c.in-Moved.ensures.looked.tells in
-    moved_full (g.L.Links.numbers d) _ _ r.0 r.1 r.2 r.4 (g.met.L.Links.allowed d c.look.new.p c.in-Moved.ensures.pass)
+    let r = c.in-None.ensures.looked.tells in
+    moved_full (g.L.Links.numbers d) _ _ r.0 r.1 r.2 r.4 (g.met.L.Links.allowed d c.hold_root.new.p c.in-None.ensures.pass)
