@@ -7,9 +7,10 @@ use Rattle.orc_history.specs.QueueHistory.{IsLegalFrom, waiting_after}
 use Rattle.orc_jobs.specs.declared.line.Line.{Line}
 use Rattle.orc_board.specs.declared.replies.PostReply.{PostReply}
 use Rattle.orc_board.specs.Stretches.{Row}
-use Rattle.orc_board.specs.Follows.{Pointwise, PosterRow}
+use Rattle.orc_history.specs.Lists.{Pairwise}
+use Rattle.orc_board.specs.Follows.{PosterRow}
 
-pub posters_of : (lines : List Line) (poster : ℕ) (rs : List PostReply) (rows : List Row) → Pointwise (PosterRow lines poster) rs rows
+pub posters_of : (lines : List Line) (poster : ℕ) (rs : List PostReply) (rows : List Row) → Pairwise (PosterRow lines poster) rs rows
     → AllByRecursion (λ (r : PostReply). r.poster ≡ poster) rs
 posters_of lines poster [] rows z = tt
 posters_of lines poster (r ∷ rs) [] z = absurd z

@@ -17,7 +17,8 @@ use Rattle.orc_board.specs.declared.replies.PostWord.TheVariants as word
 use Rattle.orc_board.specs.declared.replies.TakeReply.{TakeReply}
 use Rattle.orc_board.specs.Stretches.{Row, Share, just, nothing, is_own_move}
 use Rattle.orc_board.specs.Table.{IsJob, IsSkip, PostRow, JobPart, in_its}
-use Rattle.orc_board.specs.Follows.{Pointwise, PosterRow, TakerRow, TookRow}
+use Rattle.orc_history.specs.Lists.{Pairwise}
+use Rattle.orc_board.specs.Follows.{PosterRow, TakerRow, TookRow}
 use Rattle.orc_board.proofs.ListFacts.{AllByRecursion-append, AllByRecursion-left, AllByRecursion-right, eq-yes}
 use Rattle.orc_board.proofs.Wholes.{queue_of_rows}
 
@@ -74,7 +75,7 @@ line_puts lines false agent i (line.Rush id op text) w row is h = no_puts lines 
 line_puts lines true agent i (line.Rush id op text) w row is h = part_puts lines true agent i id op text w (row.queues true) row.set is h.part
 line_puts lines rush agent i (line.Drop id) w row is h = no_puts lines rush (row.queues rush) (h.none rush)
 
-pub rows_puts : (lines : List Line) (rush : Bool) (poster : ℕ) (rs : List PostReply) (rows : List Row) → Pointwise (PosterRow lines poster) rs rows
+pub rows_puts : (lines : List Line) (rush : Bool) (poster : ℕ) (rs : List PostReply) (rows : List Row) → Pairwise (PosterRow lines poster) rs rows
     → AllByRecursion (PutFits lines rush) (queue_of_rows rush rows)
 rows_puts lines rush poster [] [] z = tt
 rows_puts lines rush poster [] (row ∷ rows) z = absurd z
@@ -106,7 +107,7 @@ own_took_fits lines false true agent i at = tt
 own_took_fits lines true false agent i at = tt
 own_took_fits lines true true agent i at = (tt, tt)
 
-pub took_rows_fit : (lines : List Line) (rush : Bool) (taker agent : ℕ) (rs : List TakeReply) (rows : List Row) → Pointwise (TakerRow lines taker agent) rs rows
+pub took_rows_fit : (lines : List Line) (rush : Bool) (taker agent : ℕ) (rs : List TakeReply) (rows : List Row) → Pairwise (TakerRow lines taker agent) rs rows
     → AllByRecursion (PutFits lines rush) (queue_of_rows rush rows)
 took_rows_fit lines rush taker agent [] [] z = tt
 took_rows_fit lines rush taker agent [] (row ∷ rows) z = absurd z
@@ -130,8 +131,8 @@ no_skips lines rush agent (e ∷ es) a h =
 abbrev pub RowsFit : List Line → List Row → Type 0
 RowsFit lines rows = (rush : Bool) → AllByRecursion (TookFits lines rush) (queue_of_rows rush rows)
 
-pub strict_rows : (lines : List Line) (taker agent : ℕ) (rs : List TakeReply) (rows : List Row) → Pointwise (TakerRow lines taker agent) rs rows
-    → RowsFit lines rows → Pointwise (TookRow lines taker agent) rs rows
+pub strict_rows : (lines : List Line) (taker agent : ℕ) (rs : List TakeReply) (rows : List Row) → Pairwise (TakerRow lines taker agent) rs rows
+    → RowsFit lines rows → Pairwise (TookRow lines taker agent) rs rows
 strict_rows lines taker agent [] [] z h = tt
 strict_rows lines taker agent [] (row ∷ rows) z h = absurd z
 strict_rows lines taker agent (r ∷ rs) [] z h = absurd z

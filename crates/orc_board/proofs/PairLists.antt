@@ -18,7 +18,8 @@ use Rattle.orc_board.specs.declared.replies.PostWord.TheVariants as word
 use Rattle.orc_board.specs.declared.replies.TakeReply.{TakeReply}
 use Rattle.orc_board.specs.Stretches.{Row, Share, nothing}
 use Rattle.orc_board.specs.Table.{PostRow, JobPart, DropRow, IsWordOf, in_its}
-use Rattle.orc_board.specs.Follows.{Pointwise, PosterRow, TookRow, own_records}
+use Rattle.orc_history.specs.Lists.{Pairwise}
+use Rattle.orc_board.specs.Follows.{PosterRow, TookRow, own_records}
 use Rattle.orc_board.specs.Reportable.{posted_by, posted_of, claim_of, takes_with, IsClaim}
 use Rattle.orc_board.proofs.Wholes.{queue_of_rows}
 
@@ -133,7 +134,7 @@ line_pairs false agent i (line.Rush id op text) w row h = other_pairs false i w 
 line_pairs true agent i (line.Rush id op text) w row h = part_pairs true agent i id w (row.queues true) row.set h.word h.part
 line_pairs rush agent i (line.Drop id) w row h = drop_pairs rush agent i id w row h
 
-pub rows_pairs : (lines : List Line) (rush : Bool) (poster : ℕ) (rs : List PostReply) (rows : List Row) → Pointwise (PosterRow lines poster) rs rows
+pub rows_pairs : (lines : List Line) (rush : Bool) (poster : ℕ) (rs : List PostReply) (rows : List Row) → Pairwise (PosterRow lines poster) rs rows
     → PutsOf (queue_of_rows rush rows) (posted_of rush rs)
 rows_pairs lines rush poster [] [] z = record { puts = refl; tooks = refl }
 rows_pairs lines rush poster [] (row ∷ rows) z = absurd z
@@ -159,7 +160,7 @@ took_one false true agent r e = record { tooks = λ more es h. rw e h; puts = λ
 took_one true false agent r e = record { tooks = λ more es h. rw e h; puts = λ es h. h }
 took_one true true agent r e = record { tooks = λ more es h. rw e (ap (λ u. (r.line, r.at) ∷ u) h); puts = λ es h. h }
 
-pub took_pairs : (lines : List Line) (rush : Bool) (taker agent : ℕ) (rs : List TakeReply) (rows : List Row) → Pointwise (TookRow lines taker agent) rs rows
+pub took_pairs : (lines : List Line) (rush : Bool) (taker agent : ℕ) (rs : List TakeReply) (rows : List Row) → Pairwise (TookRow lines taker agent) rs rows
     → (tooks_of (queue_of_rows rush rows) ≡ map claim_of (takes_with rush rs)) × (puts_of (queue_of_rows rush rows) ≡ [])
 took_pairs lines rush taker agent [] [] z = (refl, refl)
 took_pairs lines rush taker agent [] (row ∷ rows) z = absurd z
@@ -169,7 +170,7 @@ took_pairs lines rush taker agent (r ∷ rs) (row ∷ rows) z =
     let one = took_one rush r.rush agent r refl in
     (rw (z.0.table.queues rush) (one.tooks rs (queue_of_rows rush rows) more.0), rw (z.0.table.queues rush) (one.puts (queue_of_rows rush rows) more.1))
 
-pub claims_of : (lines : List Line) (taker agent : ℕ) (rs : List TakeReply) (rows : List Row) → Pointwise (TookRow lines taker agent) rs rows
+pub claims_of : (lines : List Line) (taker agent : ℕ) (rs : List TakeReply) (rows : List Row) → Pairwise (TookRow lines taker agent) rs rows
     → AllByRecursion (IsClaim lines) rs
 claims_of lines taker agent [] [] z = tt
 claims_of lines taker agent [] (row ∷ rows) z = absurd z
@@ -178,7 +179,7 @@ claims_of lines taker agent (r ∷ rs) (row ∷ rows) z =
     (record { id = z.0.table.id; job = z.0.table.job; value = z.0.table.value }, claims_of lines taker agent rs rows z.1)
 
 -- the lines of the replies exist
-pub lines_exist : (lines : List Line) (poster : ℕ) (rs : List PostReply) (rows : List Row) → Pointwise (PosterRow lines poster) rs rows
+pub lines_exist : (lines : List Line) (poster : ℕ) (rs : List PostReply) (rows : List Row) → Pairwise (PosterRow lines poster) rs rows
     → AllByRecursion (λ (r : PostReply). r.line < length lines) rs
 lines_exist lines poster [] [] z = tt
 lines_exist lines poster [] (row ∷ rows) z = absurd z

@@ -14,7 +14,8 @@ use Rattle.orc_board.specs.declared.replies.PostWord.{PostWord}
 use Rattle.orc_board.specs.declared.replies.PostWord.TheVariants as word
 use Rattle.orc_board.specs.Stretches.{View, Row, Share, Licensed, DidAll, of_queue}
 use Rattle.orc_board.specs.Table.{PostRow}
-use Rattle.orc_board.specs.Follows.{Pointwise, PosterRow}
+use Rattle.orc_history.specs.Lists.{Pairwise}
+use Rattle.orc_board.specs.Follows.{PosterRow}
 use Rattle.orc_board.proofs.PairLists.{puts_of}
 use Rattle.orc_board.proofs.Shares.{DidAll-stretch}
 
@@ -57,7 +58,7 @@ told_positions agent i (line.Rush id op text) row h = (true, ap (λ (x : Share Q
 told_positions agent i (line.Drop id) row h = absurd h.part
 
 pub no_positions : (lines : List Line) (poster : ℕ) (puts : Bool → ℕ) → ((rush : Bool) → puts rush < 2 ^ 62) → (rs : List PostReply) (rows : List Row)
-    → Pointwise (PosterRow lines poster) rs rows → ((rush : Bool) → AllByRecursion (NoPlace rush (puts rush)) rows)
+    → Pairwise (PosterRow lines poster) rs rows → ((rush : Bool) → AllByRecursion (NoPlace rush (puts rush)) rows)
     → AllByRecursion (λ (r : PostReply). r.what ≢ word.Positions) rs
 no_positions lines poster puts few [] rows z h = tt
 no_positions lines poster puts few (r ∷ rs) [] z h = absurd z

@@ -13,17 +13,18 @@ use Rattle.orc_board.specs.declared.replies.PostReply.{PostReply}
 use Rattle.orc_board.specs.declared.replies.TakeReply.{TakeReply}
 use Rattle.orc_board.specs.Stretches.{View, Row, Replied, empty_row, of_queue}
 use Rattle.orc_board.specs.Table.{PostRow, TakenRow, EndsWith, TakeEnds}
-use Rattle.orc_board.specs.Follows.{Posting, Taking, TakingRest, PosterRow, TakerRow, own_records, Pointwise}
+use Rattle.orc_history.specs.Lists.{Pairwise}
+use Rattle.orc_board.specs.Follows.{Posting, Taking, TakingRest, PosterRow, TakerRow, own_records}
 use Rattle.orc_board.proofs.Shares.{Works-none, Works-row, Stands-empty, DidAll-stretch, own_of_rows}
 use Rattle.orc_board.proofs.CallStretches.{ends_later}
 use Rattle.orc_board.proofs.ListFacts.{eq-yes, eq-no}
 
-pub Pointwise-snoc : {X Y : Type 0} (R : X → Y → Type 0) (xs : List X) (ys : List Y) (x : X) (y : Y) → Pointwise R xs ys → R x y
-    → Pointwise R (xs ++ x ∷ []) (ys ++ y ∷ [])
-Pointwise-snoc R [] [] x y z h = (h, tt)
-Pointwise-snoc R [] (b ∷ ys) x y z h = absurd z
-Pointwise-snoc R (a ∷ xs) [] x y z h = absurd z
-Pointwise-snoc R (a ∷ xs) (b ∷ ys) x y z h = (z.0, Pointwise-snoc R xs ys x y z.1 h)
+pub Pairwise-snoc : {X Y : Type 0} (R : X → Y → Type 0) (xs : List X) (ys : List Y) (x : X) (y : Y) → Pairwise R xs ys → R x y
+    → Pairwise R (xs ++ x ∷ []) (ys ++ y ∷ [])
+Pairwise-snoc R [] [] x y z h = (h, tt)
+Pairwise-snoc R [] (b ∷ ys) x y z h = absurd z
+Pairwise-snoc R (a ∷ xs) [] x y z h = absurd z
+Pairwise-snoc R (a ∷ xs) (b ∷ ys) x y z h = (z.0, Pairwise-snoc R xs ys x y z.1 h)
 
 pub posting_none : {A B : Type 0} (qs : Bool → View A QueueEntry QueueRefused) (s : View B SetEntry ListRefused) (lines : List Line) (poster : ℕ)
     (replies : List PostReply) (j : Bool → List A) (m : List B)
@@ -36,7 +37,7 @@ pub posting_more : {A B : Type 0} (qs : Bool → View A QueueEntry QueueRefused)
     → Replied qs s (PostRow poster index line r.what) poster k n k2 n2 → Posting qs s lines poster (replies ++ r ∷ []) j m k2 n2
 posting_more qs s lines poster index line replies r j k k2 m n n2 p same at done = record {
   rows = p.rows ++ done.row ∷ [];
-  table = Pointwise-snoc (PosterRow lines poster) replies p.rows r done.row p.table (record {
+  table = Pairwise-snoc (PosterRow lines poster) replies p.rows r done.row p.table (record {
     poster_is = same.0;
     line = line;
     is = ap (slice_get lines) same.1 ∙ at;
@@ -118,7 +119,7 @@ taking_more qs s lines taker agent now replies r j k k2 m n n2 p e same replied 
     let done : Replied qs s (TakenRow lines agent (Some r)) agent k n k2 n2 = subst (λ (x : ℕ). Replied qs s (TakenRow lines x (Some r)) x k n k2 n2) e replied in
     record {
       rows = p.rows ++ done.row ∷ [];
-      table = Pointwise-snoc (TakerRow lines taker agent) replies p.rows r done.row p.table (record { taker_is = same; table = done.is });
+      table = Pairwise-snoc (TakerRow lines taker agent) replies p.rows r done.row p.table (record { taker_is = same; table = done.is });
       works = Works-row qs s agent p.works done.stands;
     }
 

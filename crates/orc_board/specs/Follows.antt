@@ -2,7 +2,7 @@
 use Rattle.std.specs.Prelude.{◌≡◌, ◌≢◌, ℕ, suc, ◌+◌, ◌%◌, ◌<◌, ◌≤◌, List, [], ◌∷◌, ◌++◌, length, map, filter, ◌==◌, Bool, Some, None, slice_get}
 use Rattle.std.specs.List.{range_with_len, AllByRecursion}
 use Rattle.std.proofs.Common.{zero}
-pub use Rattle.orc_history.specs.Lists.{Pairwise as Pointwise}
+use Rattle.orc_history.specs.Lists.{Pairwise}
 use Rattle.orc_history.specs.declared.queue.QueueEntry.{QueueEntry}
 use Rattle.orc_history.specs.declared.queue.QueueEntry.TheVariants.{Empty}
 use Rattle.orc_history.specs.declared.queue.QueueRefused.{QueueRefused}
@@ -43,14 +43,14 @@ pub record TookRow (lines : List Line) (taker agent : ℕ) (r : TakeReply) (row 
 pub record Posting {A B : Type 0} (qs : Bool → View A QueueEntry QueueRefused) (s : View B SetEntry ListRefused) (lines : List Line) (poster : ℕ)
     (replies : List PostReply) (j : Bool → List A) (m : List B) (k : Bool → List A) (n : List B) : Type 0 where
   pub rows : List Row
-  pub table : Pointwise (PosterRow lines poster) replies rows
+  pub table : Pairwise (PosterRow lines poster) replies rows
   pub works : Works qs s poster rows j m k n
 
 -- what a taker did between these journals is what these replies stand for, with jobs that it passed over
 pub record Taking {A B : Type 0} (qs : Bool → View A QueueEntry QueueRefused) (s : View B SetEntry ListRefused) (lines : List Line) (taker agent : ℕ)
     (replies : List TakeReply) (j : Bool → List A) (m : List B) (k : Bool → List A) (n : List B) : Type 0 where
   pub rows : List Row
-  pub table : Pointwise (TakerRow lines taker agent) replies rows
+  pub table : Pairwise (TakerRow lines taker agent) replies rows
   pub works : Works qs s agent rows j m k n
 
 -- the same, and at last the jobs that it passed over before it found nothing
@@ -65,7 +65,7 @@ pub record TakingRest {A B : Type 0} (qs : Bool → View A QueueEntry QueueRefus
 pub record Claiming {A B : Type 0} (qs : Bool → View A QueueEntry QueueRefused) (s : View B SetEntry ListRefused) (lines : List Line) (taker agent : ℕ)
     (replies : List TakeReply) (j : Bool → List A) (m : List B) (k : Bool → List A) (n : List B) : Type 0 where
   pub rows : List Row
-  pub table : Pointwise (TookRow lines taker agent) replies rows
+  pub table : Pairwise (TookRow lines taker agent) replies rows
   pub works : Works qs s agent rows j m k n
 
 -- the records below n that belong to this poster, in file order: record i belongs to poster 1 + (i mod P)

@@ -29,7 +29,8 @@ use Rattle.orc_board.specs.declared.replies.TakeWord.{TakeWord}
 use Rattle.orc_board.specs.declared.replies.TakeWord.TheVariants as took
 use Rattle.orc_board.specs.Stretches.{Row, Share, View}
 use Rattle.orc_board.specs.Table.{HasValue, IsWordOf, JobPart, JobRow, answer_of}
-use Rattle.orc_board.specs.Follows.{Pointwise, TookRow, by_key, taker_agent}
+use Rattle.orc_history.specs.Lists.{Pairwise}
+use Rattle.orc_board.specs.Follows.{TookRow, by_key, taker_agent}
 use Rattle.orc_board.specs.Reportable.{IsClaim, claim_of, is_side, posted_by, posted_of, takes_with}
 use Rattle.orc_board.specs.Runs.{Ran}
 use Rattle.orc_board.proofs.ListFacts.{AllByRecursion-append, AllByRecursion-filter, AllByRecursion-left, AllByRecursion-map, AllByRecursion-right, eq-false, eq-no, eq-true, filter-none}
@@ -107,12 +108,12 @@ numbers_differ n = IsDistinct-from_apart same (range_with_len 0 n)
     eq-no (get_or (range_with_len 0 n) i d) (get_or (range_with_len 0 n) j d)
     (λ e. omega (arith, e, ij, get_or-range_with_len 0 n i d (omega (arith, ij, short)), get_or-range_with_len 0 n j d short)))
 
-pointwise_append : {X Y : Type 0} (R : X → Y → Type 0) (xs us : List X) (ys vs : List Y) → Pointwise R xs ys → Pointwise R us vs
-    → Pointwise R (xs ++ us) (ys ++ vs)
-pointwise_append R [] us [] vs a b = b
-pointwise_append R [] us (y ∷ ys) vs a b = absurd a
-pointwise_append R (x ∷ xs) us [] vs a b = absurd a
-pointwise_append R (x ∷ xs) us (y ∷ ys) vs a b = (a.0, pointwise_append R xs us ys vs a.1 b)
+pairwise_append : {X Y : Type 0} (R : X → Y → Type 0) (xs us : List X) (ys vs : List Y) → Pairwise R xs ys → Pairwise R us vs
+    → Pairwise R (xs ++ us) (ys ++ vs)
+pairwise_append R [] us [] vs a b = b
+pairwise_append R [] us (y ∷ ys) vs a b = absurd a
+pairwise_append R (x ∷ xs) us [] vs a b = absurd a
+pairwise_append R (x ∷ xs) us (y ∷ ys) vs a b = (a.0, pairwise_append R xs us ys vs a.1 b)
 
 -- what the reply to another line than this one says
 post_not_added : (i j : ℕ) (w : PostWord) (e : SetEntry) → (j ≡ i → w ≡ word.Busy) → PostSays j w e → NotAdded i e
@@ -229,7 +230,7 @@ only_posted word.Skipped j a b c d = absurd j
 
 -- the job of a claim that isn't Void
 done_word : (lines : List Line) (i : ℕ) (l : Line) (w : TakeWord) → (id : ℕ) (op : Job) (text : List ℕ) → l ≡ line.Post id op text → slice_get lines i ≡ Some l
-    → w ≢ took.Void → HasValue lines i w → Pointwise IsJobOf (l ∷ []) (done_as (slice_get lines i) w)
+    → w ≢ took.Void → HasValue lines i w → Pairwise IsJobOf (l ∷ []) (done_as (slice_get lines i) w)
 done_word lines i l took.Void id op text post is not_void h = absurd (not_void refl)
 done_word lines i l (took.Done value) id op text post is not_void h =
     let there : Some l ≡ Some h.0 = sym is ∙ h.1 in
@@ -237,7 +238,7 @@ done_word lines i l (took.Done value) id op text post is not_void h =
     rw (is, post) ((refl, subst (λ (x : Line). IsJobValue x value) same_line h.2), tt)
 
 done_one : (lines : List Line) → PostTheirNumbers lines → (r : TakeReply) → IsClaim lines r → r.what ≢ took.Void
-    → (l : Line) × (slice_get lines r.line ≡ Some l) × Pointwise IsJobOf (l ∷ []) (done_in lines r)
+    → (l : Line) × (slice_get lines r.line ≡ Some l) × Pairwise IsJobOf (l ∷ []) (done_in lines r)
 done_one lines num r claim not_void =
     let l : Line = line.Post claim.id claim.job.op claim.job.text in
     let on_queue : r.rush ≡ false = (numbered_job lines num r.rush r.line claim.id claim.job).0 in
@@ -387,7 +388,7 @@ module _ {A B : Type 0} (qs : Bool → View A QueueEntry QueueRefused) (s : View
         (subst (λ (z : List ℕ). IsPermutation z (map take_line takes)) (posted_lines posts all_posted) same_lines)
 
     -- the first lines are done
-    some_done : (m : ℕ) → m ≤ length lines → Pointwise IsJobOf (take m lines) (flat_map (done_in lines) (by_key take_line m takes))
+    some_done : (m : ℕ) → m ≤ length lines → Pairwise IsJobOf (take m lines) (flat_map (done_in lines) (by_key take_line m takes))
     some_done zero few = tt
     some_done (suc m) few =
         let low : m < length lines = omega (arith, few) in
@@ -412,10 +413,10 @@ module _ {A B : Type 0} (qs : Bool → View A QueueEntry QueueRefused) (s : View
         ∙ ap (λ z. flat_map (done_in lines) (by_key take_line m takes) ++ z)
         (ap (flat_map (done_in lines)) alone ∙ append-nil (done_in lines r)) in
         rw (longer, more)
-        (pointwise_append IsJobOf (take m lines) (l ∷ []) (flat_map (done_in lines) (by_key take_line m takes)) (done_in lines r)
+        (pairwise_append IsJobOf (take m lines) (l ∷ []) (flat_map (done_in lines) (by_key take_line m takes)) (done_in lines r)
         (some_done m (omega (arith, few))) job)
 
     -- and so all are
     pub all_done : AreJobsOf lines (done_jobs lines takes)
     all_done =
-        subst (λ (z : List Line). Pointwise IsJobOf z (done_jobs lines takes)) (take-length lines) (some_done (length lines) (omega arith))
+        subst (λ (z : List Line). Pairwise IsJobOf z (done_jobs lines takes)) (take-length lines) (some_done (length lines) (omega arith))

@@ -16,7 +16,8 @@ use Rattle.orc_board.specs.declared.replies.TakeReply.{TakeReply}
 use Rattle.orc_board.specs.declared.replies.TakeWord.{TakeWord}
 use Rattle.orc_board.specs.Stretches.{MayStand, Row, Share, Stretch, View, all_beside, beside, is_own_answer, of_set}
 use Rattle.orc_board.specs.Table.{IsJob, IsWordOf, JobPart, JobRow, PostRow, answer_of}
-use Rattle.orc_board.specs.Follows.{IsWorker, Pointwise, PosterRow, TookRow, WorkersFollow, posts_of, taker_agent, takes_of}
+use Rattle.orc_history.specs.Lists.{Pairwise}
+use Rattle.orc_board.specs.Follows.{IsWorker, PosterRow, TookRow, WorkersFollow, posts_of, taker_agent, takes_of}
 use Rattle.orc_board.proofs.Keyed.{by_key_below}
 use Rattle.orc_board.proofs.ListFacts.{AllByRecursion-append, AllByRecursion-filter, AllByRecursion-left, AllByRecursion-map, AllByRecursion-right, eq-yes, zero_or}
 use Rattle.orc_board.proofs.Orders.{above_zero, no_posts, posters_in_range}
@@ -45,7 +46,7 @@ by_keys {X} key P n (x ∷ xs) low h = (head, by_keys key P n xs low.1 (λ a l. 
 -- from replies to the entries of their rows, and back
 rows_entries : {X : Type 0} (R : X → Row → Type 0) (Q : X → Type 0) (G : SetEntry → Type 0)
     → ((x : X) (row : Row) → R x row → Q x → AllByRecursion G row.set.own)
-    → (xs : List X) (rows : List Row) → Pointwise R xs rows → AllByRecursion Q xs → AllByRecursion G (set_of_rows rows)
+    → (xs : List X) (rows : List Row) → Pairwise R xs rows → AllByRecursion Q xs → AllByRecursion G (set_of_rows rows)
 rows_entries R Q G step [] [] z a = tt
 rows_entries R Q G step [] (row ∷ rows) z a = absurd z
 rows_entries R Q G step (x ∷ xs) [] z a = absurd z
@@ -54,7 +55,7 @@ rows_entries R Q G step (x ∷ xs) (row ∷ rows) z a =
 
 rows_back : {X : Type 0} (R : X → Row → Type 0) (Q : X → Type 0) (G : SetEntry → Type 0)
     → ((x : X) (row : Row) → R x row → AllByRecursion G row.set.own → Q x)
-    → (xs : List X) (rows : List Row) → Pointwise R xs rows → AllByRecursion G (set_of_rows rows) → AllByRecursion Q xs
+    → (xs : List X) (rows : List Row) → Pairwise R xs rows → AllByRecursion G (set_of_rows rows) → AllByRecursion Q xs
 rows_back R Q G step [] [] z a = tt
 rows_back R Q G step [] (row ∷ rows) z a = absurd z
 rows_back R Q G step (x ∷ xs) [] z a = absurd z

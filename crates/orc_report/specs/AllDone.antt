@@ -5,7 +5,7 @@ use Rattle.orc_jobs.specs.declared.line.Job.{Job}
 use Rattle.orc_jobs.specs.declared.line.Line.{Line}
 use Rattle.orc_jobs.specs.declared.line.Line.TheVariants as line
 use Rattle.orc_jobs.specs.JobValue.{IsJobValue}
-use Rattle.orc_board.specs.Follows.{Pointwise}
+use Rattle.orc_history.specs.Lists.{Pairwise}
 use Rattle.orc_board.specs.declared.replies.PostReply.{PostReply}
 use Rattle.orc_board.specs.declared.replies.PostWord.TheVariants as post
 use Rattle.orc_board.specs.declared.replies.TakeReply.{TakeReply}
@@ -29,7 +29,7 @@ IsJobOf (line.Drop id) j = ⊥
 
 -- these are the jobs of all lines, in order, each with its value
 abbrev pub AreJobsOf : List Line → List (Job × ℕ) → Type 0
-AreJobsOf lines jobs = Pointwise IsJobOf lines jobs
+AreJobsOf lines jobs = Pairwise IsJobOf lines jobs
 
 -- no reply is NoNode or Spent
 abbrev pub NoneRefused : List PostReply → Type 0

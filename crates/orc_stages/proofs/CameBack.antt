@@ -13,7 +13,8 @@ use Rattle.orc_board.specs.ListWithRoom.{ListWithRoom}
 use Rattle.orc_board.specs.declared.replies.PostReply.{PostReply}
 use Rattle.orc_board.specs.Stretches.{View}
 use Rattle.orc_board.specs.Table.{EndsWith}
-use Rattle.orc_board.specs.Follows.{Pointwise, LastIsEmpty, IsWorker}
+use Rattle.orc_history.specs.Lists.{Pairwise}
+use Rattle.orc_board.specs.Follows.{LastIsEmpty, IsWorker}
 use Rattle.orc_board.proofs.Shares.{prefix_trans}
 use Rattle.orc_board.proofs.ListFacts.{AllByRecursion-map}
 use Rattle.orc_workers.specs.Learning.{IsWhole}
@@ -41,9 +42,9 @@ pub record Learnt {Q P A : Type 0} (q : QueueOf Q P A) (queues : List Q) (k : �
   pub same : SameWorker w v
 
 pub learnt_all : {Q P A : Type 0} (q : QueueOf Q P A) (queues : List Q) (k : ℕ → List A) (ws vs : List (Worker P))
-    → ((i : ℕ) → Pointwise (IsWhole (λ (x : Worker P). x.agent) (λ (x : Worker P). seen_at q x.desk.passes.items i)
+    → ((i : ℕ) → Pairwise (IsWhole (λ (x : Worker P). x.agent) (λ (x : Worker P). seen_at q x.desk.passes.items i)
     (λ a j. own_of agent_of_entry a ((view_at q queues i).history j)) (k i)) ws vs)
-    → Pointwise SameWorker ws vs → Pointwise (Learnt q queues k) ws vs
+    → Pairwise SameWorker ws vs → Pairwise (Learnt q queues k) ws vs
 learnt_all q queues k [] [] a b = tt
 learnt_all q queues k [] (v ∷ vs) a b = absurd b
 learnt_all q queues k (w ∷ ws) [] a b = absurd b
@@ -125,13 +126,13 @@ module _ {Q P A : Type 0} (q : QueueOf Q P A) (queues : List Q) (lines : List Li
         record { own = λ i. (h.whole i).own_is ∙ ap (λ (j : List A). own_of agent_of_entry w.agent ((V i).history j)) (seen i) }
 
     kept_all : (k l : ℕ → List A) (ws vs : List (Worker P)) → AllByRecursion (λ (w : Worker P). (i : ℕ) → seen_at q w.desk.passes.items i ≡ k i) ws
-        → Pointwise (Learnt q queues l) ws vs → AllByRecursion (Kept k l) ws
+        → Pairwise (Learnt q queues l) ws vs → AllByRecursion (Kept k l) ws
     kept_all k l [] [] s p = tt
     kept_all k l [] (v ∷ vs) s p = absurd p
     kept_all k l (w ∷ ws) [] s p = absurd p
     kept_all k l (w ∷ ws) (v ∷ vs) s p = (kept_of k l w v s.0 p.0, kept_all k l ws vs s.1 p.1)
 
-    back_all : (l : ℕ → List A) (ws vs : List (Worker P)) → AllByRecursion (IsOther q queues 0) vs → Pointwise (Learnt q queues l) ws vs
+    back_all : (l : ℕ → List A) (ws vs : List (Worker P)) → AllByRecursion (IsOther q queues 0) vs → Pairwise (Learnt q queues l) ws vs
         → AllByRecursion (IsBack q queues l) vs
     back_all l [] [] o p = tt
     back_all l [] (v ∷ vs) o p = absurd p
@@ -143,17 +144,17 @@ module _ {Q P A : Type 0} (q : QueueOf Q P A) (queues : List Q) (lines : List Li
     module _ (d0 d1 d2 d3 : List P) (outs : ListWithRoom ℕ) (ws vs us ts zs : List (Worker P)) (below1 : AllBelow q queues posters stages (seen_at q d1))
         (below3 : AllBelow q queues posters stages (seen_at q d3)) (new : IsNew q queues d0) (num : AreNumbered 1 ws) (many : length ws ≡ posters + stages)
         (fresh : AllByRecursion (λ (w : Worker P). IsNew q queues w.desk.passes.items) ws) (room : AllByRecursion (HasRoomForMoves posters lines) ws)
-        (none : AllByRecursion (λ (w : Worker P). w.moves.items ≡ []) ws) (did : Pointwise (DidWork q queues lines posters) ws vs)
-        (learn1 : LearnsAll q queues 0 d0 d1 vs us) (same1 : Pointwise SameWorker vs us) (moved : CallerMovedFor q queues lines posters d1 d2 us ts outs)
-        (enough : length lines ≤ length outs.items + outs.spare) (learn3 : LearnsAll q queues 0 d2 d3 ts zs) (same3 : Pointwise SameWorker ts zs)
+        (none : AllByRecursion (λ (w : Worker P). w.moves.items ≡ []) ws) (did : Pairwise (DidWork q queues lines posters) ws vs)
+        (learn1 : LearnsAll q queues 0 d0 d1 vs us) (same1 : Pairwise SameWorker vs us) (moved : CallerMovedFor q queues lines posters d1 d2 us ts outs)
+        (enough : length lines ≤ length outs.items + outs.spare) (learn3 : LearnsAll q queues 0 d2 d3 ts zs) (same3 : Pairwise SameWorker ts zs)
         (passes : ArePasses q 0 queues d3) (known : AreKnown q queues (suc (posters + stages)) d3) (others : AllByRecursion (IsOther q queues 0) zs) where
       abbrev C : ℕ → Type 0
       C = IsWorker posters stages
 
-      one : Pointwise (Learnt q queues (seen_at q d1)) vs us
+      one : Pairwise (Learnt q queues (seen_at q d1)) vs us
       one = learnt_all q queues (seen_at q d1) vs us (λ i. (learn1 i).each) same1
 
-      two : Pointwise (Learnt q queues (seen_at q d3)) ts zs
+      two : Pairwise (Learnt q queues (seen_at q d3)) ts zs
       two = learnt_all q queues (seen_at q d3) ts zs (λ i. (learn3 i).each) same3
 
       begins : AllByRecursion (Begins q queues lines posters) ws
@@ -322,7 +323,7 @@ below_of q queues posters stages d known i = all_below agent_of_entry (suc (post
 
 -- workers are other agents than the caller, after their work, and after the caller moved for them
 pub others_after : {Q P A : Type 0} (q : QueueOf Q P A) (queues : List Q) (lines : List Line) (posters : ℕ) (ws vs : List (Worker P))
-    → Pointwise (DidWork q queues lines posters) ws vs → AllByRecursion (IsOther q queues 0) vs
+    → Pairwise (DidWork q queues lines posters) ws vs → AllByRecursion (IsOther q queues 0) vs
 others_after q queues lines posters [] [] p = tt
 others_after q queues lines posters [] (v ∷ vs) p = absurd p
 others_after q queues lines posters (w ∷ ws) [] p = absurd p

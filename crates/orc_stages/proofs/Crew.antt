@@ -2,7 +2,7 @@
 use Rattle.std.proofs.Common.{◌≡◌, ℕ, zero, suc, ◌+◌, ◌≤◌, ◌<◌, List, [], ◌∷◌, ◌++◌, length, refl, ap, sym, ◌∙◌, arith}
 use Rattle.std.specs.List.{AllByRecursion}
 use Rattle.orc_board.specs.declared.replies.PostReply.{PostReply}
-use Rattle.orc_board.specs.Follows.{Pointwise}
+use Rattle.orc_history.specs.Lists.{Pairwise}
 use Rattle.orc_workers.proofs.Blocks.{nth_of}
 use Rattle.orc_stages.specs.declared.replies.StageReply.{StageReply}
 use Rattle.orc_stages.specs.declared.team.Worker.{Worker}
@@ -40,20 +40,20 @@ find F k (suc i) (w ∷ ws) num h low =
     }
 
 pub numbered_next : {P : Type 0} (R : Worker P → Worker P → Type 0) (k : ℕ) (ws vs : List (Worker P)) → ((w v : Worker P) → R w v → v.agent ≡ w.agent)
-    → AreNumbered k ws → Pointwise R ws vs → AreNumbered k vs
+    → AreNumbered k ws → Pairwise R ws vs → AreNumbered k vs
 numbered_next R k [] [] f a p = tt
 numbered_next R k [] (v ∷ vs) f a p = absurd p
 numbered_next R k (w ∷ ws) [] f a p = absurd p
 numbered_next R k (w ∷ ws) (v ∷ vs) f a p = (f w v p.0 ∙ a.0, numbered_next R (suc k) ws vs f a.1 p.1)
 
-pub same_length : {X : Type 0} (R : X → X → Type 0) (xs ys : List X) → Pointwise R xs ys → length ys ≡ length xs
+pub same_length : {X : Type 0} (R : X → X → Type 0) (xs ys : List X) → Pairwise R xs ys → length ys ≡ length xs
 same_length R [] [] p = refl
 same_length R [] (y ∷ ys) p = absurd p
 same_length R (x ∷ xs) [] p = absurd p
 same_length R (x ∷ xs) (y ∷ ys) p = ap suc (same_length R xs ys p.1)
 
 -- items that stay the same, place by place
-pub nth_next : {W X : Type 0} (items : W → List X) (R : W → W → Type 0) (ws vs : List W) → ((w v : W) → R w v → items v ≡ items w) → Pointwise R ws vs → (i : ℕ)
+pub nth_next : {W X : Type 0} (items : W → List X) (R : W → W → Type 0) (ws vs : List W) → ((w v : W) → R w v → items v ≡ items w) → Pairwise R ws vs → (i : ℕ)
     → nth_of items vs i ≡ nth_of items ws i
 nth_next items R [] [] f p i = refl
 nth_next items R [] (v ∷ vs) f p i = absurd p
@@ -107,20 +107,20 @@ pub record SameDesk {P : Type 0} (w v : Worker P) : Type 0 where
   pub desk_is : v.desk ≡ w.desk
   pub posts_are : v.posts ≡ w.posts
 
-moved_desks : {P : Type 0} (more : ℕ → List StageReply) (ws vs : List (Worker P)) → AllMovedFor more ws vs → Pointwise SameDesk ws vs
+moved_desks : {P : Type 0} (more : ℕ → List StageReply) (ws vs : List (Worker P)) → AllMovedFor more ws vs → Pairwise SameDesk ws vs
 moved_desks more [] [] m = tt
 moved_desks more [] (v ∷ vs) m = absurd m
 moved_desks more (w ∷ ws) [] m = absurd m
 moved_desks more (w ∷ ws) (v ∷ vs) m =
     (record { agent_is = m.0.agent_is; desk_is = m.0.desk_is; posts_are = m.0.posts_are }, moved_desks (λ n. more (suc n)) ws vs m.1)
 
-same_desks : {P : Type 0} (front ws vs : List (Worker P)) → Pointwise SameDesk ws vs → Pointwise SameDesk (front ++ ws) (front ++ vs)
+same_desks : {P : Type 0} (front ws vs : List (Worker P)) → Pairwise SameDesk ws vs → Pairwise SameDesk (front ++ ws) (front ++ vs)
 same_desks [] ws vs p = p
 same_desks (w ∷ front) ws vs p = (record { agent_is = refl; desk_is = refl; posts_are = refl }, same_desks front ws vs p)
 
 -- what the caller moved for all but the first of these workers
 pub record Moved {P : Type 0} (more : ℕ → List StageReply) (posters stages : ℕ) (ws vs : List (Worker P)) : Type 0 where
-  pub desks : Pointwise SameDesk ws vs
+  pub desks : Pairwise SameDesk ws vs
   pub kept : (i : ℕ) → i < posters → moves_at vs i ≡ moves_at ws i
   pub moves : (i : ℕ) → i < stages → moves_at vs (posters + i) ≡ moves_at ws (posters + i) ++ more i
   pub spare : (i : ℕ) → i < stages

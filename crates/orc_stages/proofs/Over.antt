@@ -10,7 +10,8 @@ use Rattle.orc_history.specs.QueueHistory.{agent_of_entry}
 use Rattle.orc_jobs.specs.declared.line.Line.{Line}
 use Rattle.orc_board.specs.declared.replies.PostReply.{PostReply}
 use Rattle.orc_board.specs.Stretches.{View}
-use Rattle.orc_board.specs.Follows.{Pointwise, posts_of}
+use Rattle.orc_history.specs.Lists.{Pairwise}
+use Rattle.orc_board.specs.Follows.{posts_of}
 use Rattle.orc_board.proofs.ListFacts.{AllByRecursion-append, AllByRecursion-map, le-cases}
 use Rattle.orc_workers.specs.Seats.{all_of}
 use Rattle.orc_workers.proofs.Blocks.{blocks, AreKeyed, block_of, blocks_by_key, blocks_add, blocks_none, blocks_cons, all_blocks}
@@ -27,7 +28,7 @@ use Rattle.orc_stages.proofs.Pipelines.{pipeline_of, few_moves, all_posts}
 use Rattle.orc_stages.proofs.Crew.{posts_at, moves_at, nth_out}
 
 -- the replies of a table are those of one poster, or of one stage
-posters_of : (lines : List Line) (poster : ℕ) (rs : List PostReply) (shares : List QueueShare) → Pointwise (IsPostShare lines poster) rs shares
+posters_of : (lines : List Line) (poster : ℕ) (rs : List PostReply) (shares : List QueueShare) → Pairwise (IsPostShare lines poster) rs shares
     → AllByRecursion (λ (r : PostReply). r.poster ≡ poster) rs
 posters_of lines poster [] shares z = tt
 posters_of lines poster (r ∷ rs) [] z = absurd z

@@ -12,7 +12,7 @@ use Rattle.orc_board.specs.declared.replies.PostReply.{PostReply}
 use Rattle.orc_board.specs.declared.replies.PostWord.{PostWord}
 use Rattle.orc_board.specs.declared.replies.PostWord.TheVariants as word
 use Rattle.orc_board.specs.Stretches.{View, Stretch, Did, Licensed, of_queue, refusal, nothing}
-use Rattle.orc_board.specs.Follows.{Pointwise}
+use Rattle.orc_history.specs.Lists.{Pairwise}
 use Rattle.orc_board.proofs.Shares.{DidAll-before}
 use Rattle.orc_board.proofs.Positions.{ManyPuts}
 use Rattle.orc_stages.specs.declared.replies.StageReply.{StageReply}
@@ -50,7 +50,7 @@ told_positions agent i (line.Post id op text) share h = ap (λ (x : QueueShare).
 told_positions agent i (line.Rush id op text) share h = ap (λ (x : QueueShare). x.refused) h
 told_positions agent i (line.Drop id) share h = let n : ⊥ = cc in absurd n
 
-pub no_positions : (lines : List Line) (poster : ℕ) (rs : List PostReply) (shares : List QueueShare) → Pointwise (IsPostShare lines poster) rs shares
+pub no_positions : (lines : List Line) (poster : ℕ) (rs : List PostReply) (shares : List QueueShare) → Pairwise (IsPostShare lines poster) rs shares
     → AllByRecursion HasPosition shares → AllByRecursion (λ (r : PostReply). r.what ≢ word.Positions) rs
 no_positions lines poster [] shares t h = tt
 no_positions lines poster (r ∷ rs) [] t h = absurd t

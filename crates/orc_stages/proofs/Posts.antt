@@ -10,7 +10,7 @@ use Rattle.orc_board.specs.declared.replies.PostWord.TheVariants as word
 use Rattle.orc_board.specs.declared.replies.PostReply.{PostReply}
 use Rattle.orc_board.specs.Stretches.{View, Stretch, of_queue, just, nothing}
 use Rattle.orc_board.proofs.Shares.{Did-just, Did-nothing, DidAll-snoc}
-use Rattle.orc_board.proofs.Workers.{Pointwise-snoc}
+use Rattle.orc_board.proofs.Workers.{Pairwise-snoc}
 use Rattle.orc_stages.specs.Stage.{PostPart, IsPostShare, Posting}
 use Rattle.orc_stages.specs.Calls.{Posted}
 use Rattle.orc_stages.proofs.Shares.{self, shares_none}
@@ -27,7 +27,7 @@ posting_more x lines poster now index line replies r j k l p e poster_is line_is
     let done : Posted x poster index line r.what k l = subst (λ (a : ℕ). Posted x a index line r.what k l) e done0 in
     record {
       shares = p.shares ++ done.share ∷ [];
-      table = Pointwise-snoc (IsPostShare lines poster) replies p.shares r done.share p.table (record {
+      table = Pairwise-snoc (IsPostShare lines poster) replies p.shares r done.share p.table (record {
         poster_is = poster_is;
         line = line;
         is = ap (slice_get lines) line_is ∙ at;

@@ -7,7 +7,7 @@ use Rattle.orc_jobs.specs.declared.line.Line.TheVariants as line
 use Rattle.orc_board.specs.declared.replies.PostReply.{PostReply}
 use Rattle.orc_board.specs.declared.replies.PostWord.{PostWord}
 use Rattle.orc_board.specs.declared.replies.PostWord.TheVariants as word
-use Rattle.orc_board.specs.Follows.{Pointwise}
+use Rattle.orc_history.specs.Lists.{Pairwise}
 use Rattle.orc_board.proofs.ListFacts.{AllByRecursion-append}
 use Rattle.orc_stages.specs.declared.replies.StageReply.{StageReply}
 use Rattle.orc_stages.specs.Stage.{QueueShare, StageRow, froms, tos, IsItem, ItemPart, PostPart, IsPostShare, PutOf, MoveTable, jobs_of, own_of}
@@ -124,7 +124,7 @@ pub record PostsSay (lines : List Line) (replies : ℕ) (own : List QueueEntry) 
   pub items : AllByRecursion (IsItem lines) (jobs_of true own)
   pub few : length (jobs_of true own) ≤ replies
 
-pub posts_say : (lines : List Line) (poster : ℕ) (rs : List PostReply) (shares : List QueueShare) → Pointwise (IsPostShare lines poster) rs shares
+pub posts_say : (lines : List Line) (poster : ℕ) (rs : List PostReply) (shares : List QueueShare) → Pairwise (IsPostShare lines poster) rs shares
     → PostsSay lines (length rs) (own_of shares)
 posts_say lines poster [] [] h = record { no_tooks = refl; items = tt; few = omega arith }
 posts_say lines poster [] (s ∷ shares) h = absurd h

@@ -12,7 +12,8 @@ use Rattle.orc_jobs.specs.Line.{jobs_in}
 use Rattle.orc_board.specs.declared.replies.PostReply.{PostReply}
 use Rattle.orc_board.specs.Stretches.{View, queue_view}
 use Rattle.orc_board.specs.Table.{EndsWith}
-use Rattle.orc_board.specs.Follows.{Pointwise, own_records}
+use Rattle.orc_history.specs.Lists.{Pairwise}
+use Rattle.orc_board.specs.Follows.{own_records}
 use Rattle.orc_stages.specs.declared.replies.StageReply.{StageReply}
 use Rattle.orc_stages.specs.Stage.{QueueShare, DidShares, IsPostShare, StageRow, froms, tos, MoveTable}
 
@@ -44,7 +45,7 @@ Acts x agent acts j k = (i : ℕ) → DidShares (x i) agent (acts i) (j i) (k i)
 
 -- the shares of a poster in each queue are those of these replies to its records, in file order: all of them in the first queue
 pub record PosterActs (lines : List Line) (posters agent : ℕ) (posts : List PostReply) (acts : ℕ → List QueueShare) : Type 0 where
-  pub table : Pointwise (IsPostShare lines agent) posts (acts 0)
+  pub table : Pairwise (IsPostShare lines agent) posts (acts 0)
   pub others : (i : ℕ) → i ≢ 0 → acts i ≡ []
   pub in_file_order : map (λ (r : PostReply). r.line) posts ≡ own_records posters agent (length lines)
 

@@ -12,7 +12,8 @@ use Rattle.orc_jobs.specs.Line.{jobs_in}
 use Rattle.orc_board.specs.declared.replies.PostReply.{PostReply}
 use Rattle.orc_board.specs.declared.replies.PostWord.TheVariants as word
 use Rattle.orc_board.specs.Stretches.{View, just, refusal, is_own_move, beside}
-use Rattle.orc_board.specs.Follows.{Pointwise, AreInOrder, IsWorker, LastIsEmpty, ZeroLast, by_key, posts_of}
+use Rattle.orc_history.specs.Lists.{Pairwise}
+use Rattle.orc_board.specs.Follows.{AreInOrder, IsWorker, LastIsEmpty, ZeroLast, by_key, posts_of}
 use Rattle.orc_stages.specs.declared.replies.StageReply.{StageReply}
 use Rattle.orc_stages.specs.Stage.{QueueShare, DidShares, IsItem, IsStageValue, Posting, jobs_of}
 
@@ -52,7 +53,7 @@ pub record IsPlaceShare (lines : List Line) (stage agent : ℕ) (r : StageReply)
 pub record Placing {A : Type 0} (y : View A QueueEntry QueueRefused) (lines : List Line) (stage agent : ℕ) (replies : List StageReply) (j k : List A)
     : Type 0 where
   pub shares : List QueueShare
-  pub table : Pointwise (IsPlaceShare lines stage agent) replies shares
+  pub table : Pairwise (IsPlaceShare lines stage agent) replies shares
   pub did : DidShares y agent shares j k
 
 -- the posters: one reply to each record, in file order; each poster put what its replies say, beside no agent but those of the run;

@@ -13,7 +13,7 @@ use Rattle.orc_board.specs.declared.replies.PostReply.{PostReply}
 use Rattle.orc_board.specs.declared.replies.PostWord.{PostWord}
 use Rattle.orc_board.specs.declared.replies.PostWord.TheVariants as word
 use Rattle.orc_board.specs.Stretches.{View, Share, Did, DidAll, of_queue, just, nothing, refusal}
-use Rattle.orc_board.specs.Follows.{Pointwise}
+use Rattle.orc_history.specs.Lists.{Pairwise}
 use Rattle.orc_stages.specs.declared.replies.StageReply.{StageReply}
 
 -- what an agent did in a queue is told by shares: its own entries that count, or a refusal
@@ -66,7 +66,7 @@ pub record IsPostShare (lines : List Line) (poster : ℕ) (r : PostReply) (share
 -- what a poster did in the first queue between these journals is what these replies stand for, in their order
 pub record Posting {A : Type 0} (x : View A QueueEntry QueueRefused) (lines : List Line) (poster : ℕ) (replies : List PostReply) (j k : List A) : Type 0 where
   pub shares : List QueueShare
-  pub table : Pointwise (IsPostShare lines poster) replies shares
+  pub table : Pairwise (IsPostShare lines poster) replies shares
   pub did : DidShares x poster shares j k
 
 -- what one step of a stage says of the queue that it takes from, and of the queue that it puts into

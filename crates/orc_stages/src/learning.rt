@@ -1,7 +1,7 @@
 //! A desk learns from the desks of all others.
 ghost use Rattle.std.specs.Prelude.{ℕ, ◌≢◌};
 ghost use Rattle.std.specs.List.{AllByRecursion};
-ghost use Rattle.orc_board.specs.Follows.{Pointwise};
+ghost use Rattle.orc_history.specs.Lists.{Pairwise};
 ghost use Rattle.orc_stages.specs.Desks.{ArePasses, LearnEach};
 ghost use Rattle.orc_stages.specs.Learning.{AreFor, AreKnown, IsOther, SameWorker, LearnsOnce, LearnsAll};
 
@@ -47,7 +47,7 @@ fn learn_once<Q: LearnQueue>(
     requires others { AllByRecursion (IsOther Q.SharedQueue queues.now me) others.old }
     ensures passes { ArePasses Q.SharedQueue me queues.now passes.new }
     ensures others { AllByRecursion (IsOther Q.SharedQueue queues.now me) others.new }
-    ensures same { Pointwise SameWorker others.old others.new }
+    ensures same { Pairwise SameWorker others.old others.new }
     ensures learned { LearnsOnce Q.SharedQueue queues.now me passes.old passes.new others.old others.new }
 {
     let Some((first, rest)) = others.split_first_mut() else {
@@ -75,7 +75,7 @@ pub fn learn_all<Q: LearnQueue>(
     ensures passes { ArePasses Q.SharedQueue me queues.now passes.new }
     ensures known { (agents : ℕ) → AreFor Q.SharedQueue (Q.agents) agents queues.now → AreKnown Q.SharedQueue queues.now agents passes.new }
     ensures others { AllByRecursion (IsOther Q.SharedQueue queues.now me) others.new }
-    ensures same { Pointwise SameWorker others.old others.new }
+    ensures same { Pairwise SameWorker others.old others.new }
     ensures learned { LearnsAll Q.SharedQueue queues.now me passes.old passes.new others.old others.new }
 {
     learn_once(queues, me, passes, others);

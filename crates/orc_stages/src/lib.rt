@@ -22,4 +22,4 @@ pub use queues::{add_queue, empty_desks, take_first};
 pub use replies::{OutList, StageDesk, StageList, StageReply};
 pub use run::{StagesDone, run_stages};
 pub use stage::{move_rest, run_stage, stage_value};
-pub use team::{Worker, run_workers};
+pub use team::{Worker, run_worker};

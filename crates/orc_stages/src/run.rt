@@ -1,20 +1,22 @@
 //! A whole run of a pipeline.
-ghost use Rattle.std.specs.Prelude.{ℕ, ◌≡◌, ◌+◌, ◌-◌, ◌≤◌, [], length, IfOk, OnErr, vec_len, vec_capacity};
+ghost use Rattle.std.specs.Prelude.{ℕ, ◌≡◌, ◌+◌, ◌-◌, ◌*◌, ◌≤◌, [], length, IfOk, OnErr, vec_len, vec_capacity};
 ghost use Rattle.std.specs.List.{AllByRecursion};
 ghost use Rattle.orc_jobs.specs.GoodLines.{AreGood};
+ghost use Rattle.orc_workers.specs.Seats.{all_of};
 ghost use Rattle.orc_stages.specs.Desks.{ArePasses};
-ghost use Rattle.orc_board.specs.Follows.{Pointwise};
+ghost use Rattle.orc_history.specs.Lists.{Pairwise};
 ghost use Rattle.orc_stages.specs.Learning.{AreFor, AreKnown, IsOther, LearnsAll, SameWorker};
-ghost use Rattle.orc_stages.specs.Team.{IsReady};
+ghost use Rattle.orc_stages.specs.Team.{DidWork, IsReady};
 ghost use Rattle.orc_stages.specs.Run.{AreFresh, AreIdle, HaveSeenTheSame, IsRunOf, AreNumbered, HasRoomForMoves, IsNew, CallerMovedFor, AllCameBack};
 
 use crate::reserve::{Reserved, reserve};
 use crate::seating::{hand_back, seat};
-use crate::{OutList, StageDesk, StageList, Worker, learn_all, move_all, run_workers};
+use crate::{OutList, StageDesk, StageList, Worker, learn_all, move_all, run_worker};
 use orc_board::{Gate, PostList};
 use orc_fault::NoMemory;
 use orc_history::LearnQueue;
 use orc_jobs::Lines;
+use orc_workers::run_workers;
 use std::alloc::Global;
 use std::sync::Wait;
 use std::sync::atomic::AtomicU64;
@@ -117,6 +119,7 @@ fn run_seated<R: Threads + Wait + Sync, Q: LearnQueue + Sync, G: Gate + Sync>(
 ) -> Seated<Q::Pass>
 where
     Q::Pass: Send,
+    requires posters { 1 ≤ posters }
     requires good { AreGood lines.now }
     requires queues { (2 ≤ length queues.now) × (length queues.now ≤ 7) }
     requires agents { AreFor Q.SharedQueue Q.agents (posters + length queues.now) queues.now }
@@ -130,7 +133,9 @@ where
     requires count { vec_len waiting + 1 ≡ posters + length queues.now }
     requires enough { AllByRecursion (HasRoomForMoves posters lines.now) waiting.items }
     ensures back { AllCameBack Q.SharedQueue queues.now lines.now posters (length queues.now - 1) result.desk.passes.items result.workers.items result.outs.items }
-    ensures len { vec_len result.workers ≡ vec_len waiting }
+    ensures many { length result.workers.items ≡ posters + (length queues.now - 1) }
+    ensures few { (length (all_of (λ w. w.posts.items) result.workers.items) ≤ length lines.now)
+        × (length (all_of (λ w. w.moves.items) result.workers.items) ≤ (length queues.now - 1) * length lines.now) }
 {
     let putting = [
         AtomicU64::new(u64::from(posters)),
@@ -141,7 +146,11 @@ where
         AtomicU64::new(1),
         AtomicU64::new(1),
     ];
-    let mut workers = run_workers(rt, queues, posters, lines, gate, &putting, waiting, done);
+    let work = |worker: Worker<Q::Pass>| -> Worker<Q::Pass>
+        requires { IsReady Q.SharedQueue queues.now lines.now posters worker }
+        ensures { DidWork Q.SharedQueue queues.entry.now lines.entry.now posters worker result }
+    { run_worker(rt, queues, posters, lines, gate, &putting, worker) };
+    let mut workers = run_workers(rt, &work, waiting, done);
     learn_from_team(queues, &mut desk, &mut workers);
     move_left(
         rt,
@@ -171,7 +180,7 @@ fn learn_from_team<Q: LearnQueue>(
     ensures passes { ArePasses Q.SharedQueue 0 queues.now desk.new.passes.items }
     ensures known { (agents : ℕ) → AreFor Q.SharedQueue (Q.agents) agents queues.now → AreKnown Q.SharedQueue queues.now agents desk.new.passes.items }
     ensures others { AllByRecursion (IsOther Q.SharedQueue queues.now 0) workers.new.items }
-    ensures same { Pointwise SameWorker workers.old.items workers.new.items }
+    ensures same { Pairwise SameWorker workers.old.items workers.new.items }
     ensures learned { LearnsAll Q.SharedQueue queues.now 0 desk.old.passes.items desk.new.passes.items workers.old.items workers.new.items }
     ensures len { vec_len workers.new ≡ vec_len workers.old }
 {

@@ -6,7 +6,8 @@ use Rattle.std.specs.List.{AllByRecursion}
 use Rattle.orc_board.proofs.Shares.{prefix_trans}
 use Rattle.orc_board.proofs.ListFacts.{AllByRecursion-all, AllByRecursion-map, filter-all, filter-none, le-cases}
 use Rattle.orc_board.proofs.Wholes.{Below}
-use Rattle.orc_board.specs.Follows.{Pointwise, ZeroLast}
+use Rattle.orc_history.specs.Lists.{Pairwise}
+use Rattle.orc_board.specs.Follows.{ZeroLast}
 use Rattle.orc_board.specs.Stretches.{Stretch, View, beside}
 use Rattle.orc_cell.specs.declared.refused.CellRefused.{CellRefused}
 use Rattle.orc_heap.specs.declared.links.Links.{Ghosts as LinksOf}
@@ -43,8 +44,8 @@ record Learnt {P A : Type 0} (x : View A CellEntry CellRefused) (journal : P →
   same : SameWorker w v
 
 learnt_all : {P A : Type 0} (x : View A CellEntry CellRefused) (journal : P → List A) (k : List A) (ws vs : List (Worker P))
-    → Pointwise (IsWhole (λ (u : Worker P). u.agent) (λ (u : Worker P). journal u.pass) (λ a j. own_of agent_of_entry a (x.history j)) k) ws vs
-    → Pointwise SameWorker ws vs → Pointwise (Learnt x journal k) ws vs
+    → Pairwise (IsWhole (λ (u : Worker P). u.agent) (λ (u : Worker P). journal u.pass) (λ a j. own_of agent_of_entry a (x.history j)) k) ws vs
+    → Pairwise SameWorker ws vs → Pairwise (Learnt x journal k) ws vs
 learnt_all x journal k [] [] a b = tt
 learnt_all x journal k [] (v ∷ vs) a b = absurd b
 learnt_all x journal k (w ∷ ws) [] a b = absurd b
@@ -67,7 +68,7 @@ tells_more x C journal lines workers k w v laws below t l =
     (told_more x C lines workers w.agent w.replies.items (journal w.pass) k laws.grows l.whole.begins l.whole.own_is below t)
 
 numbered_next : {P : Type 0} (R : Worker P → Worker P → Type 0) (k : ℕ) (ws vs : List (Worker P)) → ((w v : Worker P) → R w v → v.agent ≡ w.agent)
-    → AreNumbered k ws → Pointwise R ws vs → AreNumbered k vs
+    → AreNumbered k ws → Pairwise R ws vs → AreNumbered k vs
 numbered_next R k [] [] f a p = tt
 numbered_next R k [] (v ∷ vs) f a p = absurd p
 numbered_next R k (w ∷ ws) [] f a p = absurd p
@@ -83,7 +84,7 @@ each_agent F k (w ∷ ws) num h a low high =
       | inr more ↦ each_agent F (suc k) ws num.1 h.1 a (omega (arith, more)) (omega (arith, high))
     ]
 
-same_length : {X : Type 0} (R : X → X → Type 0) (xs ys : List X) → Pointwise R xs ys → length ys ≡ length xs
+same_length : {X : Type 0} (R : X → X → Type 0) (xs ys : List X) → Pairwise R xs ys → length ys ≡ length xs
 same_length R [] [] p = refl
 same_length R [] (y ∷ ys) p = absurd p
 same_length R (x ∷ xs) [] p = absurd p
@@ -91,7 +92,7 @@ same_length R (x ∷ xs) (y ∷ ys) p = ap suc (same_length R xs ys p.1)
 
 -- what follows from what the first of each pair is, and what it has become
 all_left : {X : Type 0} (P Q : X → Type 0) (R : X → X → Type 0) (xs ys : List X) → ((x y : X) → P x → R x y → Q x) → AllByRecursion P xs
-    → Pointwise R xs ys → AllByRecursion Q xs
+    → Pairwise R xs ys → AllByRecursion Q xs
 all_left P Q R [] [] f p r = tt
 all_left P Q R [] (y ∷ ys) f p r = absurd r
 all_left P Q R (x ∷ xs) [] f p r = absurd r
@@ -108,7 +109,7 @@ ends_with_read es a b z own =
 
 -- the workers once they have worked
 tells_first : {L D P S : Type 0} (m : LinksOf L D P S PairsNote) (links : L) (C : ℕ → Type 0) (lines : List WatchLine) (workers : ℕ)
-    (ws vs : List (Worker P)) → Laws (cell_view m links) C → AllByRecursion (IsNew m links) ws → Pointwise (DidWork m links lines workers) ws vs
+    (ws vs : List (Worker P)) → Laws (cell_view m links) C → AllByRecursion (IsNew m links) ws → Pairwise (DidWork m links lines workers) ws vs
     → AllByRecursion (Tells (cell_view m links) C m.journal lines workers) vs
 tells_first m links C lines workers [] [] laws new did = tt
 tells_first m links C lines workers [] (v ∷ vs) laws new did = absurd did
@@ -121,7 +122,7 @@ tells_first m links C lines workers (w ∷ ws) (v ∷ vs) laws new did = (
 
 -- workers are other agents than the caller
 pub others_after : {L D P S : Type 0} (m : LinksOf L D P S PairsNote) (links : L) (lines : List WatchLine) (workers : ℕ) (ws vs : List (Worker P))
-    → Pointwise (DidWork m links lines workers) ws vs → AllByRecursion (IsOther m links 0) vs
+    → Pairwise (DidWork m links lines workers) ws vs → AllByRecursion (IsOther m links 0) vs
 others_after m links lines workers [] [] did = tt
 others_after m links lines workers [] (v ∷ vs) did = absurd did
 others_after m links lines workers (w ∷ ws) [] did = absurd did
@@ -148,10 +149,10 @@ pub came_back : {L D P S : Type 0} (m : LinksOf L D P S PairsNote) (links : L) (
     → AllByRecursion (λ e. IsInRun workers (agent_of_entry e)) (entries_of (m.events links (m.journal p3)))
     → entries_of (m.events links (m.journal p0)) ≡ []
     → AreNumbered 1 ws → length ws ≡ workers → AllByRecursion (IsNew m links) ws
-    → Pointwise (DidWork m links lines workers) ws vs
-    → LearnsAll m links 0 p0 p1 vs us → Pointwise SameWorker vs us
+    → Pairwise (DidWork m links lines workers) ws vs
+    → LearnsAll m links 0 p0 p1 vs us → Pairwise SameWorker vs us
     → Stretch of_cell (cell_view m links) 0 (Seen 0 a b ∷ []) (m.journal p1) (m.journal p2)
-    → LearnsAll m links 0 p2 p3 us ts → Pointwise SameWorker us ts
+    → LearnsAll m links 0 p2 p3 us ts → Pairwise SameWorker us ts
     → IsPassOf m links 0 p3 → LawsTell m links p3 → AllByRecursion (IsOther m links 0) ts
     → AllCameBack m links lines workers p3 a b ts
 came_back {P = P} {S = S} m links lines workers p0 p1 p2 p3 a b ws vs us ts laws below1 below3 new num many fresh did l1 same1 read l2 same2 pass known others =
@@ -160,8 +161,8 @@ came_back {P = P} {S = S} m links lines workers p0 p1 p2 p3 a b ws vs us ts laws
     let own : ℕ → List S → List CellEntry = λ n j. own_of agent_of_entry n (x.history j) in
     let k1 : List S = m.journal p1 in
     let k3 : List S = m.journal p3 in
-    let one : Pointwise (Learnt x m.journal k1) vs us = learnt_all x m.journal k1 vs us l1.each same1 in
-    let two : Pointwise (Learnt x m.journal k3) us ts = learnt_all x m.journal k3 us ts l2.each same2 in
+    let one : Pairwise (Learnt x m.journal k1) vs us = learnt_all x m.journal k1 vs us l1.each same1 in
+    let two : Pairwise (Learnt x m.journal k3) us ts = learnt_all x m.journal k3 us ts l2.each same2 in
     let T : Worker P → Type 0 = Tells x C m.journal lines workers in
     let t1 : AllByRecursion T vs = tells_first m links C lines workers ws vs laws fresh did in
     let t2 : AllByRecursion T us = AllByRecursion-next T T (Learnt x m.journal k1) vs us

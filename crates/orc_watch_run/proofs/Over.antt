@@ -7,7 +7,8 @@ use Rattle.std.specs.List.Sorted.{IsPermutation}
 use Rattle.std.specs.List.{AllByRecursion, range_with_len}
 use Rattle.orc_board.proofs.Keyed.{by_key_below, same_by_keys}
 use Rattle.orc_board.proofs.ListFacts.{AllByRecursion-all, AllByRecursion-append, AllByRecursion-map, eq-true, le-cases}
-use Rattle.orc_board.specs.Follows.{Pointwise, by_key, own_records}
+use Rattle.orc_history.specs.Lists.{Pairwise}
+use Rattle.orc_board.specs.Follows.{by_key, own_records}
 use Rattle.orc_board.specs.Stretches.{View, beside}
 use Rattle.orc_cell.specs.declared.refused.CellRefused.{CellRefused}
 use Rattle.orc_heap.specs.declared.links.Links.{Ghosts as LinksOf}
@@ -20,11 +21,11 @@ use Rattle.orc_watch_run.specs.CellView.{cell_view}
 use Rattle.orc_watch_run.specs.Follows.{AreInOrder, CellShare, IsInRun, IsReplyShare, Watching, replies_of}
 use Rattle.orc_watch_run.specs.Passes.{AreUsable, FollowsPasses, HaveSeen, HaveSeenTheSame, IsPassOf}
 use Rattle.orc_watch_run.specs.declared.team.Worker.{Worker}
-use Rattle.orc_watch_run.proofs.Watches.{own_many}
+use Rattle.orc_board.proofs.Workers.{own-many}
 use Rattle.orc_workers.proofs.Blocks.{AreKeyed, all_blocks, block_of, blocks, blocks_by_key, blocks_cons, nth_of}
 use Rattle.orc_workers.specs.Seats.{all_of}
 
-reply_workers : (lines : List WatchLine) (worker : ℕ) (rs : List WatchReply) (shares : List CellShare) → Pointwise (IsReplyShare lines worker) rs shares
+reply_workers : (lines : List WatchLine) (worker : ℕ) (rs : List WatchReply) (shares : List CellShare) → Pairwise (IsReplyShare lines worker) rs shares
     → AllByRecursion (λ (r : WatchReply). r.worker ≡ worker) rs
 reply_workers lines worker [] shares z = tt
 reply_workers lines worker (r ∷ rs) [] z = absurd z
@@ -158,7 +159,7 @@ replies_few {P} x lines workers k ws some num many told =
       | zero ↦ λ low. omega arith
       | suc i ↦ λ low.
           let t = worker_at x lines workers k ws num many told i (omega (arith, low)) (block_in ws (suc i)) refl in
-          omega (arith, own_many (block_in ws (suc i)) (own_records workers (suc i) (length lines)) t.in_file_order)
+          omega (arith, own-many (λ (r : WatchReply). r.line) (block_in ws (suc i)) (own_records workers (suc i) (length lines)) t.in_file_order)
     ] in
     omega (
       arith,

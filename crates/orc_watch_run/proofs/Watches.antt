@@ -1,9 +1,8 @@
 -- What a worker's replies stand for grows reply by reply.
-use Rattle.std.proofs.Common.{◌≡◌, ℕ, List, [], ◌∷◌, ◌++◌, Option, Some, ap, length, map, refl, slice_get, subst, sym, ◌∙◌}
-use Rattle.std.proofs.lemmas.List.{length-map}
+use Rattle.std.proofs.Common.{◌≡◌, ℕ, List, [], ◌∷◌, ◌++◌, Option, Some, ap, refl, slice_get, subst, ◌∙◌}
 use Rattle.orc_board.specs.Stretches.{Stretch, View, just, refusal, Did}
 use Rattle.orc_board.proofs.Shares.{Did-just, Did-nothing, DidAll-snoc}
-use Rattle.orc_board.proofs.Workers.{Pointwise-snoc}
+use Rattle.orc_board.proofs.Workers.{Pairwise-snoc}
 use Rattle.orc_fault.specs.declared.Spent.{Spent as SpentRow}
 use Rattle.orc_cell.specs.declared.refused.CellRefused.{CellRefused}
 use Rattle.orc_cell.specs.declared.refused.CellRefused.TheVariants as refused
@@ -28,14 +27,10 @@ watching_more x lines worker now index l replies r i j k w e worker_is line_is a
     let done : DidLine x worker l r.what j k = subst (λ (a : ℕ). DidLine x a l r.what j k) e done0 in
     record {
       shares = w.shares ++ done.share ∷ [];
-      table = Pointwise-snoc (IsReplyShare lines worker) replies w.shares r done.share w.table
+      table = Pairwise-snoc (IsReplyShare lines worker) replies w.shares r done.share w.table
           (record { worker_is = worker_is; line = l; at = ap (slice_get lines) line_is ∙ at; is = done.is });
       did = DidAll-snoc of_cell x worker (λ (share : CellShare). share) w.shares done.share i j k w.did done.did;
     }
-
--- as many replies as records
-pub own_many : (replies : List WatchReply) (own : List ℕ) → map (λ (r : WatchReply). r.line) replies ≡ own → length replies ≡ length own
-own_many replies own e = sym (length-map replies (λ (r : WatchReply). r.line)) ∙ ap length e
 
 -- what came of a publish
 pub was_set : {A : Type 0} (x : View A CellEntry CellRefused) (agent : ℕ) (l : WatchLine) (left right : Option ℕ) (a b : ℕ) (j k : List A)

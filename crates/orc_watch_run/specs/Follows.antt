@@ -3,7 +3,8 @@
 use Rattle.std.specs.Prelude.{◌≡◌, ◌≢◌, ℕ, suc, ◌≤◌, List, [], ◌∷◌, ◌++◌, filter, length, map, ◌==◌, None, Option, Some, slice_get}
 use Rattle.std.specs.List.{AllByRecursion}
 use Rattle.orc_fault.specs.declared.Spent.{Spent as SpentRow}
-use Rattle.orc_board.specs.Follows.{Pointwise, by_key, own_records}
+use Rattle.orc_history.specs.Lists.{Pairwise}
+use Rattle.orc_board.specs.Follows.{by_key, own_records}
 use Rattle.orc_board.specs.Stretches.{DidAll, Did, Share, View, beside, just, refusal}
 use Rattle.orc_cell.specs.declared.refused.CellRefused.{CellRefused}
 use Rattle.orc_cell.specs.declared.refused.CellRefused.TheVariants as refused
@@ -70,7 +71,7 @@ DidShares x agent shares j k = DidAll of_cell x agent (λ (share : CellShare). s
 pub record Watching {A : Type 0} (x : View A CellEntry CellRefused) (lines : List WatchLine) (worker : ℕ) (replies : List WatchReply) (j k : List A)
     : Type 0 where
   pub shares : List CellShare
-  pub table : Pointwise (IsReplyShare lines worker) replies shares
+  pub table : Pairwise (IsReplyShare lines worker) replies shares
   pub did : DidShares x worker shares j k
 
 -- the agents of a run

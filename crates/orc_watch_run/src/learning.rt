@@ -2,7 +2,7 @@
 
 ghost use Rattle.std.specs.Prelude.{◌≡◌, vec_len};
 ghost use Rattle.std.specs.List.{AllByRecursion};
-ghost use Rattle.orc_board.specs.Follows.{Pointwise};
+ghost use Rattle.orc_history.specs.Lists.{Pairwise};
 ghost use Rattle.orc_watch_run.specs.Learning.{LawsTell, IsOther, LearnsAll, LearnsOnce, SameWorker};
 ghost use Rattle.orc_watch_run.specs.Passes.{IsPassOf};
 
@@ -22,7 +22,7 @@ fn learn_once<L: Links<Rule = Pairs>>(
     requires others { AllByRecursion (IsOther L.Links cell.now.links me) others.old }
     ensures pass { IsPassOf L.Links cell.now.links me pass.new }
     ensures others { AllByRecursion (IsOther L.Links cell.now.links me) others.new }
-    ensures same { Pointwise SameWorker others.old others.new }
+    ensures same { Pairwise SameWorker others.old others.new }
     ensures learned { LearnsOnce L.Links cell.now.links me pass.old pass.new others.old others.new }
 {
     let Some((first, rest)) = others.split_first_mut() else {
@@ -43,7 +43,7 @@ fn learn_all<L: Links<Rule = Pairs>>(
     requires others { AllByRecursion (IsOther L.Links cell.now.links me) others.old }
     ensures pass { IsPassOf L.Links cell.now.links me pass.new }
     ensures others { AllByRecursion (IsOther L.Links cell.now.links me) others.new }
-    ensures same { Pointwise SameWorker others.old others.new }
+    ensures same { Pairwise SameWorker others.old others.new }
     ensures learned { LearnsAll L.Links cell.now.links me pass.old pass.new others.old others.new }
 {
     learn_once(cell, me, pass, others);
@@ -62,7 +62,7 @@ pub(crate) fn learn_from_team<L: Links<Rule = Pairs>>(
     ensures pass { IsPassOf L.Links cell.now.links me pass.new }
     ensures known { LawsTell L.Links cell.now.links pass.new }
     ensures others { AllByRecursion (IsOther L.Links cell.now.links me) others.new.items }
-    ensures same { Pointwise SameWorker others.old.items others.new.items }
+    ensures same { Pairwise SameWorker others.old.items others.new.items }
     ensures len { vec_len others.new ≡ vec_len others.old }
     ensures learned { LearnsAll L.Links cell.now.links me pass.old pass.new others.old.items others.new.items }
 {

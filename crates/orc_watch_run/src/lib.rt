@@ -8,7 +8,6 @@ mod reserve;
 mod run;
 mod seating;
 mod team;
-mod workplace;
 
 pub use answer::{publish_parts, read_parts};
 pub use lines::watch_lines;

@@ -2,21 +2,23 @@
 
 ghost use Rattle.std.specs.Prelude.{◌≡◌, ◌+◌, ◌≤◌, [], IfOk, OnErr, length, vec_capacity, vec_len};
 ghost use Rattle.std.specs.List.{AllByRecursion};
+ghost use Rattle.orc_workers.specs.Seats.{all_of};
 ghost use Rattle.orc_watch_run.specs.CameBack.{AllCameBack, AreNumbered, IsNew};
 ghost use Rattle.orc_watch_run.specs.Passes.{AreFresh, AreUsable, FollowsPasses, HaveSeenTheSame, IsFreshPass};
-ghost use Rattle.orc_watch_run.specs.Team.{IsReady};
+ghost use Rattle.orc_watch_run.specs.Team.{DidWork, IsReady};
 
 use crate::answer::read_parts;
 use crate::learning::learn_from_team;
 use crate::reserve::{Reserved, reserve};
 use crate::seating::{hand_back, seat};
-use crate::team::{Worker, run_workers};
+use crate::team::{Worker, run_worker};
 use orc_board::Gate;
 use orc_cell::Cell;
 use orc_fault::NoMemory;
 use orc_heap::Links;
 use orc_pairs_rule::Pairs;
 use orc_watch::{WatchLines, WatchList};
+use orc_workers::run_workers;
 use std::alloc::Global;
 use std::sync::Wait;
 use std::thread::Threads;
@@ -109,6 +111,7 @@ fn run_team<R: Threads + Wait + Sync, L: Links<Rule = Pairs> + Sync, G: Gate + S
 ) -> CameBack<L::Pass>
 where
     L::Pass: Send,
+    requires workers { 1 ≤ workers }
     requires room { (vec_len done ≡ 0) × (done.items ≡ []) × (vec_len waiting ≤ vec_capacity done) }
     requires pass { IsFreshPass L.Links cell.now.links 0 pass }
     requires ready { AllByRecursion (IsReady L.Links cell.now.links lines.now workers) waiting.items }
@@ -117,9 +120,14 @@ where
     requires count { length waiting.items ≡ workers }
     requires agents { L.agents cell.now.links ≡ 1 + workers }
     ensures back { AllCameBack L.Links cell.now.links lines.now workers result.pass result.now_left result.now_right result.workers.items }
-    ensures len { vec_len result.workers ≡ vec_len waiting }
+    ensures many { length result.workers.items ≡ workers }
+    ensures few { length (all_of (λ w. w.replies.items) result.workers.items) ≤ length lines.now }
 {
-    let mut team = run_workers(rt, cell, workers, lines, gate, waiting, done);
+    let work = |worker: Worker<L::Pass>| -> Worker<L::Pass>
+        requires { IsReady L.Links cell.now.links lines.now workers worker }
+        ensures { DidWork L.Links cell.entry.now.links lines.entry.now workers worker result }
+    { run_worker(rt, cell, workers, lines, gate, worker) };
+    let mut team = run_workers(rt, &work, waiting, done);
     learn_from_team(cell, 0, &mut pass, &mut team);
     let (now_left, now_right) = read_parts(rt, cell, &mut pass);
     learn_from_team(cell, 0, &mut pass, &mut team);

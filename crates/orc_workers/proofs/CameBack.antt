@@ -21,7 +21,8 @@ use Rattle.orc_board.specs.Desk.{IsDesk, seen_in}
 use Rattle.orc_board.specs.ListWithRoom.{ListWithRoom}
 use Rattle.orc_board.specs.Stretches.{View, queue_views, set_view, beside, all_beside, pick, just, of_queue, of_set, Stands, empty_row}
 use Rattle.orc_board.specs.Table.{TakeEnds}
-use Rattle.orc_board.specs.Follows.{Pointwise, TakingRest, LastIsEmpty, IsWorker, none}
+use Rattle.orc_history.specs.Lists.{Pairwise}
+use Rattle.orc_board.specs.Follows.{TakingRest, LastIsEmpty, IsWorker, none}
 use Rattle.orc_workers.specs.Team.{DidWork, DidPost, DidTake}
 use Rattle.orc_workers.specs.Learning.{LawsTell, IsOther, SameWorker, IsWhole, LearnsAllOfQueues, LearnsAllOfSet}
 use Rattle.orc_workers.specs.CameBack.{IsNew, IsTold, IsBack, AreNumbered, AllCameBack}
@@ -174,10 +175,10 @@ pub record Learnt {P R A B : Type 0} (qs : Bool → View A QueueEntry QueueRefus
 
 learnt_all : {P R A B : Type 0} (qs : Bool → View A QueueEntry QueueRefused) (s : View B SetEntry ListRefused) (jq : P → List A) (js : R → List B)
     (k : Bool → List A) (n : List B) (ws vs : List (Worker P R))
-    → ((b : Bool) → Pointwise (IsWhole (λ (x : Worker P R). x.agent) (λ (x : Worker P R). shown jq x.desk b)
+    → ((b : Bool) → Pairwise (IsWhole (λ (x : Worker P R). x.agent) (λ (x : Worker P R). shown jq x.desk b)
     (λ a j. own_of agent_of_entry a ((qs b).history j)) (k b)) ws vs)
-    → Pointwise (IsWhole (λ (x : Worker P R). x.agent) (λ (x : Worker P R). js x.desk.set) (λ a j. own_of agent_of_set_entry a (s.history j)) n) ws vs
-    → Pointwise SameWorker ws vs → Pointwise (Learnt qs s jq js k n) ws vs
+    → Pairwise (IsWhole (λ (x : Worker P R). x.agent) (λ (x : Worker P R). js x.desk.set) (λ a j. own_of agent_of_set_entry a (s.history j)) n) ws vs
+    → Pairwise SameWorker ws vs → Pairwise (Learnt qs s jq js k n) ws vs
 learnt_all qs s jq js k n [] [] a b c = tt
 learnt_all qs s jq js k n [] (v ∷ vs) a b c = absurd c
 learnt_all qs s jq js k n (w ∷ ws) [] a b c = absurd c
@@ -209,7 +210,7 @@ tells_more {P} {R} {A} {B} qs s C jq js lines posters k n w v laws below t l =
     }
 
 numbered_next : {P R : Type 0} (X : Worker P R → Worker P R → Type 0) (k : ℕ) (ws vs : List (Worker P R)) → ((w v : Worker P R) → X w v → v.agent ≡ w.agent)
-    → AreNumbered k ws → Pointwise X ws vs → AreNumbered k vs
+    → AreNumbered k ws → Pairwise X ws vs → AreNumbered k vs
 numbered_next X k [] [] f a p = tt
 numbered_next X k [] (v ∷ vs) f a p = absurd p
 numbered_next X k (w ∷ ws) [] f a p = absurd p
@@ -227,7 +228,7 @@ each_agent F k (w ∷ ws) num h a low high =
 
 pub others_after : {Q S P R A B : Type 0} (q : QueueOf Q P A) (s : SetOf S R B) (queue rush : Q) (set : S) (lines : List Line) (posters : ℕ)
     (ws vs : List (Worker P R))
-    → Pointwise (DidWork q s queue rush set lines posters) ws vs → AllByRecursion (IsOther q s queue rush set 0) vs
+    → Pairwise (DidWork q s queue rush set lines posters) ws vs → AllByRecursion (IsOther q s queue rush set 0) vs
 others_after q s queue rush set lines posters [] [] p = tt
 others_after q s queue rush set lines posters [] (v ∷ vs) p = absurd p
 others_after q s queue rush set lines posters (w ∷ ws) [] p = absurd p
@@ -237,7 +238,7 @@ others_after q s queue rush set lines posters (w ∷ ws) (v ∷ vs) p =
 tells_first : {Q S P R A B : Type 0} (q : QueueOf Q P A) (s : SetOf S R B) (queue rush : Q) (set : S) (C : ℕ → Type 0) (lines : List Line) (posters : ℕ)
     (ws vs : List (Worker P R))
     → Laws (queue_views q queue rush) (set_view s set) C → AllByRecursion (IsNew q s queue rush set) ws
-    → Pointwise (DidWork q s queue rush set lines posters) ws vs
+    → Pairwise (DidWork q s queue rush set lines posters) ws vs
     → AllByRecursion (Tells (all_beside (queue_views q queue rush) C) (beside (set_view s set) C) q.journal s.journal lines posters) vs
 tells_first q s queue rush set C lines posters [] [] laws new p = tt
 tells_first q s queue rush set C lines posters [] (v ∷ vs) laws new p = absurd p
@@ -255,7 +256,7 @@ back_of : {Q S P R A B : Type 0} (q : QueueOf Q P A) (s : SetOf S R B) (queue ru
     (k : Bool → List A) (n : List B) (us ts : List (Worker P R))
     → AllByRecursion (IsOther q s queue rush set 0) ts
     → AllByRecursion (Tells (all_beside (queue_views q queue rush) C) (beside (set_view s set) C) q.journal s.journal lines posters) ts
-    → Pointwise (Learnt (queue_views q queue rush) (set_view s set) q.journal s.journal k n) us ts → AllByRecursion (IsBack q s queue rush set lines k n) ts
+    → Pairwise (Learnt (queue_views q queue rush) (set_view s set) q.journal s.journal k n) us ts → AllByRecursion (IsBack q s queue rush set lines k n) ts
 back_of q s queue rush set C lines posters k n [] [] o t l = tt
 back_of q s queue rush set C lines posters k n [] (v ∷ vs) o t l = absurd l
 back_of q s queue rush set C lines posters k n (w ∷ ws) [] o t l = absurd l
@@ -267,7 +268,7 @@ back_of q s queue rush set C lines posters k n (w ∷ ws) (v ∷ vs) o t l = (
 told_of : {P R A B : Type 0} (qs : Bool → View A QueueEntry QueueRefused) (s : View B SetEntry ListRefused) (jq : P → List A) (js : R
     → List B) (q0 : Bool → View A QueueEntry QueueRefused) (s0 : View B SetEntry ListRefused) (lines : List Line) (posters : ℕ) (k : Bool → List A) (n : List B)
     (us ts : List (Worker P R))
-    → AllByRecursion (Tells qs s jq js lines posters) ts → Pointwise (Learnt q0 s0 jq js k n) us ts
+    → AllByRecursion (Tells qs s jq js lines posters) ts → Pairwise (Learnt q0 s0 jq js k n) us ts
     → AllByRecursion (λ (w : Worker P R). IsTold qs s lines posters k n w.agent w.posts.items w.takes.items) ts
 told_of qs s jq js q0 s0 lines posters k n [] [] t l = tt
 told_of qs s jq js q0 s0 lines posters k n [] (v ∷ vs) t l = absurd l
@@ -286,7 +287,7 @@ record Kept {A B : Type 0} (qs : Bool → View A QueueEntry QueueRefused) (s : V
 
 owns_kept : {P R A B : Type 0} (qs : Bool → View A QueueEntry QueueRefused) (s : View B SetEntry ListRefused) (jq : P → List A) (js : R → List B)
     (k1 k2 : Bool → List A) (n1 n2 : List B) (vs us ts : List (Worker P R))
-    → Pointwise (Learnt qs s jq js k1 n1) vs us → Pointwise (Learnt qs s jq js k2 n2) us ts
+    → Pairwise (Learnt qs s jq js k1 n1) vs us → Pairwise (Learnt qs s jq js k2 n2) us ts
     → AllByRecursion (λ (w : Worker P R). Kept qs s k1 k2 n1 n2 w.agent) us
 owns_kept qs s jq js k1 k2 n1 n2 [] [] [] a b = tt
 owns_kept qs s jq js k1 k2 n1 n2 [] [] (t ∷ ts) a b = absurd b
@@ -301,7 +302,7 @@ owns_kept qs s jq js k1 k2 n1 n2 (v ∷ vs) (u ∷ us) (t ∷ ts) a b = (
   owns_kept qs s jq js k1 k2 n1 n2 vs us ts a.1 b.1,
 )
 
-same_length : {X : Type 0} (R : X → X → Type 0) (xs ys : List X) → Pointwise R xs ys → length ys ≡ length xs
+same_length : {X : Type 0} (R : X → X → Type 0) (xs ys : List X) → Pairwise R xs ys → length ys ≡ length xs
 same_length R [] [] p = refl
 same_length R [] (y ∷ ys) p = absurd p
 same_length R (x ∷ xs) [] p = absurd p
@@ -316,13 +317,13 @@ pub came_back : {Q S P R A B : Type 0} (q : QueueOf Q P A) (s : SetOf S R B) (qu
     → ((b : Bool) → q.history (pick queue rush b) (seen_in q d0 b) ≡ []) → s.history set (s.journal d0.set) ≡ []
     → AreNumbered 1 ws → length ws ≡ posters + takers
     → AllByRecursion (IsNew q s queue rush set) ws
-    → Pointwise (DidWork q s queue rush set lines posters) ws vs
+    → Pairwise (DidWork q s queue rush set lines posters) ws vs
     → LearnsAllOfQueues q s queue rush set 0 d0 d1 vs us → LearnsAllOfSet q s queue rush set 0 d0 d1 vs us
-    → Pointwise SameWorker vs us
+    → Pairwise SameWorker vs us
     → TakingRest (queue_views q queue rush) (set_view s set) lines 0 0 takes (seen_in q d1) (s.journal d1.set) (seen_in q d2) (s.journal d2.set)
     → ((b : Bool) → LastIsEmpty 0 (q.history (pick queue rush b) (seen_in q d2 b))) ⊎ (length lines ≤ length takes)
     → LearnsAllOfQueues q s queue rush set 0 d2 d3 us ts → LearnsAllOfSet q s queue rush set 0 d2 d3 us ts
-    → Pointwise SameWorker us ts
+    → Pairwise SameWorker us ts
     → IsDesk q s queue rush set 0 d3
     → LawsTell q s queue rush set (suc (posters + takers)) (suc (posters + takers)) (suc (posters + takers)) d3
     → AllByRecursion (IsOther q s queue rush set 0) ts
@@ -337,8 +338,8 @@ came_back {P = P} {R = R} {A = A} {B = B} q s queue rush set lines posters taker
     let x3 : Bool → List A = seen_in q d3 in
     let y1 : List B = s.journal d1.set in
     let y3 : List B = s.journal d3.set in
-    let one : Pointwise (Learnt qv sv q.journal s.journal x1 y1) vs us = learnt_all qv sv q.journal s.journal x1 y1 vs us (λ b. (l1q b).each) l1s.each same1 in
-    let two : Pointwise (Learnt qv sv q.journal s.journal x3 y3) us ts = learnt_all qv sv q.journal s.journal x3 y3 us ts (λ b. (l2q b).each) l2s.each same2 in
+    let one : Pairwise (Learnt qv sv q.journal s.journal x1 y1) vs us = learnt_all qv sv q.journal s.journal x1 y1 vs us (λ b. (l1q b).each) l1s.each same1 in
+    let two : Pairwise (Learnt qv sv q.journal s.journal x3 y3) us ts = learnt_all qv sv q.journal s.journal x3 y3 us ts (λ b. (l2q b).each) l2s.each same2 in
     let T : Worker P R → Type 0 = Tells (all_beside qv C) (beside sv C) q.journal s.journal lines posters in
     let t1 : AllByRecursion T vs = tells_first q s queue rush set C lines posters ws vs laws fresh did in
     let t2 : AllByRecursion T us =
@@ -425,6 +426,16 @@ crowd_in_run crowd agents posters takers is f a h = omega (arith, is, f a h)
 pub for_both : (P : Bool → Type 0) → P false → P true → (b : Bool) → P b
 for_both P f t false = f
 for_both P f t true = t
+
+-- all that an idle desk has seen is of agents of the run
+pub below_of : {Q S P R A B : Type 0} (q : QueueOf Q P A) (s : SetOf S R B) (queue rush : Q) (set : S) (posters takers a b c : ℕ) (desk : Desk P R)
+    → a ≡ 1 + (posters + takers) → b ≡ 1 + (posters + takers) → c ≡ 1 + (posters + takers) → LawsTell q s queue rush set a b c desk
+    → AllBelow (queue_views q queue rush) (set_view s set) (IsWorker posters takers) (seen_in q desk) (s.journal desk.set)
+below_of q s queue rush set posters takers a b c desk x y z known = record {
+  queues_below = for_both (λ r. AllByRecursion (λ e. IsWorker posters takers (agent_of_entry e)) (q.history (pick queue rush r) (seen_in q desk r)))
+      (all_below agent_of_entry a posters takers _ x (known.queues_below false)) (all_below agent_of_entry b posters takers _ y (known.queues_below true));
+  set_below = all_below agent_of_set_entry c posters takers _ z known.set_below;
+}
 
 pub known_as : {Q S P R A B : Type 0} (q : QueueOf Q P A) (s : SetOf S R B) (queue rush : Q) (set : S) (a b c x : ℕ) (desk : Desk P R)
     → a ≡ x → b ≡ x → c ≡ x → LawsTell q s queue rush set a b c desk → LawsTell q s queue rush set x x x desk

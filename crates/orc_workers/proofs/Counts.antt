@@ -56,10 +56,9 @@ pub room_done : (waiting len n l room : ℕ) → waiting ≡ len → len ≡ n �
 room_done waiting len n l room a b c d = omega (arith, a, b, c, d)
 
 -- all desks have room where the caller's and the others were
-pub desks_fit : (len cap cap_1 cap_2 cap_3 len_2 items_2 len_3 workers waiting seated_len n : ℕ) → len ≤ cap → len ≡ 1 + n → cap_1 ≡ cap → cap_2 ≡ cap_1
-    → cap_2 ≤ cap_3 → len_2 ≡ items_2 → items_2 ≡ 0 → len_3 ≡ len_2 + 1 → workers ≡ waiting → waiting ≡ seated_len → seated_len ≡ n
-    → len_3 + workers ≤ cap_3
-desks_fit len cap cap_1 cap_2 cap_3 len_2 items_2 len_3 workers waiting seated_len n a b c d e f g h i j k = omega (arith, a, b, c, d, e, f, g, h, i, j, k)
+pub places_fit : (len cap cap_1 cap_2 cap_3 len_2 items_2 len_3 workers items_3 n : ℕ) → len ≤ cap → len ≡ 1 + n → cap_1 ≡ cap → cap_2 ≡ cap_1
+    → cap_2 ≤ cap_3 → len_2 ≡ items_2 → items_2 ≡ 0 → len_3 ≡ len_2 + 1 → workers ≡ items_3 → items_3 ≡ n → len_3 + workers ≤ cap_3
+places_fit len cap cap_1 cap_2 cap_3 len_2 items_2 len_3 workers items_3 n a b c d e f g h i j = omega (arith, a, b, c, d, e, f, g, h, i, j)
 
 -- one worker more that hands back: its desk, its replies, and the room that they take
 map_last : {W D : Type 0} (f : W → D) (ws : List W) (w : W) → map f (ws ++ w ∷ []) ≡ map f ws ++ f w ∷ []

@@ -22,7 +22,8 @@ use Rattle.orc_board.specs.declared.replies.TakeReply.{TakeReply}
 use Rattle.orc_board.specs.declared.desk.Desk.{Desk}
 use Rattle.orc_workers.specs.declared.team.Worker.{Worker}
 use Rattle.orc_board.specs.Stretches.{View, queue_views, set_view, beside, all_beside, pick, Row}
-use Rattle.orc_board.specs.Follows.{Pointwise, TakerRow, Posting, TakingRest, ZeroLast, LastIsEmpty, IsWorker, own_records, by_key, taker_agent, posts_of, takes_of, none}
+use Rattle.orc_history.specs.Lists.{Pairwise}
+use Rattle.orc_board.specs.Follows.{TakerRow, Posting, TakingRest, ZeroLast, LastIsEmpty, IsWorker, own_records, by_key, taker_agent, posts_of, takes_of, none}
 use Rattle.orc_workers.specs.Desks.{AreIdle, HaveSeen}
 use Rattle.orc_workers.specs.CameBack.{IsTold, IsBack, AreNumbered, AllCameBack, HasEnded}
 use Rattle.orc_workers.specs.Seats.{all_of}
@@ -32,7 +33,7 @@ use Rattle.orc_workers.proofs.Blocks.{blocks, AreKeyed, block_of, blocks_by_key,
 use Rattle.orc_workers.proofs.Learned.{zero_ended}
 use Rattle.orc_workers.proofs.Boards.{AllWork, ran_board, sides}
 
-takers_loose : (lines : List Line) (taker agent : ℕ) (rs : List TakeReply) (rows : List Row) → Pointwise (TakerRow lines taker agent) rs rows
+takers_loose : (lines : List Line) (taker agent : ℕ) (rs : List TakeReply) (rows : List Row) → Pairwise (TakerRow lines taker agent) rs rows
     → AllByRecursion (λ (r : TakeReply). r.taker ≡ taker) rs
 takers_loose lines taker agent [] rows z = tt
 takers_loose lines taker agent (r ∷ rs) [] z = absurd z

@@ -20,7 +20,7 @@ use Rattle.orc_board.proofs.Shares.{Did-just, Stretch-trans, Works-row, Stands-e
 use mathlib.Core.List.{IsPrefix}
 use Rattle.orc_board.proofs.CallStretches.{ends_later}
 use Rattle.orc_board.proofs.Wholes.{queue_of_rows, Works-queue, Works-set}
-use Rattle.orc_board.proofs.Workers.{taking_none, taking_full, Pointwise-snoc}
+use Rattle.orc_board.proofs.Workers.{taking_none, taking_full, Pairwise-snoc}
 
 -- two rows without refusals, one after another
 pub Stands-both : {A B : Type 0} (qs : Bool → View A QueueEntry QueueRefused) (s : View B SetEntry ListRefused) (agent : ℕ)
@@ -80,7 +80,7 @@ resting_more qs s lines taker agent now replies r j k k2 m n n2 p e same replied
       set = n2;
       taking = record {
         rows = p.taking.rows ++ row ∷ [];
-        table = Pointwise-snoc (TakerRow lines taker agent) replies p.taking.rows r row p.taking.table (record { taker_is = same; table = table });
+        table = Pairwise-snoc (TakerRow lines taker agent) replies p.taking.rows r row p.taking.table (record { taker_is = same; table = table });
         works = Works-row qs s agent p.taking.works all;
       };
       last = record {

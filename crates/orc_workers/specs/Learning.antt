@@ -12,7 +12,7 @@ use Rattle.orc_history.specs.declared.set.SharedSet.{Ghosts as SetOf}
 use Rattle.orc_workers.specs.declared.team.Worker.{Worker}
 use Rattle.orc_board.specs.Desk.{IsDesk, seen_in}
 use Rattle.orc_board.specs.Stretches.{pick, turns}
-use Rattle.orc_board.specs.Follows.{Pointwise}
+use Rattle.orc_history.specs.Lists.{Pairwise}
 
 -- a worker at its own desk, which is another agent than this one
 pub record IsOther {Q S P R A B : Type 0} (q : QueueOf Q P A) (s : SetOf S R B) (queue rush : Q) (set : S) (me : ℕ) (w : Worker P R) : Type 0 where
@@ -62,14 +62,14 @@ module _ {W A E : Type 0} (agent : W → ℕ) (journal : W → List A) (own : �
   pub record Learned (me : ℕ) (before after : List A) (ws vs : List W) : Type 0 where
     pub grows : IsPrefix before after
     pub own_is : own me after ≡ own me before
-    pub each : Pointwise (IsHeard after) ws vs
-    pub again : Pointwise (IsSeen before) ws vs → (after ≡ before) × Pointwise (IsWhole after) ws vs
+    pub each : Pairwise (IsHeard after) ws vs
+    pub again : Pairwise (IsSeen before) ws vs → (after ≡ before) × Pairwise (IsWhole after) ws vs
 
   -- one pass has learned from all others twice over
   pub record LearnedAll (me : ℕ) (before after : List A) (ws vs : List W) : Type 0 where
     pub grows : IsPrefix before after
     pub own_is : own me after ≡ own me before
-    pub each : Pointwise (IsWhole after) ws vs
+    pub each : Pairwise (IsWhole after) ws vs
 
 -- a desk's pass of the queue, or of the set, learned from those of these workers once, or twice over
 module _ {Q S P R A B : Type 0} (q : QueueOf Q P A) (s : SetOf S R B) (queue rush : Q) (set : S) (me : ℕ) (old new : Desk P R) (ws vs : List (Worker P R)) where

@@ -1,4 +1,6 @@
 -- Workers before and after their work.
+use denote.Param.Members.{Shared}
+use Rattle.std.specs.Fn.{FnReturns}
 use Rattle.std.specs.Prelude.{◌≡◌, ℕ, Bool, ◌-◌, ◌<◌, ◌≤◌, List, [], ◌++◌, length, map}
 use Rattle.orc_history.specs.declared.queue.QueueEntry.{QueueEntry}
 use Rattle.orc_history.specs.declared.queue.QueueRefused.{QueueRefused}
@@ -14,13 +16,22 @@ use Rattle.orc_board.specs.declared.replies.TakeReply.{TakeReply}
 use Rattle.orc_workers.specs.declared.team.Worker.{Worker}
 use Rattle.orc_board.specs.Desk.{IsDesk, seen_in}
 use Rattle.orc_board.specs.Stretches.{View, queue_views, set_view}
-use Rattle.orc_board.specs.Follows.{Pointwise, Posting, TakingRest, LastIsEmpty, own_records}
+use Rattle.orc_history.specs.Lists.{Pairwise}
+use Rattle.orc_board.specs.Follows.{Posting, TakingRest, LastIsEmpty, own_records}
 
 -- to what was there, what each of those that waited has become is appended
 pub record Team {X : Type 0} (R : X → X → Type 0) (waiting before after : List X) : Type 0 where
   pub new : List X
   pub is : after ≡ before ++ new
-  pub each : Pointwise R waiting new
+  pub each : Pairwise R waiting new
+
+-- a worker may be given to this work, and another is what the work may make of it
+module _ {W F : Type 0} (g : Shared F (W × Unit {0}) W) (work : F) where
+  abbrev pub MayWork : W → Type 0
+  MayWork w = g.pre work (w, tt)
+
+  abbrev pub Worked : W → W → Type 0
+  Worked w v = FnReturns g work (w, tt) v
 
 -- a worker that may begin: no caller, at a desk of its own, with room for all that it may reply
 pub record IsReady {Q S P R A B : Type 0} (q : QueueOf Q P A) (s : SetOf S R B) (queue rush : Q) (set : S) (lines : List Line) (posters : ℕ)

@@ -6,13 +6,14 @@ ghost use Rattle.orc_history.specs.SetHistory.{IsLegalSet};
 ghost use Rattle.orc_jobs.specs.GoodLines.{AreGood};
 ghost use Rattle.orc_board.specs.Reportable.{AreReportable};
 ghost use Rattle.orc_workers.specs.Desks.{IsFreshDesk, AreFresh, AreIdle, HaveSeenTheSame, RepliesFollow, queue_history, set_history};
-ghost use Rattle.orc_workers.specs.Team.{IsReady};
+ghost use Rattle.orc_workers.specs.Seats.{all_of};
+ghost use Rattle.orc_workers.specs.Team.{DidWork, IsReady};
 ghost use Rattle.orc_workers.specs.CameBack.{AreNumbered, IsNew, AllCameBack};
 
 use crate::learning::learn_from_team;
 use crate::reserve::{Reserved, reserve};
 use crate::seating::{hand_back, seat};
-use crate::team::{Worker, run_workers};
+use crate::team::{Worker, run_worker, run_workers};
 use crate::work::count_jobs;
 use orc_board::{Desk, Gate, Replies, TakeList, take_rest};
 use orc_fault::NoMemory;
@@ -131,7 +132,9 @@ pub(crate) fn run_seated<
 where
     Q::Pass: Send,
     S::Pass: Send,
+    requires posters { 1 ≤ posters }
     requires good { AreGood lines.now }
+    requires first { (Q.first queue.now ≡ 0) × (Q.first rush.now ≡ 0) }
     requires room { (vec_len done ≡ 0) × (done.items ≡ []) × (vec_len waiting ≤ vec_capacity done) }
     requires desk { IsFreshDesk Q.SharedQueue S.SharedSet queue.now rush.now set.now 0 desk }
     requires none { takes.items ≡ [] }
@@ -144,13 +147,17 @@ where
         × (S.agents set.now ≡ 1 + (posters + takers)) }
     ensures back { AllCameBack Q.SharedQueue S.SharedSet queue.now rush.now set.now lines.now posters takers
         result.desk result.takes.items result.workers.items }
-    ensures len { vec_len result.workers ≡ vec_len waiting }
+    ensures many { length result.workers.items ≡ posters + takers }
+    ensures few { (length (all_of (λ w. w.posts.items) result.workers.items) ≤ length lines.now)
+        × (length result.takes.items + length (all_of (λ w. w.takes.items) result.workers.items) ≤ length lines.now) }
 {
     let _ = takers;
     let left = AtomicU64::new(u64::from(posters));
-    let mut workers = run_workers(
-        rt, queue, rush, set, posters, lines, gate, &left, waiting, done,
-    );
+    let work = |worker: Worker<Q::Pass, S::Pass>| -> Worker<Q::Pass, S::Pass>
+        requires { IsReady Q.SharedQueue S.SharedSet queue.now rush.now set.now lines.now posters worker }
+        ensures { DidWork Q.SharedQueue S.SharedSet queue.entry.now rush.entry.now set.entry.now lines.entry.now posters worker result }
+    { run_worker(rt, queue, rush, set, posters, lines, gate, &left, worker) };
+    let mut workers = run_workers(rt, &work, waiting, done);
     learn_from_team(queue, rush, set, 0, &mut desk, &mut workers);
     take_rest(rt, queue, rush, set, &mut desk, 0, lines, gate, &mut takes);
     learn_from_team(queue, rush, set, 0, &mut desk, &mut workers);

@@ -2,7 +2,7 @@
 ghost use Rattle.std.specs.Prelude.{◌≡◌, vec_len};
 ghost use Rattle.std.specs.List.{AllByRecursion};
 ghost use Rattle.orc_board.specs.Desk.{IsDesk};
-ghost use Rattle.orc_board.specs.Follows.{Pointwise};
+ghost use Rattle.orc_history.specs.Lists.{Pairwise};
 ghost use Rattle.orc_workers.specs.Learning.{LawsTell, IsOther, SameWorker, LearnsQueues, LearnsSet, LearnsAllOfQueues, LearnsAllOfSet};
 
 use crate::team::Worker;
@@ -22,7 +22,7 @@ pub(crate) fn learn_once<Q: LearnQueue, S: LearnSet>(
     requires others { AllByRecursion (IsOther Q.SharedQueue S.SharedSet queue.now rush.now set.now me) others.old }
     ensures desk { IsDesk Q.SharedQueue S.SharedSet queue.now rush.now set.now me desk.new }
     ensures others { AllByRecursion (IsOther Q.SharedQueue S.SharedSet queue.now rush.now set.now me) others.new }
-    ensures same { Pointwise SameWorker others.old others.new }
+    ensures same { Pairwise SameWorker others.old others.new }
     ensures queues { LearnsQueues Q.SharedQueue S.SharedSet queue.now rush.now set.now me desk.old desk.new others.old others.new }
     ensures set { LearnsSet Q.SharedQueue S.SharedSet queue.now rush.now set.now me desk.old desk.new others.old others.new }
 {
@@ -48,7 +48,7 @@ pub(crate) fn learn_all<Q: LearnQueue, S: LearnSet>(
     requires others { AllByRecursion (IsOther Q.SharedQueue S.SharedSet queue.now rush.now set.now me) others.old }
     ensures desk { IsDesk Q.SharedQueue S.SharedSet queue.now rush.now set.now me desk.new }
     ensures others { AllByRecursion (IsOther Q.SharedQueue S.SharedSet queue.now rush.now set.now me) others.new }
-    ensures same { Pointwise SameWorker others.old others.new }
+    ensures same { Pairwise SameWorker others.old others.new }
     ensures queues { LearnsAllOfQueues Q.SharedQueue S.SharedSet queue.now rush.now set.now me desk.old desk.new others.old others.new }
     ensures set { LearnsAllOfSet Q.SharedQueue S.SharedSet queue.now rush.now set.now me desk.old desk.new others.old others.new }
 {
@@ -70,7 +70,7 @@ pub(crate) fn learn_from_team<Q: LearnQueue, S: LearnSet>(
     ensures desk { IsDesk Q.SharedQueue S.SharedSet queue.now rush.now set.now me desk.new }
     ensures known { LawsTell Q.SharedQueue S.SharedSet queue.now rush.now set.now (Q.agents queue.now) (Q.agents rush.now) (S.agents set.now) desk.new }
     ensures others { AllByRecursion (IsOther Q.SharedQueue S.SharedSet queue.now rush.now set.now me) others.new.items }
-    ensures same { Pointwise SameWorker others.old.items others.new.items }
+    ensures same { Pairwise SameWorker others.old.items others.new.items }
     ensures len { vec_len others.new ≡ vec_len others.old }
     ensures queues { LearnsAllOfQueues Q.SharedQueue S.SharedSet queue.now rush.now set.now me desk.old desk.new others.old.items others.new.items }
     ensures set { LearnsAllOfSet Q.SharedQueue S.SharedSet queue.now rush.now set.now me desk.old desk.new others.old.items others.new.items }

@@ -11,4 +11,5 @@ mod work;
 
 pub use board::run_at_desks;
 pub use desks::fresh_desks;
+pub use team::run_workers;
 pub use work::{count_jobs, run_poster, run_taker};

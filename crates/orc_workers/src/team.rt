@@ -2,7 +2,7 @@
 ghost use Rattle.std.specs.Prelude.{◌≡◌, ◌≤◌, ◌+◌, vec_len, vec_capacity};
 ghost use Rattle.std.specs.Thread.{IsSync};
 ghost use Rattle.std.specs.List.{AllByRecursion};
-ghost use Rattle.orc_workers.specs.Team.{IsReady, DidWork, Team};
+ghost use Rattle.orc_workers.specs.Team.{DidWork, IsReady, MayWork, Team, Worked};
 
 use crate::work::{run_poster, run_taker};
 use orc_board::{Desk, Gate, PostList, TakeList};
@@ -75,53 +75,35 @@ pub(crate) fn run_worker<R: Wait, Q: SharedQueue, S: SharedSet, G: Gate>(
     }
 }
 
-// Runs the workers, the last of which is started first. One whose thread can't be started is run here, after those that were
-// started later.
+/// Lets each of these workers work, each on a thread of its own where one can be started, the last of them first. One whose thread
+/// can't be started works here, after those that were started later. `done` has room for all; they stand there in their order.
 #[cycle(workers)]
-pub(crate) fn run_workers<
-    R: Threads + Wait + Sync,
-    Q: SharedQueue + Sync,
-    S: SharedSet + Sync,
-    G: Gate + Sync,
->(
+pub fn run_workers<R: Threads + Sync, W: Send + Drop, F: Fn(W) -> W + Sync>(
     rt: &R,
-    queue: &Q,
-    rush: &Q,
-    set: &S,
-    posters: u32,
-    lines: &Lines,
-    gate: &G,
-    left: &AtomicU64,
-    mut waiting: Vec<Worker<Q::Pass, S::Pass>>,
-    done: Vec<Worker<Q::Pass, S::Pass>>,
-) -> Vec<Worker<Q::Pass, S::Pass>>
-where
-    Q::Pass: Send,
-    S::Pass: Send,
+    work: &F,
+    mut waiting: Vec<W>,
+    done: Vec<W>,
+) -> Vec<W>
     requires room { vec_len done + vec_len waiting ≤ vec_capacity done }
-    requires ready { AllByRecursion (IsReady Q.SharedQueue S.SharedSet queue.now rush.now set.now lines.now posters) waiting.items }
-    ensures team { Team (DidWork Q.SharedQueue S.SharedSet queue.now rush.now set.now lines.now posters) waiting.items done.items result.items }
+    requires ready { AllByRecursion (MayWork F.Fn work.now) waiting.items }
+    ensures team { Team (Worked F.Fn work.now) waiting.items done.items result.items }
     ensures room { vec_capacity done ≤ vec_capacity result }
     ensures len { vec_len result ≡ vec_len done + vec_len waiting }
 {
     let Some(worker) = waiting.pop() else {
         return done;
     };
-    let one = move || -> Worker<Q::Pass, S::Pass>
-        requires { IsReady Q.SharedQueue S.SharedSet queue.now rush.now set.now lines.now posters worker }
-        ensures { DidWork Q.SharedQueue S.SharedSet queue.entry.now rush.entry.now set.entry.now lines.entry.now posters worker result }
-    { run_worker(rt, queue, rush, set, posters, lines, gate, left, worker) };
-    let others = move || -> Vec<Worker<Q::Pass, S::Pass>>
+    let one = move || -> W
+        requires { MayWork F.Fn work.now worker }
+        ensures { Worked F.Fn work.entry.now worker result }
+    { work(worker) };
+    let others = move || -> Vec<W>
         requires { IsSync R.row × (vec_len done + vec_len waiting ≤ vec_capacity done)
-            × AllByRecursion (IsReady Q.SharedQueue S.SharedSet queue.now rush.now set.now lines.now posters) waiting.items }
-        ensures team { Team (DidWork Q.SharedQueue S.SharedSet queue.entry.now rush.entry.now set.entry.now lines.entry.now posters) waiting.items done.items result.items }
+            × AllByRecursion (MayWork F.Fn work.now) waiting.items }
+        ensures team { Team (Worked F.Fn work.entry.now) waiting.items done.items result.items }
         ensures room { vec_capacity done ≤ vec_capacity result }
         ensures len { vec_len result ≡ vec_len done + vec_len waiting }
-    {
-        run_workers(
-            rt, queue, rush, set, posters, lines, gate, left, waiting, done,
-        )
-    };
+    { run_workers(rt, work, waiting, done) };
     let (worker, mut done) = thread::join(rt, one, others);
     let Ok(()) = done.push(worker) else {
         unreachable!()

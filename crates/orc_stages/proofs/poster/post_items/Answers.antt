@@ -1,9 +1,7 @@
-use Rattle.std.proofs.Common.{◌≡◌, ◌<◌, ℕ, length, ap, refl, ◌∙◌, arith, map, [], ◌∷◌, ◌++◌, List, length-append}
-use Rattle.std.proofs.lemmas.List.{map-append}
+use Rattle.std.proofs.Common.{◌≡◌, ◌<◌, length, ap, refl, ◌∙◌, arith, map, [], ◌∷◌, ◌++◌, length-append}
 use Rattle.orc_board.specs.declared.replies.PostReply.{PostReply}
 use Rattle.orc_board.specs.Stretches.{queue_view}
-use Rattle.orc_board.specs.Follows.{own_records}
-use Rattle.orc_board.proofs.Workers.{own-yes, own-no, own-room, own-length}
+use Rattle.orc_board.proofs.Workers.{own-more, own-no, own-spare}
 use Rattle.orc_stages.proofs.Posts.{posting_none, posting_more}
 use Rattle.orc_stages.proofs.poster.post_items.Goals as goal
 use Rattle.orc_stages.proofs.poster.post_items.Goals.{then-index-posters, else-index-posters}
@@ -31,10 +29,9 @@ loop-index-preserved g c = elim c.if-index-posters.branch [
             rw w.push.ensures.items
             (posting_more (queue_view g.Q.SharedQueue c.args.queue.now) _ _ _ _ _ _ _ _ _ _ c.loop-index.invariant.posted c.loop-index.invariant.agent
             refl refl w.get.ensures w.post_item.ensures.posted);
-        in_file_order = rw w.push.ensures.items
-            (map-append (λ (r : PostReply). r.line) c.loop-index.replies.items (reply ∷ [])
-            ∙ (ap (λ (xs : List ℕ). xs ++ c.loop-index.index ∷ []) c.loop-index.invariant.in_file_order
-            ∙ own-yes _ _ _ c.requires.poster.0 w.if-index-posters.true));
+        in_file_order =
+            rw w.push.ensures.items
+            (own-more (λ (r : PostReply). r.line) _ _ _ _ c.requires.poster.0 w.if-index-posters.true c.loop-index.invariant.in_file_order _ refl);
       })
   | else-index-posters w ↦ rw (w.pass-is, w.replies-is) (record {
     usable = c.loop-index.invariant.usable;
@@ -46,11 +43,7 @@ loop-index-preserved g c = elim c.if-index-posters.branch [
 ]
 
 pub push-requires : goal.push-requires
-push-requires g c = λ none.
+push-requires g c =
     let low : c.loop-index.index < length c.args.lines.now = omega arith in
-    let few : length (own_records c.args.posters c.args.poster c.loop-index.index) < length
-    (own_records c.args.posters c.args.poster (length c.args.lines.now)) =
-    own-room _ _ _ _ c.requires.poster.0 low c.if-index-posters.true in
-    let many : length c.loop-index.replies.items ≡ length (own_records c.args.posters c.args.poster c.loop-index.index) =
-    own-length c.loop-index.replies.items (own_records c.args.posters c.args.poster c.loop-index.index) c.loop-index.invariant.in_file_order in
-    omega (arith, none, few, many, c.requires.room, c.loop-index.invariant.spare)
+    own-spare (λ (r : PostReply). r.line) _ _ _ _ c.requires.poster.0 c.if-index-posters.true c.loop-index.invariant.in_file_order _ _ _ low c.requires.room
+    c.loop-index.invariant.spare

@@ -1,12 +1,19 @@
-use Rattle.std.proofs.Common.{◌≡◌, ◌+◌, ◌-◌, suc, ℕ, length, subst, arith}
-use Rattle.orc_workers.proofs.Teams.{team_each}
+use Rattle.std.proofs.Common.{rules, ◌≡◌, ◌+◌, ◌-◌, suc, ℕ, length, subst, arith}
+use Rattle.orc_board.proofs.ListFacts.{AllByRecursion-map}
+use Rattle.orc_workers.proofs.Teams.{team_did}
+use Rattle.orc_stages.specs.Team.{DidWork}
 use Rattle.orc_stages.specs.Learning.{AreFor, AreKnown}
 use Rattle.orc_stages.proofs.CameBack.{below_of, came_back, laws_of, none_moved, others_after, others_moved}
+use Rattle.orc_stages.proofs.Over.{few_replies}
 use Rattle.orc_stages.proofs.run.run_seated.Goals as goal
+
+pub run_workers-workers-requires-clause-ready : goal.run_workers-workers-requires-clause-ready
+run_workers-workers-requires-clause-ready g c κs within = AllByRecursion-map _ _ (λ w ready. search rules) _ c.requires.ready
 
 pub learn_from_team-requires-clause-others : goal.learn_from_team-requires-clause-others
 learn_from_team-requires-clause-others g c =
-    others_after g.Q.SharedQueue c.args.queues.now c.args.lines.now c.args.posters _ _ (team_each _ _ _ _ c.requires.room.1 c.run_workers-workers.ensures.team)
+    others_after g.Q.SharedQueue c.args.queues.now c.args.lines.now c.args.posters _ _
+    (team_did _ _ _ _ _ _ (λ w v d. search rules) c.requires.room.1 c.run_workers-workers.ensures.team)
 
 pub learn_from_team-requires-2-clause-others : goal.learn_from_team-requires-2-clause-others
 learn_from_team-requires-2-clause-others g c =
@@ -25,7 +32,7 @@ returns-clause-back g c =
     let d3 = c.learn_from_team-2.new.desk.passes.items in
     let known1 : AreKnown q queues (suc (posters + stages)) d1 = c.learn_from_team.ensures.known (suc (posters + stages)) for in
     let known3 : AreKnown q queues (suc (posters + stages)) d3 = c.learn_from_team-2.ensures.known (suc (posters + stages)) for in
-    let did = team_each _ _ _ _ c.requires.room.1 c.run_workers-workers.ensures.team in
+    let did = team_did _ _ (DidWork q queues c.args.lines.now posters) _ _ _ (λ w v d. search rules) c.requires.room.1 c.run_workers-workers.ensures.team in
     let many : length c.args.waiting.items ≡ posters + stages = omega (arith, c.requires.count, agents, c.args.waiting.ok.0) in
     came_back q queues c.args.lines.now posters stages (laws_of q queues posters stages c.args.desk.passes.items d1 known1 c.requires.new)
     c.args.desk.passes.items d1 c.move_left.new.desk.passes.items d3 c.move_left.new.outs _ _ _ _ _
@@ -34,3 +41,14 @@ returns-clause-back g c =
     c.learn_from_team.ensures.learned c.learn_from_team.ensures.same c.move_left.ensures.moved
     (omega (arith, c.move_left.ensures.spare, c.requires.outs.1)) c.learn_from_team-2.ensures.learned c.learn_from_team-2.ensures.same
     c.learn_from_team-2.ensures.passes known3 c.learn_from_team-2.ensures.others
+
+pub returns-clause-many : goal.returns-clause-many
+returns-clause-many g c =
+    omega (arith, c.learn_from_team-2.new.workers.ok.0, c.learn_from_team-2.ensures.len, c.move_left.ensures.len, c.learn_from_team.ensures.len,
+    c.run_workers-workers.ensures.len, c.requires.room.0, c.requires.count, c.requires.queues.0)
+
+pub returns-clause-few : goal.returns-clause-few
+returns-clause-few g c =
+    few_replies g.Q.SharedQueue c.args.queues.now c.args.lines.now c.args.posters (length c.args.queues.now - 1)
+    c.learn_from_team-2.new.desk _ _ c.requires.posters c.requires.good.few
+    (returns-clause-many g c) (returns-clause-back g c)

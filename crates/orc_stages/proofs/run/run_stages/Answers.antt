@@ -1,11 +1,11 @@
 use Rattle.std.proofs.Common.{◌≡◌, ◌+◌, ◌-◌, ◌*◌, ◌++◌, ◌∷◌, [], suc, ℕ, ap, sym, ◌∙◌, length, map, arith, List}
 use Rattle.orc_board.specs.declared.replies.PostReply.{PostReply}
 use Rattle.orc_workers.specs.Seats.{all_of}
-use Rattle.orc_workers.proofs.Counts.{desks_fit}
+use Rattle.orc_workers.proofs.Counts.{places_fit}
 use Rattle.orc_stages.specs.declared.replies.StageDesk.{StageDesk}
 use Rattle.orc_stages.specs.declared.replies.StageReply.{StageReply}
 use Rattle.orc_stages.specs.declared.team.Worker.{Worker}
-use Rattle.orc_stages.proofs.Over.{few_replies, over}
+use Rattle.orc_stages.proofs.Over.{over}
 use Rattle.orc_stages.proofs.Rooms.{fresh_agents, fresh_rest, seats_of}
 use Rattle.orc_stages.proofs.run.run_stages.Goals as goal
 
@@ -96,55 +96,16 @@ run_seated-desk-requires-clause-enough g c κs within =
     c.in_ok-rooms.ensures.all c.requires.desks c.in_ok-rooms.ensures.rooms c.seat-waiting.ensures.seated in
     s.are.room
 
-pub hand_back-requires-clause-desks : goal.hand_back-requires-clause-desks
-hand_back-requires-clause-desks g c =
-    let q = g.Q.SharedQueue in
-    let queues = c.args.queues.now in
-    let posters = c.args.posters in
-    let stages : ℕ = length queues - 1 in
-    let run : suc (posters + stages) ≡ posters + length queues = omega (arith, c.requires.queues.0) in
-    let s = seats_of q queues c.args.lines.now posters c.len-2.result c.args.desks.now.items c.remove-desk.new.self.items c.in_ok-rooms.field-0.rooms.items
-    c.seat-waiting.result.items c.len.result (posters + stages) c.requires.good c.requires.queues.0 c.requires.queues.1 c.len-2.ensures
-    c.remove-desk.ensures.items (sym c.args.desks.now.ok.0 ∙ (c.requires.count ∙ sym run)) run (c.len.ensures ∙ (c.requires.count ∙ sym run))
-    c.in_ok-rooms.ensures.all c.requires.desks c.in_ok-rooms.ensures.rooms c.seat-waiting.ensures.seated in
-    desks_fit c.args.desks.now.len c.args.desks.now.cap c.remove-desk.new.self.cap c.seat-waiting.new.desks.cap c.push.new.self.cap c.seat-waiting.new.desks.len _
-    c.push.new.self.len c.run_seated-desk.result.workers.len c.seat-waiting.result.len _ (posters + stages) c.args.desks.now.ok.1 (omega (arith, c.requires.count, run))
-    c.remove-desk.ensures.capacity c.seat-waiting.ensures.desks c.in-Ok.ensures.capacity c.seat-waiting.new.desks.ok.0 (ap length c.seat-waiting.ensures.none)
-    c.in-Ok.ensures.len c.run_seated-desk.ensures.len c.seat-waiting.result.ok.0 s.workers
-
-pub hand_back-requires-clause-posts : goal.hand_back-requires-clause-posts
-hand_back-requires-clause-posts g c =
-    let q = g.Q.SharedQueue in
-    let queues = c.args.queues.now in
-    let posters = c.args.posters in
-    let stages : ℕ = length queues - 1 in
-    let run : suc (posters + stages) ≡ posters + length queues = omega (arith, c.requires.queues.0) in
-    let s = seats_of q queues c.args.lines.now posters c.len-2.result c.args.desks.now.items c.remove-desk.new.self.items c.in_ok-rooms.field-0.rooms.items
-    c.seat-waiting.result.items c.len.result (posters + stages) c.requires.good c.requires.queues.0 c.requires.queues.1 c.len-2.ensures
-    c.remove-desk.ensures.items (sym c.args.desks.now.ok.0 ∙ (c.requires.count ∙ sym run)) run (c.len.ensures ∙ (c.requires.count ∙ sym run))
-    c.in_ok-rooms.ensures.all c.requires.desks c.in_ok-rooms.ensures.rooms c.seat-waiting.ensures.seated in
-    let many : length c.run_seated-desk.result.workers.items ≡ posters + stages =
-    sym c.run_seated-desk.result.workers.ok.0 ∙ (c.run_seated-desk.ensures.len ∙ (c.seat-waiting.result.ok.0 ∙ s.workers)) in
-    let few = few_replies q queues c.args.lines.now posters stages c.run_seated-desk.result.desk c.run_seated-desk.result.workers.items
-    c.run_seated-desk.result.outs.items c.requires.posters c.requires.good.few many c.run_seated-desk.ensures.back in
-    omega (arith, few.0, c.in_ok-rooms.ensures.post_room, c.len-2.ensures)
-
-pub hand_back-requires-clause-moves : goal.hand_back-requires-clause-moves
-hand_back-requires-clause-moves g c =
-    let q = g.Q.SharedQueue in
-    let queues = c.args.queues.now in
-    let posters = c.args.posters in
-    let stages : ℕ = length queues - 1 in
-    let run : suc (posters + stages) ≡ posters + length queues = omega (arith, c.requires.queues.0) in
-    let s = seats_of q queues c.args.lines.now posters c.len-2.result c.args.desks.now.items c.remove-desk.new.self.items c.in_ok-rooms.field-0.rooms.items
-    c.seat-waiting.result.items c.len.result (posters + stages) c.requires.good c.requires.queues.0 c.requires.queues.1 c.len-2.ensures
-    c.remove-desk.ensures.items (sym c.args.desks.now.ok.0 ∙ (c.requires.count ∙ sym run)) run (c.len.ensures ∙ (c.requires.count ∙ sym run))
-    c.in_ok-rooms.ensures.all c.requires.desks c.in_ok-rooms.ensures.rooms c.seat-waiting.ensures.seated in
-    let many : length c.run_seated-desk.result.workers.items ≡ posters + stages =
-    sym c.run_seated-desk.result.workers.ok.0 ∙ (c.run_seated-desk.ensures.len ∙ (c.seat-waiting.result.ok.0 ∙ s.workers)) in
-    let few = few_replies q queues c.args.lines.now posters stages c.run_seated-desk.result.desk c.run_seated-desk.result.workers.items
-    c.run_seated-desk.result.outs.items c.requires.posters c.requires.good.few many c.run_seated-desk.ensures.back in
-    omega (arith, few.1, c.in_ok-rooms.ensures.move_room, ap (λ (n : ℕ). stages * n) c.len-2.ensures)
+pub hand_back-requires : goal.hand_back-requires
+hand_back-requires g c = record {
+  desks = places_fit c.args.desks.now.len c.args.desks.now.cap c.remove-desk.new.self.cap c.seat-waiting.new.desks.cap c.push.new.self.cap
+      c.seat-waiting.new.desks.len _ c.push.new.self.len c.run_seated-desk.result.workers.len _ _ c.args.desks.now.ok.1
+      (omega (arith, c.requires.count, c.requires.queues.0)) c.remove-desk.ensures.capacity c.seat-waiting.ensures.desks c.in-Ok.ensures.capacity
+      c.seat-waiting.new.desks.ok.0 (ap length c.seat-waiting.ensures.none) c.in-Ok.ensures.len c.run_seated-desk.result.workers.ok.0
+      c.run_seated-desk.ensures.many;
+  posts = omega (arith, c.run_seated-desk.ensures.few.0, c.in_ok-rooms.ensures.post_room, c.len-2.ensures);
+  moves = omega (arith, c.run_seated-desk.ensures.few.1, c.in_ok-rooms.ensures.move_room, ap (λ (n : ℕ). (length c.args.queues.now - 1) * n) c.len-2.ensures);
+}
 
 pub returns : goal.returns
 returns g c =
@@ -153,12 +114,6 @@ returns g c =
     let posters = c.args.posters in
     let stages : ℕ = length queues - 1 in
     let run : suc (posters + stages) ≡ posters + length queues = omega (arith, c.requires.queues.0) in
-    let s = seats_of q queues c.args.lines.now posters c.len-2.result c.args.desks.now.items c.remove-desk.new.self.items c.in_ok-rooms.field-0.rooms.items
-    c.seat-waiting.result.items c.len.result (posters + stages) c.requires.good c.requires.queues.0 c.requires.queues.1 c.len-2.ensures
-    c.remove-desk.ensures.items (sym c.args.desks.now.ok.0 ∙ (c.requires.count ∙ sym run)) run (c.len.ensures ∙ (c.requires.count ∙ sym run))
-    c.in_ok-rooms.ensures.all c.requires.desks c.in_ok-rooms.ensures.rooms c.seat-waiting.ensures.seated in
-    let many : length c.run_seated-desk.result.workers.items ≡ posters + stages =
-    sym c.run_seated-desk.result.workers.ok.0 ∙ (c.run_seated-desk.ensures.len ∙ (c.seat-waiting.result.ok.0 ∙ s.workers)) in
     let Passes = StageDesk g.row.Q-Pass.Denot in
     let first : c.push.new.self.items ≡ c.run_seated-desk.result.desk ∷ [] =
     c.in-Ok.ensures.items ∙ ap (λ (xs : List Passes). xs ++ c.run_seated-desk.result.desk ∷ []) c.seat-waiting.ensures.none in
@@ -173,5 +128,5 @@ returns g c =
     ∙ ap (λ (xs : List StageReply). xs ++ all_of (λ (w : Worker g.row.Q-Pass.Denot). w.moves.items) c.run_seated-desk.result.workers.items)
     c.in_ok-rooms.ensures.no_moves in
     let end = over q queues c.args.lines.now posters stages c.run_seated-desk.result.desk c.run_seated-desk.result.workers.items
-    c.run_seated-desk.result.outs.items c.requires.posters c.requires.good.few many c.run_seated-desk.ensures.back _ _ _ desks posts moves in
+    c.run_seated-desk.result.outs.items c.requires.posters c.requires.good.few c.run_seated-desk.ensures.many c.run_seated-desk.ensures.back _ _ _ desks posts moves in
     record { idle = end.0; all = end.1 ∙ run; seen = end.2; pipeline = end.3; kept = tt }

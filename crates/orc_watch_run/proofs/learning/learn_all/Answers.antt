@@ -1,12 +1,12 @@
 use Rattle.std.proofs.Common.{◌∙◌}
 use Rattle.orc_workers.proofs.Lessons.{Learned-twice}
-use Rattle.orc_workers.proofs.Teams.{Pointwise-through}
+use Rattle.orc_workers.proofs.Teams.{Pairwise-through}
 use Rattle.orc_watch_run.specs.Learning.{SameWorker}
 use Rattle.orc_watch_run.proofs.learning.learn_all.Goals as goal
 
 pub returns-clause-same : goal.returns-clause-same
 returns-clause-same g c =
-    Pointwise-through SameWorker SameWorker SameWorker _ _ _
+    Pairwise-through SameWorker SameWorker SameWorker _ _ _
     (λ x y z r s. record { agent_is = s.agent_is ∙ r.agent_is; replies_are = s.replies_are ∙ r.replies_are })
     c.learn_once.ensures.same c.learn_once-2.ensures.same
 

@@ -1,12 +1,9 @@
 use Rattle.std.proofs.Common.{◌≡◌, ◌++◌, ◌∷◌, [], ap, sym, ◌∙◌, length, map, arith, List}
-use Rattle.orc_board.specs.Stretches.{beside}
 use Rattle.orc_watch.specs.declared.reply.WatchReply.{WatchReply}
 use Rattle.orc_workers.specs.Seats.{all_of}
-use Rattle.orc_workers.proofs.Counts.{desks_fit, room_done}
-use Rattle.orc_watch_run.specs.CellView.{cell_view}
-use Rattle.orc_watch_run.specs.Follows.{IsInRun}
+use Rattle.orc_workers.proofs.Counts.{places_fit, room_done}
 use Rattle.orc_watch_run.specs.declared.team.Worker.{Worker}
-use Rattle.orc_watch_run.proofs.Over.{over_of, replies_few}
+use Rattle.orc_watch_run.proofs.Over.{over_of}
 use Rattle.orc_watch_run.proofs.Rooms.{seats_of, seats_ready}
 use Rattle.orc_watch_run.proofs.run.run_watch.Goals as goal
 
@@ -55,36 +52,17 @@ run_team-pass-requires-clause-numbered g c κs within =
     c.requires.few c.len-2.ensures c.requires.passes c.remove-pass.ensures.items s.passes c.in_ok-rooms.ensures.rooms c.seat-waiting.ensures.seated in
     r.numbered
 
-pub hand_back-requires-clause-passes : goal.hand_back-requires-clause-passes
-hand_back-requires-clause-passes g c =
-    let s = seats_of c.args.passes.now.items c.remove-pass.new.self.items c.in_ok-rooms.field-0.rooms.items c.seat-waiting.result.items c.len.result _
-    c.remove-pass.ensures.items (sym c.args.passes.now.ok.0 ∙ c.requires.count) (c.len.ensures ∙ c.requires.count) c.in_ok-rooms.ensures.all
-    c.seat-waiting.ensures.seated in
-    desks_fit c.args.passes.now.len c.args.passes.now.cap c.remove-pass.new.self.cap c.seat-waiting.new.passes.cap c.push.new.self.cap
-    c.seat-waiting.new.passes.len _
-    c.push.new.self.len c.run_team-pass.result.workers.len c.seat-waiting.result.len _ _ c.args.passes.now.ok.1 c.requires.count c.remove-pass.ensures.capacity
-    c.seat-waiting.ensures.passes c.in-Ok.ensures.capacity c.seat-waiting.new.passes.ok.0 (ap length c.seat-waiting.ensures.none) c.in-Ok.ensures.len
-    c.run_team-pass.ensures.len c.seat-waiting.result.ok.0 s.workers
-
-pub hand_back-requires-clause-replies : goal.hand_back-requires-clause-replies
-hand_back-requires-clause-replies g c =
-    let s = seats_of c.args.passes.now.items c.remove-pass.new.self.items c.in_ok-rooms.field-0.rooms.items c.seat-waiting.result.items c.len.result _
-    c.remove-pass.ensures.items (sym c.args.passes.now.ok.0 ∙ c.requires.count) (c.len.ensures ∙ c.requires.count) c.in_ok-rooms.ensures.all
-    c.seat-waiting.ensures.seated in
-    let many : length c.run_team-pass.result.workers.items ≡ c.args.workers =
-    sym c.run_team-pass.result.workers.ok.0 ∙ (c.run_team-pass.ensures.len ∙ (c.seat-waiting.result.ok.0 ∙ s.workers)) in
-    let back = c.run_team-pass.ensures.back in
-    let few = replies_few (beside (cell_view g.L.Links c.args.cell.now.links) (IsInRun c.args.workers)) c.args.lines.now c.args.workers _
-    c.run_team-pass.result.workers.items c.requires.workers back.numbered many back.told in
-    omega (arith, few, c.in_ok-rooms.ensures.replies.spare, c.len-2.ensures)
+pub hand_back-requires : goal.hand_back-requires
+hand_back-requires g c = record {
+  passes = places_fit c.args.passes.now.len c.args.passes.now.cap c.remove-pass.new.self.cap c.seat-waiting.new.passes.cap c.push.new.self.cap
+      c.seat-waiting.new.passes.len _ c.push.new.self.len c.run_team-pass.result.workers.len _ _ c.args.passes.now.ok.1 c.requires.count
+      c.remove-pass.ensures.capacity c.seat-waiting.ensures.passes c.in-Ok.ensures.capacity c.seat-waiting.new.passes.ok.0
+      (ap length c.seat-waiting.ensures.none) c.in-Ok.ensures.len c.run_team-pass.result.workers.ok.0 c.run_team-pass.ensures.many;
+  replies = omega (arith, c.run_team-pass.ensures.few, c.in_ok-rooms.ensures.replies.spare, c.len-2.ensures);
+}
 
 pub returns : goal.returns
 returns g c =
-    let s = seats_of c.args.passes.now.items c.remove-pass.new.self.items c.in_ok-rooms.field-0.rooms.items c.seat-waiting.result.items c.len.result _
-    c.remove-pass.ensures.items (sym c.args.passes.now.ok.0 ∙ c.requires.count) (c.len.ensures ∙ c.requires.count) c.in_ok-rooms.ensures.all
-    c.seat-waiting.ensures.seated in
-    let many : length c.run_team-pass.result.workers.items ≡ c.args.workers =
-    sym c.run_team-pass.result.workers.ok.0 ∙ (c.run_team-pass.ensures.len ∙ (c.seat-waiting.result.ok.0 ∙ s.workers)) in
     let first : c.push.new.self.items ≡ c.run_team-pass.result.pass ∷ [] =
     c.in-Ok.ensures.items ∙ ap (λ (xs : List g.row.L-Pass.Denot). xs ++ c.run_team-pass.result.pass ∷ []) c.seat-waiting.ensures.none in
     let passes : c.hand_back.new.passes.items ≡ (c.run_team-pass.result.pass ∷ []) ++ map (λ (w : Worker g.row.L-Pass.Denot). w.pass)
@@ -95,5 +73,5 @@ returns g c =
     ∙ ap (λ (xs : List WatchReply). xs ++ all_of (λ (w : Worker g.row.L-Pass.Denot). w.replies.items) c.run_team-pass.result.workers.items)
     c.in_ok-rooms.ensures.replies.none in
     let over = over_of g.L.Links c.args.cell.now.links c.args.lines.now c.args.workers c.run_team-pass.result.pass c.run_team-pass.result.now_left
-    c.run_team-pass.result.now_right c.run_team-pass.result.workers.items _ _ c.run_team-pass.ensures.back many passes replies in
+    c.run_team-pass.result.now_right c.run_team-pass.result.workers.items _ _ c.run_team-pass.ensures.back c.run_team-pass.ensures.many passes replies in
     record { usable = over.usable; all = over.all; seen = over.seen; follows = over.follows; kept = tt }

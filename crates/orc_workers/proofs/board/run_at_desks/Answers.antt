@@ -5,8 +5,8 @@ use Rattle.orc_board.specs.declared.replies.TakeReply.{TakeReply}
 use Rattle.orc_workers.specs.declared.team.Worker.{Worker}
 use Rattle.orc_workers.specs.Seats.{all_of}
 use Rattle.orc_workers.proofs.CameBack.{for_both}
-use Rattle.orc_workers.proofs.Over.{over_of, few_replies}
-use Rattle.orc_workers.proofs.Counts.{seats_of, room_done, desks_fit}
+use Rattle.orc_workers.proofs.Over.{over_of}
+use Rattle.orc_workers.proofs.Counts.{seats_of, room_done, places_fit}
 use Rattle.orc_workers.proofs.Rooms.{fresh_rest, fresh_agents, seats_ready}
 use Rattle.orc_workers.proofs.board.run_at_desks.Goals as goal
 
@@ -57,59 +57,21 @@ run_seated-desk-requires-clause-numbered g c κs within =
     c.seat-waiting.ensures.seated in
     r.numbered
 
-pub hand_back-requires-clause-desks : goal.hand_back-requires-clause-desks
-hand_back-requires-clause-desks g c =
-    let s = seats_of c.args.desks.now.items c.remove-desk.new.self.items c.in_ok-rooms.field-0.rooms.items c.seat-waiting.result.items c.len.result _
-    c.remove-desk.ensures.items (sym c.args.desks.now.ok.0 ∙ c.requires.count) (c.len.ensures ∙ c.requires.count) c.in_ok-rooms.ensures.all
-    c.seat-waiting.ensures.seated in
-    desks_fit c.args.desks.now.len c.args.desks.now.cap c.remove-desk.new.self.cap c.seat-waiting.new.desks.cap c.push.new.self.cap c.seat-waiting.new.desks.len _
-    c.push.new.self.len c.run_seated-desk.result.workers.len c.seat-waiting.result.len _ _ c.args.desks.now.ok.1 c.requires.count c.remove-desk.ensures.capacity
-    c.seat-waiting.ensures.desks c.in-Ok.ensures.capacity c.seat-waiting.new.desks.ok.0 (ap length c.seat-waiting.ensures.none) c.in-Ok.ensures.len
-    c.run_seated-desk.ensures.len c.seat-waiting.result.ok.0 s.workers
-
 pub append-requires : goal.append-requires
-append-requires g c =
-    let s = seats_of c.args.desks.now.items c.remove-desk.new.self.items c.in_ok-rooms.field-0.rooms.items c.seat-waiting.result.items c.len.result _
-    c.remove-desk.ensures.items (sym c.args.desks.now.ok.0 ∙ c.requires.count) (c.len.ensures ∙ c.requires.count) c.in_ok-rooms.ensures.all
-    c.seat-waiting.ensures.seated in
-    let many : length c.run_seated-desk.result.workers.items ≡ c.args.posters + c.args.takers =
-    sym c.run_seated-desk.result.workers.ok.0 ∙ (c.run_seated-desk.ensures.len ∙ (c.seat-waiting.result.ok.0 ∙ s.workers)) in
-    let few = few_replies g.Q.SharedQueue g.S.SharedSet c.args.queue.now c.args.rush.now c.args.set.now c.args.lines.now c.args.posters c.args.takers
-    c.run_seated-desk.result.desk c.run_seated-desk.result.takes.items c.run_seated-desk.result.workers.items
-    c.requires.posters c.requires.good.few (for_both _ c.requires.first.0 c.requires.first.1) many c.run_seated-desk.ensures.back in
-    omega (arith, few.1, c.in_ok-rooms.ensures.take_room, c.len-2.ensures)
+append-requires g c = omega (arith, c.run_seated-desk.ensures.few.1, c.in_ok-rooms.ensures.take_room, c.len-2.ensures)
 
-pub hand_back-requires-clause-posts : goal.hand_back-requires-clause-posts
-hand_back-requires-clause-posts g c =
-    let s = seats_of c.args.desks.now.items c.remove-desk.new.self.items c.in_ok-rooms.field-0.rooms.items c.seat-waiting.result.items c.len.result _
-    c.remove-desk.ensures.items (sym c.args.desks.now.ok.0 ∙ c.requires.count) (c.len.ensures ∙ c.requires.count) c.in_ok-rooms.ensures.all
-    c.seat-waiting.ensures.seated in
-    let many : length c.run_seated-desk.result.workers.items ≡ c.args.posters + c.args.takers =
-    sym c.run_seated-desk.result.workers.ok.0 ∙ (c.run_seated-desk.ensures.len ∙ (c.seat-waiting.result.ok.0 ∙ s.workers)) in
-    let few = few_replies g.Q.SharedQueue g.S.SharedSet c.args.queue.now c.args.rush.now c.args.set.now c.args.lines.now c.args.posters c.args.takers
-    c.run_seated-desk.result.desk c.run_seated-desk.result.takes.items c.run_seated-desk.result.workers.items
-    c.requires.posters c.requires.good.few (for_both _ c.requires.first.0 c.requires.first.1) many c.run_seated-desk.ensures.back in
-    omega (arith, few.0, c.in_ok-rooms.ensures.post_room, c.len-2.ensures)
-
-pub hand_back-requires-clause-takes : goal.hand_back-requires-clause-takes
-hand_back-requires-clause-takes g c =
-    let s = seats_of c.args.desks.now.items c.remove-desk.new.self.items c.in_ok-rooms.field-0.rooms.items c.seat-waiting.result.items c.len.result _
-    c.remove-desk.ensures.items (sym c.args.desks.now.ok.0 ∙ c.requires.count) (c.len.ensures ∙ c.requires.count) c.in_ok-rooms.ensures.all
-    c.seat-waiting.ensures.seated in
-    let many : length c.run_seated-desk.result.workers.items ≡ c.args.posters + c.args.takers =
-    sym c.run_seated-desk.result.workers.ok.0 ∙ (c.run_seated-desk.ensures.len ∙ (c.seat-waiting.result.ok.0 ∙ s.workers)) in
-    let few = few_replies g.Q.SharedQueue g.S.SharedSet c.args.queue.now c.args.rush.now c.args.set.now c.args.lines.now c.args.posters c.args.takers
-    c.run_seated-desk.result.desk c.run_seated-desk.result.takes.items c.run_seated-desk.result.workers.items
-    c.requires.posters c.requires.good.few (for_both _ c.requires.first.0 c.requires.first.1) many c.run_seated-desk.ensures.back in
-    omega (arith, few.1, c.in_ok-rooms.ensures.take_room, c.len-2.ensures, c.append.ensures.spare)
+pub hand_back-requires : goal.hand_back-requires
+hand_back-requires g c = record {
+  desks = places_fit c.args.desks.now.len c.args.desks.now.cap c.remove-desk.new.self.cap c.seat-waiting.new.desks.cap c.push.new.self.cap
+      c.seat-waiting.new.desks.len _ c.push.new.self.len c.run_seated-desk.result.workers.len _ _ c.args.desks.now.ok.1 c.requires.count
+      c.remove-desk.ensures.capacity c.seat-waiting.ensures.desks c.in-Ok.ensures.capacity c.seat-waiting.new.desks.ok.0
+      (ap length c.seat-waiting.ensures.none) c.in-Ok.ensures.len c.run_seated-desk.result.workers.ok.0 c.run_seated-desk.ensures.many;
+  posts = omega (arith, c.run_seated-desk.ensures.few.0, c.in_ok-rooms.ensures.post_room, c.len-2.ensures);
+  takes = omega (arith, c.run_seated-desk.ensures.few.1, c.in_ok-rooms.ensures.take_room, c.len-2.ensures, c.append.ensures.spare);
+}
 
 pub returns : goal.returns
 returns g c =
-    let s = seats_of c.args.desks.now.items c.remove-desk.new.self.items c.in_ok-rooms.field-0.rooms.items c.seat-waiting.result.items c.len.result _
-    c.remove-desk.ensures.items (sym c.args.desks.now.ok.0 ∙ c.requires.count) (c.len.ensures ∙ c.requires.count) c.in_ok-rooms.ensures.all
-    c.seat-waiting.ensures.seated in
-    let many : length c.run_seated-desk.result.workers.items ≡ c.args.posters + c.args.takers =
-    sym c.run_seated-desk.result.workers.ok.0 ∙ (c.run_seated-desk.ensures.len ∙ (c.seat-waiting.result.ok.0 ∙ s.workers)) in
     let first : c.push.new.self.items ≡ c.run_seated-desk.result.desk ∷ [] =
     c.in-Ok.ensures.items
     ∙ ap (λ (xs : List (Desk g.row.Q-Pass.Denot g.row.S-Pass.Denot)). xs ++ c.run_seated-desk.result.desk ∷ []) c.seat-waiting.ensures.none in
@@ -127,7 +89,7 @@ returns g c =
     (c.append.ensures.items ∙ ap (λ (xs : List TakeReply). xs ++ c.run_seated-desk.result.takes.items) c.in_ok-rooms.ensures.no_takes) in
     let over = over_of g.Q.SharedQueue g.S.SharedSet c.args.queue.now c.args.rush.now c.args.set.now c.args.lines.now c.args.posters c.args.takers
     c.run_seated-desk.result.desk c.run_seated-desk.result.takes.items c.run_seated-desk.result.workers.items _ _ _
-    c.requires.posters c.requires.good.few (for_both _ c.requires.first.0 c.requires.first.1) many c.run_seated-desk.ensures.back desks posts takes in
+    c.requires.posters c.requires.good.few (for_both _ c.requires.first.0 c.requires.first.1) c.run_seated-desk.ensures.many c.run_seated-desk.ensures.back desks posts takes in
     record {
       idle = over.idle;
       all = over.all ∙ omega arith;

@@ -1,19 +1,22 @@
-use Rattle.std.proofs.Common.{◌+◌, ℕ, true, false, subst, arith, length, suc}
-use Rattle.orc_history.specs.QueueHistory.{agent_of_entry}
-use Rattle.orc_history.specs.SetHistory.{agent_of_set_entry}
+use Rattle.std.proofs.Common.{rules, ◌+◌, ℕ, true, false, subst, arith, length, suc}
 use Rattle.orc_board.specs.Desk.{seen_in}
 use Rattle.orc_board.specs.Stretches.{queue_views, set_view}
 use Rattle.orc_board.specs.Follows.{TakingRest, IsWorker}
 use Rattle.orc_workers.specs.Learning.{LawsTell}
-use Rattle.std.specs.List.{AllByRecursion}
+use Rattle.orc_board.proofs.ListFacts.{AllByRecursion-map}
 use Rattle.orc_board.proofs.Wholes.{Below}
-use Rattle.orc_workers.proofs.Teams.{team_each}
-use Rattle.orc_workers.proofs.CameBack.{for_both, Laws, AllBelow, others_after, came_back, none_at_start, rest_last, all_below, crowd_in_run, known_as}
+use Rattle.orc_workers.proofs.Teams.{team_did}
+use Rattle.orc_workers.proofs.CameBack.{for_both, Laws, others_after, came_back, none_at_start, rest_last, below_of, crowd_in_run, known_as}
+use Rattle.orc_workers.proofs.Over.{few_replies}
 use Rattle.orc_workers.proofs.board.run_seated.Goals as goal
+
+pub run_workers-workers-requires-clause-ready : goal.run_workers-workers-requires-clause-ready
+run_workers-workers-requires-clause-ready g c κs within = AllByRecursion-map _ _ (λ w ready. search rules) _ c.requires.ready
 
 pub learn_from_team-requires-clause-others : goal.learn_from_team-requires-clause-others
 learn_from_team-requires-clause-others g c =
-    others_after g.Q.SharedQueue g.S.SharedSet c.args.queue.now c.args.rush.now c.args.set.now _ _ _ _ (team_each _ _ _ _ c.requires.room.1 c.run_workers-workers.ensures.team)
+    others_after g.Q.SharedQueue g.S.SharedSet c.args.queue.now c.args.rush.now c.args.set.now c.args.lines.now c.args.posters _ _
+    (team_did _ _ _ _ _ _ (λ w v d. search rules) c.requires.room.1 c.run_workers-workers.ensures.team)
 
 pub returns-clause-back : goal.returns-clause-back
 returns-clause-back g c =
@@ -38,18 +41,10 @@ returns-clause-back g c =
       queues_none = λ b. none_at_start (qv b).history (e1.known.queues_grow b) _ (c.requires.desk.queues_new b);
       set_none = none_at_start sv.history e1.known.set_grows _ c.requires.desk.set_new;
     } in
-    let below1 : AllBelow qv sv C (seen_in g.Q.SharedQueue d1) (g.S.SharedSet.journal d1.set) = record {
-      queues_below = for_both (λ b. AllByRecursion (λ e. C (agent_of_entry e)) ((qv b).history (seen_in g.Q.SharedQueue d1 b)))
-          (all_below agent_of_entry _ _ _ _ c.requires.agents.0 (e1.known.queues_below false))
-          (all_below agent_of_entry _ _ _ _ c.requires.agents.1 (e1.known.queues_below true));
-      set_below = all_below agent_of_set_entry _ _ _ _ c.requires.agents.2 e1.known.set_below;
-    } in
-    let below3 : AllBelow qv sv C (seen_in g.Q.SharedQueue d3) (g.S.SharedSet.journal d3.set) = record {
-      queues_below = for_both (λ b. AllByRecursion (λ e. C (agent_of_entry e)) ((qv b).history (seen_in g.Q.SharedQueue d3 b)))
-          (all_below agent_of_entry _ _ _ _ c.requires.agents.0 (e3.known.queues_below false))
-          (all_below agent_of_entry _ _ _ _ c.requires.agents.1 (e3.known.queues_below true));
-      set_below = all_below agent_of_set_entry _ _ _ _ c.requires.agents.2 e3.known.set_below;
-    } in
+    let below1 = below_of g.Q.SharedQueue g.S.SharedSet queue rush set c.args.posters c.args.takers _ _ _ d1 c.requires.agents.0 c.requires.agents.1
+    c.requires.agents.2 e1.known in
+    let below3 = below_of g.Q.SharedQueue g.S.SharedSet queue rush set c.args.posters c.args.takers _ _ _ d3 c.requires.agents.0 c.requires.agents.1
+    c.requires.agents.2 e3.known in
     let known : LawsTell g.Q.SharedQueue g.S.SharedSet queue rush set (suc N) (suc N) (suc N) d3 =
     known_as g.Q.SharedQueue g.S.SharedSet queue rush set _ _ _ _ d3 (omega (arith, c.requires.agents.0)) (omega (arith, c.requires.agents.1))
     (omega (arith, c.requires.agents.2)) e3.known in
@@ -62,5 +57,15 @@ returns-clause-back g c =
     came_back g.Q.SharedQueue g.S.SharedSet queue rush set c.args.lines.now c.args.posters c.args.takers c.args.desk d1 c.take_rest.new.desk d3
     c.take_rest.new.replies.items _ _ _ _
     laws below1 below3 c.requires.desk.queues_new c.requires.desk.set_new c.requires.numbered c.requires.count c.requires.begin
-    (team_each _ _ _ _ c.requires.room.1 c.run_workers-workers.ensures.team)
+    (team_did _ _ _ _ _ _ (λ w v d. search rules) c.requires.room.1 c.run_workers-workers.ensures.team)
     e1.queues e1.set e1.same taking last e3.queues e3.set e3.same e3.desk known e3.others
+
+pub returns-clause-many : goal.returns-clause-many
+returns-clause-many g c =
+    omega (arith, c.learn_from_team-2.new.others.ok.0, c.learn_from_team-2.ensures.len, c.learn_from_team.ensures.len, c.run_workers-workers.ensures.len,
+    c.requires.room.0, c.args.waiting.ok.0, c.requires.count)
+
+pub returns-clause-few : goal.returns-clause-few
+returns-clause-few g c =
+    few_replies g.Q.SharedQueue g.S.SharedSet c.args.queue.now c.args.rush.now c.args.set.now c.args.lines.now c.args.posters c.args.takers
+    _ _ _ c.requires.posters c.requires.good.few (for_both _ c.requires.first.0 c.requires.first.1) (returns-clause-many g c) (returns-clause-back g c)

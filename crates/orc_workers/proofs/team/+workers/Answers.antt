@@ -1,17 +1,15 @@
-use Rattle.std.proofs.Common.{rules, ◌++◌, ◌∷◌, [], subst, List}
-use Rattle.orc_workers.specs.declared.team.Worker.{Worker}
+use Rattle.std.proofs.Common.{rules, ◌++◌, ◌∷◌, [], subst}
 use Rattle.std.specs.List.{AllByRecursion}
-use Rattle.orc_workers.specs.Team.{IsReady}
+use Rattle.orc_workers.specs.Team.{MayWork}
 use Rattle.orc_workers.proofs.Teams.{Team-more}
 use Rattle.orc_board.proofs.ListFacts.{AllByRecursion-left, AllByRecursion-right}
 use Rattle.orc_workers.proofs.team.+workers.Goals as goal
 
 pub join-worker-requires-after_bounds : goal.join-worker-requires-after_bounds
 join-worker-requires-after_bounds g t c κs within =
-    let P : Worker g.row.Q-Pass.Denot g.row.S-Pass.Denot → Type 0
-    = IsReady g.Q.SharedQueue g.S.SharedSet c.args.queue.now c.args.rush.now c.args.set.now c.args.lines.now c.args.posters in
+    let P = MayWork g.F.Fn c.args.work.now in
     let all : AllByRecursion P (c.pop.new.self.items ++ c.in-Some.worker ∷ []) =
-    subst (λ (xs : List (Worker g.row.Q-Pass.Denot g.row.S-Pass.Denot)). AllByRecursion P xs) c.in-Some.ensures.items c.requires.ready in
+    subst (λ xs. AllByRecursion P xs) c.in-Some.ensures.items c.requires.ready in
     let before : AllByRecursion P c.pop.new.self.items = AllByRecursion-left P _ _ all in
     let end : P c.in-Some.worker = (AllByRecursion-right P c.pop.new.self.items (c.in-Some.worker ∷ []) all).0 in
     search rules
