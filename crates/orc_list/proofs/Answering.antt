@@ -1,7 +1,6 @@
 -- From what a search found to an answer.
 use Rattle.std.proofs.Common.{Bool, List, None, Option, Some, [], ap, arith, false, inl, inr, refl, subst, sym, true, ℕ, ◌%◌, ◌++◌, ◌∙◌, ◌∷◌, ◌≡◌}
 use Rattle.orc_heap.proofs.ByAnswer.{Tests-found, Tests-missed}
-use Rattle.orc_heap.proofs.Hands.{holds_of}
 use Rattle.orc_heap.proofs.Moved.{moves_in-append}
 use Rattle.orc_heap.specs.Allowed.{AllAllowed, AllowedLater}
 use Rattle.orc_heap.specs.Calls.{Misses, Tests, event_of}
@@ -10,7 +9,7 @@ use Rattle.orc_heap.specs.Heap.{HeapNumbers}
 use Rattle.orc_heap.specs.Journals.{event_by, run_heap}
 use Rattle.orc_heap.specs.Moves.{moves_in}
 use Rattle.orc_heap.specs.Seats.{Seat, heap_of, link_in, place_in}
-use Rattle.orc_heap.specs.Slots.{Hold, Holds, id_in}
+use Rattle.orc_heap.specs.Slots.{Hold}
 use Rattle.orc_heap.specs.declared.events.Act.TheVariants.{Look, Miss}
 use Rattle.orc_heap.specs.declared.events.Event.{Event}
 use Rattle.orc_heap.specs.declared.events.Link.{Link}
@@ -25,14 +24,13 @@ use Rattle.orc_chain_rule.specs.declared.chain.ChainNote.TheVariants.{Entry}
 use Rattle.orc_ordered_chains.specs.Chains.{IsRun, link_over}
 use Rattle.orc_chain_rule.specs.ChainDiscipline.{ChainHolds, ChainMay, FollowsOn, HasKey, IsAbove}
 use Rattle.orc_chain_rule.specs.Laws.Kinds.{key_linked}
-use Rattle.orc_ordered_search.specs.Searches.{AllGone, HoldsIfAny, left_place, node_of}
+use Rattle.orc_ordered_search.specs.Searches.{AllGone, left_place, node_of}
 use Rattle.orc_list.specs.Searches.{FindsAbsent, FindsPresent, list_reading}
 use Rattle.orc_ordered_search.specs.Searches.{first_or, place_at, target_at}
 use Rattle.orc_list.specs.Turns.{Enters, IsAbsence, IsPresence}
-use Rattle.orc_ordered_search.proofs.Held.{fourth_held}
 use Rattle.orc_list.proofs.Making.{made_after, made_on, over_on}
 use Rattle.orc_ordered_search.proofs.Making.{missed}
-use Rattle.orc_ordered_search.proofs.Entering.{from_is, place_of_hand, target_is, target_of_hand}
+use Rattle.orc_ordered_search.proofs.Entering.{from_is, place_of_hand, target_is}
 use Rattle.orc_ordered_search.proofs.Quiets.{left_place_linked}
 use Rattle.orc_ordered_search.proofs.Seen.{absent_few, loads-append, present_few}
 use Rattle.orc_list.proofs.Ordered.{list_ordering}
@@ -132,25 +130,6 @@ presence_allowed n agent id key link entry seen (inl is) holds own plain =
 presence_allowed n agent id key link entry seen (inr is) holds own plain =
     subst (λ (x : SetEntry). AllowedLater (ChainMay n) n agent seen (Next id) link (event_by agent (Look (Next id) link) (Some (Entry x)))) (sym is)
     (asked_present_allowed n agent id key link seen holds own plain)
-
-pub record ReadsNode (n : HeapNumbers) (root key : ℕ) (left first : Option Hold) (node : Hold) (next : Option Hold) (s t : Seat ChainNote)
-    (f : FindsPresent n root key left first node next s t) : Type 0 where
-  pub node_held : Holds t.slots node
-  pub id_is : id_in t.slots node ≡ f.id
-  pub next_held : HoldsIfAny t.slots next
-  pub next_is : target_at t.slots next ≡ node_of next f.next_id
-
-module _ {n : HeapNumbers} {root key : ℕ} {left first : Option Hold} {node : Hold} {next : Option Hold} {s t : Seat ChainNote}
-    (f : FindsPresent n root key left first node next s t) where
-  pub reads_node : ReadsNode n root key left first node next s t f
-  reads_node =
-      let held = holds_of t.slots node f.id f.hands.held.1.1.0.0 in
-      record {
-        node_held = held.0;
-        id_is = held.1;
-        next_held = fourth_held s.slots t.slots (hand left f.left_id) (hand first f.first_id) (hand (Some node) f.id) next f.next_id [] f.hands;
-        next_is = target_of_hand s.slots t.slots next f.next_id [] f.hands.held.1.1.1.0;
-      }
 
 pub present_allowed : (n : HeapNumbers) (root key : ℕ) (left first : Option Hold) (node : Hold) (next : Option Hold) (entry : SetEntry)
     (s t : Seat ChainNote) (f : FindsPresent n root key left first node next s t)

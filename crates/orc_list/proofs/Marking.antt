@@ -3,20 +3,19 @@ use Rattle.std.proofs.Common.{Bool, List, Ok, Err, Option, Result, Some, [], ap,
 use Rattle.std.specs.Prelude.{IfErr, IfOk}
 use Rattle.orc_fault.specs.declared.Spent.{Spent}
 use Rattle.orc_heap.proofs.ByAnswer.{Swings-fresh, Swings-missed, Swings-moved}
-use Rattle.orc_heap.proofs.Pieces.{linked_not_fresh, missed_fresh}
+use Rattle.orc_heap.proofs.Pieces.{missed_fresh}
 use Rattle.orc_heap.specs.Allowed.{AllowedLater}
 use Rattle.orc_heap.specs.Calls.{Misses, RefusesSwing, Swings, event_of, move_of, unless_node}
-use Rattle.orc_heap.specs.Heap.{HeapNumbers, link_to}
+use Rattle.orc_heap.specs.Heap.{Heap, HeapNumbers, link_to}
 use Rattle.orc_heap.specs.OwnEvents.{Only, Puts}
-use Rattle.orc_heap.specs.Seats.{IsNotFresh, Seat, heap_of, link_in, place_in}
+use Rattle.orc_heap.specs.Seats.{Seat, heap_of, link_in, place_in}
 use Rattle.orc_heap.specs.Slots.{id_in}
 use Rattle.orc_heap.specs.declared.events.Act.TheVariants.{Move}
 use Rattle.orc_heap.specs.declared.events.Event.{Event}
 use Rattle.orc_heap.specs.declared.events.Link.{Link}
 use Rattle.orc_heap.specs.declared.events.Place.{Place}
-use Rattle.orc_heap.specs.declared.events.Place.TheVariants.{Next}
+use Rattle.orc_heap.specs.declared.events.Place.TheVariants.{Next, Root, Side}
 use Rattle.orc_heap.specs.declared.holds.At.{At}
-use Rattle.orc_heap.specs.declared.holds.At.TheVariants.{Node as AtNode, Root as AtRoot, Side as AtSide}
 use Rattle.orc_heap.specs.declared.holds.Want.{Want}
 use Rattle.orc_heap.specs.declared.holds.Want.TheVariants.{Node as WantNode, Null as WantNull}
 use Rattle.orc_history.specs.Journals.{Within}
@@ -25,22 +24,22 @@ use Rattle.orc_history.specs.declared.set.SetEntry.TheVariants.{Removed}
 use Rattle.orc_chain_rule.proofs.Coming.{removed_allowed, unlink_allowed}
 use Rattle.orc_chain_rule.specs.declared.chain.ChainNote.{ChainNote}
 use Rattle.orc_chain_rule.specs.declared.chain.ChainNote.TheVariants.{Entry, Unlink}
-use Rattle.orc_ordered_chains.specs.Chains.{IsRun, link_over}
-use Rattle.orc_chain_rule.specs.ChainDiscipline.{ChainHolds, ChainMay, HasKey, IsChainPlace}
+use Rattle.orc_ordered_chains.specs.Chains.{IsChainPlace as IsRankedPlace, IsRun, link_over}
+use Rattle.orc_chain_rule.specs.ChainDiscipline.{ChainHolds, ChainMay, HasKey, IsChainPlace, chain_order}
+use Rattle.orc_chain_rule.specs.Laws.Kinds.{key_linked}
 use Rattle.orc_list.specs.Searches.{NextFollows}
-use Rattle.orc_list.specs.Turns.{HasManyLinks, Marks, TriesUnlink}
+use Rattle.orc_list.specs.Turns.{HasManyLinks, TriesUnlink}
 use Rattle.orc_ordered_search.proofs.Held.{FreshIs}
 use mathlib.Core.List.{IsPrefix}
 use Rattle.std.proofs.Common.{length, ◌++◌}
 use Rattle.orc_list.proofs.Ordered.{list_ordering}
 use Rattle.orc_ordered_search.proofs.Marking.{part_fact, target_fresh, within_wider}
 
-pub not_fresh_at : (n : HeapNumbers) (s : Seat ChainNote) (at : At) (place : Place) → place_in s.slots at ≡ place → IsChainPlace place (heap_of n s)
-    → FreshIs (list_ordering n) s → IsNotFresh s at
-not_fresh_at n s (AtRoot r) place is l fresh = tt
-not_fresh_at n s (AtNode h) place is l fresh = linked_not_fresh n s (id_in s.slots h.now) fresh
-    (subst (λ (p : Place). IsChainPlace p (heap_of n s)) (sym is) l)
-not_fresh_at n s (AtSide h) place is l fresh = absurd (subst (λ (p : Place). IsChainPlace p (heap_of n s)) (sym is) l)
+-- a place of a chain by rank is one by its node
+chain_place : (roots : ℕ) (h : Heap) (place : Place) → IsRankedPlace (chain_order roots) h place → IsChainPlace place h
+chain_place roots h (Root r) on = tt
+chain_place roots h (Next id) (key, own) = key_linked h id key own
+chain_place roots h (Side id) on = on
 
 pub mark_allowed : (n : HeapNumbers) (s : Seat ChainNote) (id key by : ℕ) (to : Option ℕ) (from marked : Link) → from ≡ link_over to
     → marked ≡ record { to = to; mark = true } → by ≡ s.agent → ChainHolds n s.seen → HasKey (heap_of n s) id key
@@ -48,36 +47,12 @@ pub mark_allowed : (n : HeapNumbers) (s : Seat ChainNote) (id key by : ℕ) (to 
 mark_allowed n s id key by to from marked from_is marked_is by_is holds own =
     rw (from_is, marked_is, by_is) (removed_allowed n s.agent id key (link_over to) s.seen holds own refl)
 
-pub marks : (n : HeapNumbers) (s t : Seat ChainNote) (id key by : ℕ) (to : Option ℕ) (at : At) (from marked : Want) (done : Bool)
-    → place_in s.slots at ≡ Next id → link_in s.slots from ≡ link_over to
-    → link_in s.slots marked ≡ record { to = to; mark = true } → by ≡ s.agent → NextFollows n id to s → FreshIs (list_ordering n) s
-    → Swings at from marked (Some (Entry (Removed by key true))) s done t → Marks key id to s done t
-marks n s t id key by to at from marked done at_is from_is marked_is by_is follows fresh w = cases done refl
-  where
-    cases : (b : Bool) → done ≡ b → Marks key id to s b t
-    cases true is = record {
-      slots = w.slots;
-      fresh = Swings-fresh w is ∙ (ap (λ (l : Link). unless_node s.fresh l.to) marked_is ∙ target_fresh (list_ordering n) s id to follows fresh);
-      puts = subst (λ (e : Event ChainNote). Puts s (e ∷ []) t) (event_is by_is) (Swings-moved w is);
-    }
-      where
-        event_is : by ≡ s.agent
-            → move_of s at from marked (Some (Entry (Removed by key true))) ≡ event_of s (Move (Next id) (link_over to) (record { to = to; mark = true }))
-            (Some (Entry (Removed s.agent key true)))
-        event_is e = rw (at_is, from_is, marked_is, e) refl
-    cases false is = record {
-      slots = w.slots;
-      fresh = missed_fresh w is;
-      puts = subst (λ (p : Place). Misses p (link_over to) s t) at_is (subst (λ (l : Link). Misses (place_in s.slots at) l s t) from_is
-          (Swings-missed w is));
-    }
-
 pub try_allowed : (n : HeapNumbers) (s : Seat ChainNote) (place at : Place) (first : ℕ) (others : List ℕ) (to : Option ℕ) (past : Link) → at ≡ place
-    → past ≡ link_over to → ChainHolds n s.seen → IsChainPlace place (heap_of n s)
+    → past ≡ link_over to → ChainHolds n s.seen → IsRankedPlace (chain_order n.roots) (heap_of n s) place
     → IsRun (heap_of n s) (link_to first) (first ∷ others) to
     → AllowedLater (ChainMay n) n s.agent s.seen at (link_to first) (event_of s (Move at (link_to first) past) (Some Unlink))
 try_allowed n s place at first others to past at_is past_is holds l run = rw (at_is, past_is)
-    (unlink_allowed n s.agent place (link_to first) first others to s.seen holds l refl run)
+    (unlink_allowed n s.agent place (link_to first) first others to s.seen holds (chain_place n.roots (heap_of n s) place l) refl run)
 
 -- a refused swing names a target to which many links were made
 many_links : (s : Seat ChainNote) (from past : Want) (why : Spent) (seen : List (Event ChainNote)) (to : Option ℕ) → link_in s.slots past ≡ link_over to

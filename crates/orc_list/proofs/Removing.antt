@@ -4,101 +4,50 @@ use Rattle.std.proofs.lemmas.List.Elements.{filter-append}
 use Rattle.std.specs.Prelude.{filter}
 use Rattle.std.proofs.Common.{Bool, List, None, Option, Some, [], ap, append_assoc, arith, false, inl, inr, refl, subst, sym, true, ℕ, ◌%◌, ◌++◌, ◌∙◌, ◌∷◌, ◌≡◌, ◌≢◌, ◌≤◌, length}
 use Rattle.std.specs.List.{Contains}
-use Rattle.orc_heap.proofs.Calls.{Puts-stood, Puts-trans, part_allowed}
+use Rattle.orc_heap.proofs.Calls.{Puts-trans, part_allowed}
 use Rattle.orc_heap.proofs.Moved.{moves_in-append}
 use Rattle.orc_heap.proofs.OwnParts.{from_own-begun, own_is_all, own_left, own_right, quiet_not_alone}
 use Rattle.orc_heap.proofs.Pieces.{new_is, own_moves_left, puts_released}
 use Rattle.orc_heap.proofs.Runs.{run_heap-snoc}
-use Rattle.orc_heap.proofs.SingleActs.{has_link, some_same}
-use Rattle.orc_heap.specs.Acts.{Fits}
-use Rattle.orc_heap.specs.Allowed.{AllAllowed, HasLink, IsLinkedNode, events_by}
+use Rattle.orc_heap.proofs.SingleActs.{some_same}
+use Rattle.orc_heap.specs.Allowed.{AllAllowed, HasLink, events_by}
 use Rattle.orc_heap.specs.Calls.{event_of, links_made}
-use Rattle.orc_heap.specs.Hands.{Hand, hand}
 use Rattle.orc_heap.specs.Heap.{Heap, HeapNumbers, link_to, shown}
 use Rattle.orc_heap.specs.Journals.{points_to, run_heap}
 use Rattle.orc_heap.specs.Moves.{AllOwn, from_own, gives_in, moves_in}
 use Rattle.orc_heap.specs.OwnEvents.{Puts}
 use Rattle.orc_heap.specs.Seats.{Seat, heap_of}
-use Rattle.orc_heap.specs.Slots.{Hold, Holds, Slots, id_in}
+use Rattle.orc_heap.specs.Slots.{Hold, id_in}
 use Rattle.orc_heap.specs.declared.events.Act.TheVariants.{Miss, Move}
 use Rattle.orc_heap.specs.declared.events.Event.{Event}
 use Rattle.orc_heap.specs.declared.events.Link.{Link}
 use Rattle.orc_heap.specs.declared.events.Place.{Place}
-use Rattle.orc_heap.specs.declared.events.Place.TheVariants.{Next, Root, Side}
+use Rattle.orc_heap.specs.declared.events.Place.TheVariants.{Next, Root}
 use Rattle.orc_history.specs.declared.set.SetEntry.TheVariants.{Removed}
-use Rattle.orc_chain_rule.proofs.Later.{linked_later, marked_later, run_later}
+use Rattle.orc_chain_rule.proofs.Later.{run_later}
 use Rattle.orc_chain_rule.proofs.Leaving.{unlinked_off}
 use Rattle.orc_chain_rule.specs.declared.chain.ChainNote.{ChainNote}
 use Rattle.orc_chain_rule.specs.declared.chain.ChainNote.TheVariants.{Entry, Unlink}
 use Rattle.orc_ordered_chains.specs.Chains.{IsRun, link_over}
-use Rattle.orc_chain_rule.specs.ChainDiscipline.{ChainHolds, ChainMay, FollowsOn, HasKey, IsOnNoChain, entries_of, IsChainPlace}
+use Rattle.orc_chain_rule.specs.ChainDiscipline.{ChainHolds, ChainMay, FollowsOn, HasKey, IsOnNoChain, entries_of}
 use Rattle.orc_chain_rule.specs.Laws.Kept.{chain_keeps}
 use Rattle.orc_ordered_chains.proofs.Acts.{move_moves}
 use Rattle.orc_chain_rule.specs.Laws.Kinds.{key_linked, key_one}
-use Rattle.orc_ordered_search.specs.Searches.{AllGone, BeginsRun, HoldsIfAny, Quiet, left_place, node_of}
+use Rattle.orc_ordered_search.specs.Searches.{AllGone, Quiet, left_place, node_of}
 use Rattle.orc_list.specs.Inserts.{SeesAbsent}
-use Rattle.orc_list.specs.Searches.{FindsPresent, InHand, NextFollows, list_reading}
+use Rattle.orc_list.specs.Searches.{FindsPresent, InHand, list_reading}
 use Rattle.orc_ordered_search.specs.Ways.{IsFew}
 use Rattle.orc_ordered_search.specs.Searches.{first_or, place_at, target_at}
 use Rattle.orc_list.specs.Stops.{MarkStops}
 use Rattle.orc_list.specs.Turns.{HasManyLinks, LeavesOff, Made, Marks, StopsBefore, TakesOut, Tires, TriesUnlink}
-use Rattle.orc_list.proofs.Answering.{reads_node}
-use Rattle.orc_ordered_search.proofs.Entering.{from_is, head_of, place_of_hand, target_is}
-use Rattle.orc_ordered_search.proofs.Held.{first_held, in_hand_on, present_hand, second_held}
+use Rattle.orc_ordered_search.proofs.Removing.{marked_at, marked_link, run_from, run_head, unlink_at}
+use Rattle.orc_ordered_search.proofs.Held.{in_hand_on}
 use Rattle.orc_list.proofs.Making.{made_after, made_on, over_on}
 use Rattle.orc_ordered_search.proofs.Making.{missed}
-use Rattle.orc_ordered_search.proofs.Quiets.{below_puts, next_puts, run_puts}
 use Rattle.orc_ordered_search.proofs.Seen.{loads-append, present_few, sees_left, sees_run_left}
 use Rattle.orc_ordered_search.proofs.Stepping.{run_snoc}
 use Rattle.orc_list.proofs.Ordered.{list_ordering}
 use Rattle.orc_list.proofs.Tiring.{takes_right}
-
--- a node whose link was marked has the marked link from then on
-
-marked_at : (n : HeapNumbers) (es : List (Event ChainNote)) (e : Event ChainNote) (id : ℕ) (from to : Link) → e.act ≡ Move (Next id) from to → ChainMay n
-    es e
-    → IsLinkedNode (run_heap n es) id → HasLink (run_heap n (es ++ e ∷ [])) id to
-marked_at n es e id from to act_is may l =
-    let fits : Fits e.agent (Move (Next id) from to) (run_heap n es) = subst (λ a. Fits e.agent a (run_heap n es)) act_is may.fits in
-    let m = move_moves e.agent (Next id) from to (run_heap n es) fits in
-    let after : shown (run_heap n (es ++ e ∷ [])) (Next id) ≡ Some to = rw (run_heap-snoc n es e, act_is) m.moved in
-    has_link (run_heap n (es ++ e ∷ [])) id to (linked_later n es (e ∷ []) id l (may, tt)) after
-
-pub marked_link : (n : HeapNumbers) (t u : Seat ChainNote) (id : ℕ) (from to : Link) (noted : Option ChainNote)
-    → Puts t (event_of t (Move (Next id) from to) noted ∷ []) u → AllAllowed (ChainMay n) [] u.seen → IsLinkedNode (heap_of n t) id → to.mark ≡ true
-    → HasLink (heap_of n u) id to
-marked_link n t u id from to noted p all l mark =
-    let e : Event ChainNote = event_of t (Move (Next id) from to) noted in
-    let m = Puts-stood (ChainMay n) t u [] e [] p all in
-    let there = marked_at n (t.seen ++ m.before) e id from to refl m.here (linked_later n t.seen m.before id l m.first) in
-    subst (λ es. HasLink (run_heap n es) id to) (sym m.is) (marked_later n ((t.seen ++ m.before) ++ e ∷ []) m.later id to there mark m.last)
-
--- the run that ends with the marked node
-
--- its first node
-abbrev pub run_head : Option Hold → ℕ → ℕ → ℕ
-run_head None first_id id = id
-run_head (Some h) first_id id = first_id
-
-pub record RunFrom (from : Link) (over : List ℕ) (head : ℕ) : Type 0 where
-  pub others : List ℕ
-  pub over_is : over ≡ head ∷ others
-  pub from_is : from ≡ link_to head
-
-head_is : (first : Option Hold) (first_id id : ℕ) → head_of first first_id (Some id) ≡ Some (run_head first first_id id)
-head_is None first_id id = refl
-head_is (Some h) first_id id = refl
-
-begins_with : (first : Option Hold) (first_id id : ℕ) (over : List ℕ) → BeginsRun first first_id over
-    → (others : List ℕ) × (over ++ id ∷ [] ≡ run_head first first_id id ∷ others)
-begins_with None first_id id over is = ([], ap (λ z. z ++ id ∷ []) is)
-begins_with (Some h) first_id id over (others, is) = (others ++ id ∷ [], ap (λ z. z ++ id ∷ []) is)
-
--- what is first in hand
-pub first_or_held : (slots : Slots) (first : Option Hold) (node : Hold) → HoldsIfAny slots first → HoldsIfAny slots (Some node)
-    → HoldsIfAny slots (first_or first (Some node))
-first_or_held slots None node a b = b
-first_or_held slots (Some h) node a b = a
 
 -- where the pass was alone, its own events are all that is new
 pub alone_exact : (s t y : Seat ChainNote) (own ys : List (Event ChainNote)) (q : Puts s own t) (p : Puts t ys y) (w : Puts s (own ++ ys) y) → 1 ≤ length
@@ -142,13 +91,6 @@ links_stay es fs id many =
     let points : Event ChainNote → Bool = λ e. points_to e.act id in
     omega (arith, many, ap length (filter-append points es fs), length-append (filter points es) (filter points fs))
 
--- the left place is a place of a chain
-left_place_on : (n : HeapNumbers) (t : Seat ChainNote) (place : Place) (key : ℕ) → FollowsOn n.roots (heap_of n t) place key
-    → IsChainPlace place (heap_of n t)
-left_place_on n t (Root r) key f = tt
-left_place_on n t (Side id) key f = f
-left_place_on n t (Next id) key (low, own, less, same) = key_linked (heap_of n t) id low own
-
 left_apart : (n : HeapNumbers) (t : Seat ChainNote) (root key id : ℕ) (left : Option Hold) (left_id : ℕ)
     → FollowsOn n.roots (heap_of n t) (left_place (key % n.roots) left left_id) key → HasKey (heap_of n t) id key → left_place (key % n.roots) left left_id
     ≢ Next id
@@ -177,112 +119,16 @@ module _ {n : HeapNumbers} {root key : ℕ} {left first : Option Hold} {node : H
   abbrev over : List ℕ
   over = f.behind.leads.over ++ f.id ∷ []
 
-  pub run_from : RunFrom f.behind.leads.from (f.behind.leads.over ++ f.id ∷ []) (run_head first f.first_id f.id)
-  run_from =
-      let l = f.behind.leads in
-      let (others, is) = begins_with first f.first_id f.id l.over l.begins in
-      record {
-        others = others;
-        over_is = is;
-        from_is = from_is (list_ordering n) (Root root) key left first f.left_id f.first_id (Some f.id) s f.own t f.behind.quiet.puts.part l ∙ ap link_over
-            (head_is first f.first_id f.id);
-      }
-
-  -- once the node is marked, the run goes on past it
-  pub run_marked : (u : Seat ChainNote) → Marks key f.id (node_of next f.next_id) t true u → AllAllowed (ChainMay n) [] u.seen
-      → IsRun (heap_of n u) (link_to (run_head first f.first_id f.id)) (run_head first f.first_id f.id ∷ run_from.others) (node_of next f.next_id)
-  run_marked u m all =
-      let l = f.behind.leads in
-      let own_link = marked_link n t u f.id (link_over to) marked _ m.puts all (key_linked (heap_of n t) f.id key f.is_of.has_key) refl in
-      let run = run_snoc (heap_of n u) l.from l.over f.id marked (run_puts (list_ordering n) t u _ m.puts all l.from l.over (Some f.id) l.run) own_link refl in
-      subst (λ (x : Link). IsRun (heap_of n u) x (head ∷ run_from.others) to) run_from.from_is
-      (subst (λ z. IsRun (heap_of n u) l.from z to) run_from.over_is run)
-
-  -- by what the pass holds
-
-  pub marks_at : (done : Bool) (u : Seat ChainNote) → Marks key (id_in t.slots node) (target_at t.slots next) t done u
-      → Marks key f.id (node_of next f.next_id) t done u
-  marks_at done u m =
-      let r = reads_node f in
-      subst (λ (i : ℕ). Marks key i (node_of next f.next_id) t done u) r.id_is (subst (λ (o : Option ℕ). Marks key (id_in t.slots node) o t done u)
-      r.next_is m)
-
-  pub marked_hand : (done : Bool) (u : Seat ChainNote) → Marks key f.id (node_of next f.next_id) t done u → AllAllowed (ChainMay n) [] u.seen
-      → InHand n s.slots left first (Some node) next u
-  marked_hand true u m all = in_hand_on (list_ordering n) s.slots left first (Some node) next t u _ m.puts all m.slots
-      (present_hand (list_ordering n) (Root root) key 0 left first s t node next f)
-  marked_hand false u m all = in_hand_on (list_ordering n) s.slots left first (Some node) next t u _ m.puts.puts all m.slots
-      (present_hand (list_ordering n) (Root root) key 0 left first s t node next f)
-
-  pub unlink_held : (u : Seat ChainNote) (h : Hold) → u.slots ≡ t.slots → Some h ≡ first_or first (Some node)
-      → HoldsIfAny u.slots left × Holds u.slots h × HoldsIfAny u.slots next
-  unlink_held u h same is =
-      let r = reads_node f in
-      let x = hand left f.left_id in
-      let y = hand first f.first_id in
-      let ks : List Hand = hand (Some node) f.id ∷ hand next f.next_id ∷ [] in
-      let one : HoldsIfAny t.slots first = second_held s.slots t.slots x first f.first_id ks f.hands in
-      let head_held : HoldsIfAny t.slots (Some h) = subst (λ (o : Option Hold). HoldsIfAny t.slots o) (sym is)
-      (first_or_held t.slots first node one r.node_held) in
-      let all : HoldsIfAny t.slots left × Holds t.slots h × HoldsIfAny t.slots next = (
-        first_held s.slots t.slots left f.left_id (y ∷ ks) f.hands,
-        head_held,
-        r.next_held,
-      ) in
-      subst (λ (z : Slots). HoldsIfAny z left × Holds z h × HoldsIfAny z next) (sym same) all
-
-  record UnlinkAt (u : Seat ChainNote) (h : Hold) : Type 0 where
-    id_is : id_in u.slots h ≡ run_head first f.first_id f.id
-    to_is : target_at u.slots next ≡ node_of next f.next_id
-
-  unlink_at : (u : Seat ChainNote) (h : Hold) → u.slots ≡ t.slots → Some h ≡ first_or first (Some node) → UnlinkAt u h
-  unlink_at u h same is =
-      let r = reads_node f in
-      let ks : List Hand = hand (Some node) f.id ∷ hand next f.next_id ∷ [] in
-      let js : List Hand = hand next f.next_id ∷ [] in
-      let target : target_at t.slots (Some h) ≡ head_of first f.first_id (Some f.id) =
-      ap (λ (o : Option Hold). target_at t.slots o) is ∙ target_is s.slots t.slots first (Some node) f.first_id f.id ks js f.hands.held.1.0
-      f.hands.held.1.1.0 in
-      let at_t : id_in t.slots h ≡ run_head first f.first_id f.id = some_same (target ∙ head_is first f.first_id f.id) in
-      record {
-        id_is = ap (λ (z : Slots). id_in z h) same ∙ at_t;
-        to_is = ap (λ (z : Slots). target_at z next) same ∙ r.next_is;
-      }
-
-  unlink_place : (u : Seat ChainNote) → root ≡ key % n.roots → u.slots ≡ t.slots → place_at u.slots root left ≡ left_place (key % n.roots) left f.left_id
-  unlink_place u is same =
-      ap (λ (z : Slots). place_at z root left) same
-      ∙ place_of_hand s.slots t.slots root (key % n.roots) is left f.left_id (hand first f.first_id ∷ hand (Some node) f.id ∷ hand next f.next_id ∷ [])
-      f.hands.held.0
-
-  pub unlink_run_at : (u : Seat ChainNote) (h : Hold) → Marks key f.id (node_of next f.next_id) t true u → AllAllowed (ChainMay n) [] u.seen
-      → Some h ≡ first_or first (Some node)
-      → (others : List ℕ) × IsRun (heap_of n u) (link_over (target_at u.slots (Some h))) (id_in u.slots h ∷ others) (target_at u.slots next)
-  unlink_run_at u h m all is =
-      let a = unlink_at u h m.slots is in
-      let others = run_from.others in
-      let run = subst (λ (x : ℕ). IsRun (heap_of n u) (link_to x) (x ∷ others) to) (sym a.id_is) (run_marked u m all) in
-      (others, subst (λ (o : Option ℕ). IsRun (heap_of n u) (link_to (id_in u.slots h)) (id_in u.slots h ∷ others) o) (sym a.to_is) run)
-
-  pub unlink_left : (u : Seat ChainNote) → root ≡ key % n.roots → Marks key f.id (node_of next f.next_id) t true u → AllAllowed (ChainMay n) [] u.seen
-      → IsChainPlace (place_at u.slots root left) (heap_of n u)
-  unlink_left u is m all =
-      subst (λ (p : Place). IsChainPlace p (heap_of n u)) (sym (unlink_place u is m.slots)) (left_place_on n u place key
-      (below_puts (list_ordering n) t u _ m.puts all place key f.behind.leads.below))
-
-  pub unlink_follows : (u : Seat ChainNote) → Marks key f.id (node_of next f.next_id) t true u → AllAllowed (ChainMay n) [] u.seen
-      → (id : ℕ) × NextFollows n id (target_at u.slots next) u
-  unlink_follows u m all =
-      let r = reads_node f in
-      let to_is : target_at u.slots next ≡ to = ap (λ (z : Slots). target_at z next) m.slots ∙ r.next_is in
-      (f.id, subst (λ (o : Option ℕ). NextFollows n f.id o u) (sym to_is) (next_puts (list_ordering n) t u _ m.puts all f.id to f.follows))
+  from_head : f.behind.leads.from ≡ link_to (run_head first f.first_id f.id)
+  from_head = (run_from (list_ordering n) (Root root) key 0 left first node next s t f).from_is
 
   pub tries_at : (u v : Seat ChainNote) (h : Hold) (Worn : Type 0) → root ≡ key % n.roots → u.slots ≡ t.slots → Some h ≡ first_or first (Some node)
       → TriesUnlink (place_at u.slots root left) (id_in u.slots h) (target_at u.slots next) Worn u v
       → TriesUnlink (left_place (key % n.roots) left f.left_id) (run_head first f.first_id f.id) (node_of next f.next_id) Worn u v
   tries_at u v h Worn of_key same is tried =
-      let a = unlink_at u h same is in
-      let one = subst (λ (p : Place). TriesUnlink p (id_in u.slots h) (target_at u.slots next) Worn u v) (unlink_place u of_key same) tried in
+      let a = unlink_at (list_ordering n) (Root root) key 0 left first node next s t f u h same is in
+      let at = subst (λ (r : ℕ). TriesUnlink (place_at u.slots r left) (id_in u.slots h) (target_at u.slots next) Worn u v) of_key tried in
+      let one = subst (λ (p : Place). TriesUnlink p (id_in u.slots h) (target_at u.slots next) Worn u v) a.place_is at in
       let two = subst (λ (i : ℕ). TriesUnlink place i (target_at u.slots next) Worn u v) a.id_is one in
       subst (λ (o : Option ℕ). TriesUnlink place head o Worn u v) a.to_is two
 
@@ -401,10 +247,10 @@ module _ {n : HeapNumbers} {root key : ℕ} {left first : Option Hold} {node : H
       let l = f.behind.leads in
       let es : List (Event ChainNote) = t.seen ++ mark ∷ [] in
       let first = a.all.0 in
-      let own_link = marked_at n t.seen mark f.id (link_over to) marked refl first (key_linked (heap_of n t) f.id key f.is_of.has_key) in
+      let own_link = marked_at (list_ordering n) t.seen mark f.id key (link_over to) marked refl first f.is_of.has_key in
       let run = run_snoc (run_heap n es) l.from l.over f.id marked (run_later n t.seen (mark ∷ []) l.from l.over (Some f.id) l.run (first, tt)) own_link
       refl in
-      let run_head_is : IsRun (run_heap n es) (link_to head) over to = subst (λ (z : Link). IsRun (run_heap n es) z over to) run_from.from_is run in
+      let run_head_is : IsRun (run_heap n es) (link_to head) over to = subst (λ (z : Link). IsRun (run_heap n es) z over to) from_head run in
       let off = unlinked_off n agent place (link_to head) over to x es (chain_keeps n t.seen mark holds first) a.all.1.0 run_head_is among in
       subst (λ z. IsOnNoChain (run_heap n z) x) (append_assoc t.seen (mark ∷ []) (e ∷ []) ∙ sym a.seen_is) off
 
@@ -431,7 +277,7 @@ module _ {n : HeapNumbers} {root key : ℕ} {left first : Option Hold} {node : H
     takes = takes_right f.own (mark ∷ []) key f.id (inl (link_over to, marked, refl, refl));
     next = many.0;
     leads = subst (λ (o : Option ℕ). HasLink (heap_of n y) f.id (record { to = o; mark = true })) many.1
-        (marked_link n t y f.id (link_over to) marked _ p all (key_linked (heap_of n t) f.id key f.is_of.has_key) refl);
+        (marked_link (list_ordering n) t y f.id key (link_over to) marked _ p all f.is_of.has_key refl);
     many = subst (λ (z : List (Event ChainNote)). 32 ≤ links_made z many.0) (sym q.is) (links_stay v.seen q.part many.0 many.2);
   }
 
@@ -458,7 +304,7 @@ module _ {n : HeapNumbers} {root key : ℕ} {left first : Option Hold} {node : H
             off = λ alone.
                 let a = alone_at (e ∷ []) y (puts_released t v y (mark ∷ e ∷ []) whole g.puts) made.puts alone all_y in
                 let found : miss.found ≡ f.behind.leads.from = some_same (sym a.all.1.0.fits.0 ∙ a.shows) in
-                absurd (miss.other (found ∙ run_from.from_is));
+                absurd (miss.other (found ∙ from_head));
           }
     ]
     | inr worn ↦

@@ -1,6 +1,6 @@
 -- What the turns of a call do. After Harris 2001.
 use Rattle.std.specs.List.{Contains}
-use Rattle.std.specs.Prelude.{Bool, List, MatchBool, None, Option, Some, [], false, length, true, ℕ, ◌*◌, ◌++◌, ◌+◌, ◌∷◌, ◌≡◌, ◌≤◌, ◌⊎◌}
+use Rattle.std.specs.Prelude.{Bool, List, None, Option, Some, [], false, length, true, ℕ, ◌*◌, ◌++◌, ◌+◌, ◌∷◌, ◌≡◌, ◌≤◌, ◌⊎◌}
 use Rattle.orc_heap.specs.Allowed.{HasLink}
 use Rattle.orc_heap.specs.Calls.{Misses, event_of, links_made}
 use Rattle.orc_heap.specs.Heap.{Heap, HeapNumbers, link_to}
@@ -20,6 +20,7 @@ use Rattle.orc_ordered_chains.specs.Chains.{link_over}
 use Rattle.orc_chain_rule.specs.ChainDiscipline.{IsOnNoChain, entries_of}
 use Rattle.orc_ordered_search.specs.Ways.{AreLoads, CoversLooks, Sees}
 use Rattle.orc_ordered_search.specs.Searches.{SeesRun}
+use Rattle.orc_ordered_search.specs.Turns.{Marks as MarksNoted}
 
 -- of the events there are at most so many in each turn: two for each node at whose link one of them looked, and four; and so many
 -- more in all
@@ -73,11 +74,8 @@ AsksTurn key s None t = Tires 1 s t
 AsksTurn key s (Some answer) t = Answers 1 s (Asked s.agent key answer) t
 
 -- the node's link to this target was marked, and the key is taken out; or the link was another
-pub record Marks (key id : ℕ) (to : Option ℕ) (s : Seat ChainNote) (done : Bool) (t : Seat ChainNote) : Type 0 where
-  pub slots : t.slots ≡ s.slots
-  pub fresh : t.fresh ≡ s.fresh
-  pub puts : MatchBool done (Puts s (event_of s (Move (Next id) (link_over to) (record { to = to; mark = true }))
-      (Some (Entry (Removed s.agent key true))) ∷ []) t) (Misses (Next id) (link_over to) s t)
+abbrev pub Marks : ℕ → ℕ → Option ℕ → Seat ChainNote → Bool → Seat ChainNote → Type 0
+Marks key id to s done t = MarksNoted (Entry (Removed s.agent key true)) id to s done t
 
 -- at least 32 links were made to this node
 abbrev pub HasManyLinks : Option ℕ → List (Event ChainNote) → Type 0

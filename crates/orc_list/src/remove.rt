@@ -4,8 +4,8 @@ ghost use Rattle.std.specs.Prelude.{◌≡◌, ◌<◌, ◌%◌, ℕ, List, ◌�
 ghost use mathlib.Core.List.{IsPrefix};
 ghost use Rattle.orc_heap.specs.Seats.{Seat, heap_of};
 ghost use Rattle.orc_heap.specs.Slots.{Holds, id_in};
-ghost use Rattle.orc_ordered_chains.specs.Chains.{IsRun, link_over};
-ghost use Rattle.orc_chain_rule.specs.ChainDiscipline.{HasKey, IsChainPlace};
+ghost use Rattle.orc_ordered_chains.specs.Chains.{IsChainPlace, IsRun, link_over};
+ghost use Rattle.orc_chain_rule.specs.ChainDiscipline.{HasKey, chain_order};
 ghost use Rattle.orc_chain_rule.specs.declared.chain.ChainNote.{ChainNote};
 ghost use Rattle.orc_list.specs.Answers.{RemovesTurns};
 ghost use Rattle.orc_list.specs.Causes.{HasWorn};
@@ -70,7 +70,8 @@ fn unlink_run<L: Links<Rule = Chain>>(
     requires root { root < (L.numbers links.now).roots }
     requires held { HoldsIfAny (L.seat links.now p.old).slots left.now × Holds (L.seat links.now p.old).slots first.now
         × HoldsIfAny (L.seat links.now p.old).slots next.now }
-    requires left { IsChainPlace (place_at (L.seat links.now p.old).slots root left.now) (heap_of (L.numbers links.now) (L.seat links.now p.old)) }
+    requires left { IsChainPlace (chain_order (L.numbers links.now).roots) (heap_of (L.numbers links.now) (L.seat links.now p.old)) (place_at
+        (L.seat links.now p.old).slots root left.now) }
     requires run { (others : List ℕ) × IsRun (heap_of (L.numbers links.now) (L.seat links.now p.old)) (link_over (target_at (L.seat links.now p.old).slots
         (Some first.now)))
         (id_in (L.seat links.now p.old).slots first.now ∷ others) (target_at (L.seat links.now p.old).slots next.now) }

@@ -33,7 +33,7 @@ use Rattle.orc_ordered_search.proofs.Quiets.{below_puts, left_place_begins, next
 use Rattle.orc_ordered_search.proofs.Stepping.{run_snoc}
 
 -- a node that is marked shows the mark from then on
-marked_at : {N : Type 0} (ord : Ordering N) (es : List (Event N)) (e : Event N) (id rank : ℕ) (from to : Link) → e.act ≡ Move (Next id) from to → ord.may es e
+pub marked_at : {N : Type 0} (ord : Ordering N) (es : List (Event N)) (e : Event N) (id rank : ℕ) (from to : Link) → e.act ≡ Move (Next id) from to → ord.may es e
     → HasRank ord.reading.order (run_heap ord.reading.numbers es) id rank → HasLink (run_heap ord.reading.numbers (es ++ e ∷ [])) id to
 marked_at {N} ord es e id rank from to act_is may own =
     let n = ord.reading.numbers in
@@ -160,12 +160,12 @@ module _ {N : Type 0} (ord : Ordering N) (start : Place) (wanted passed : ℕ) (
       ) in
       subst (λ (z : Slots). HoldsIfAny z left × Holds z h × HoldsIfAny z next) (sym same) all
 
-  record UnlinkAt (u : Seat N) (h : Hold) : Type 0 where
-    place_is : place_at u.slots (ord.reading.order.root wanted) left ≡ left_place (ord.reading.order.root wanted) left f.left_id
-    id_is : id_in u.slots h ≡ run_head first f.first_id f.id
-    to_is : target_at u.slots next ≡ node_of next f.next_id
+  pub record UnlinkAt (u : Seat N) (h : Hold) : Type 0 where
+    pub place_is : place_at u.slots (ord.reading.order.root wanted) left ≡ left_place (ord.reading.order.root wanted) left f.left_id
+    pub id_is : id_in u.slots h ≡ run_head first f.first_id f.id
+    pub to_is : target_at u.slots next ≡ node_of next f.next_id
 
-  unlink_at : (u : Seat N) (h : Hold) → u.slots ≡ t.slots → Some h ≡ first_or first (Some node) → UnlinkAt u h
+  pub unlink_at : (u : Seat N) (h : Hold) → u.slots ≡ t.slots → Some h ≡ first_or first (Some node) → UnlinkAt u h
   unlink_at u h same is =
       let r = reads_node in
       let ks : List Hand = hand (Some node) f.id ∷ hand next f.next_id ∷ [] in

@@ -1,26 +1,46 @@
 -- The node is marked, and all nodes are let go.
-use Rattle.orc_list.proofs.Answering.{reads_node}
-use Rattle.orc_list.proofs.Removing.{mark_stops, marked_hand, marks_at}
+use Rattle.std.proofs.Common.{true}
+use Rattle.orc_heap.specs.declared.events.Place.TheVariants.{Root}
+use Rattle.orc_history.specs.declared.set.SetEntry.TheVariants.{Removed}
+use Rattle.orc_chain_rule.specs.declared.chain.ChainNote.TheVariants.{Entry}
+use Rattle.orc_ordered_search.proofs.Removing.{marked_hand, marks_at, reads_node}
+use Rattle.orc_list.proofs.Ordered.{list_ordering}
+use Rattle.orc_list.proofs.Removing.{mark_stops}
 use Rattle.orc_list.proofs.remove.mark_and_go.Goals as goal
 
 pub mark_node-marked-requires-clause-node : goal.mark_node-marked-requires-clause-node
-mark_node-marked-requires-clause-node g c = let (s, f) = c.requires.present in (reads_node f).node_held
+mark_node-marked-requires-clause-node g c =
+    let (s, f) = c.requires.present in
+    let d = c.args.links.now in
+    let a = c.args in
+    (reads_node (list_ordering (g.L.Links.numbers d)) (Root a.root) a.key 0 a.left a.first a.node a.next s (g.L.Links.seat d a.p.now) f).node_held
 
 pub let_all_go-requires-clause-hands : goal.let_all_go-requires-clause-hands
 let_all_go-requires-clause-hands g c =
     let d = c.args.links.now in
+    let a = c.args in
     let (s, f) = c.requires.present in
+    let t = g.L.Links.seat d a.p.now in
     let u = g.L.Links.seat d c.mark_node-marked.new.p in
     let e = c.mark_node-marked.ensures in
-    (s.slots, marked_hand f _ u (marks_at f _ u e.marked) (g.met.L.Links.allowed d c.mark_node-marked.new.p e.pass))
+    let ord = list_ordering (g.L.Links.numbers d) in
+    let noted = Entry (Removed t.agent a.key true) in (
+      s.slots,
+      marked_hand ord (Root a.root) a.key 0 a.left a.first a.node a.next s t f noted _ u
+          (marks_at ord (Root a.root) a.key 0 a.left a.first a.node a.next s t f noted _ u e.marked) (g.met.L.Links.allowed d c.mark_node-marked.new.p e.pass),
+    )
 
 pub returns-clause-stopped : goal.returns-clause-stopped
 returns-clause-stopped g c = λ s f.
     let d = c.args.links.now in
+    let a = c.args in
+    let t = g.L.Links.seat d a.p.now in
     let u = g.L.Links.seat d c.mark_node-marked.new.p in
     let e = c.mark_node-marked.ensures in
     let done = c.mark_node-marked.result in
-    let m = marks_at f done u e.marked in
+    let ord = list_ordering (g.L.Links.numbers d) in
+    let noted = Entry (Removed t.agent a.key true) in
+    let m = marks_at ord (Root a.root) a.key 0 a.left a.first a.node a.next s t f noted done u e.marked in
     let all = g.met.L.Links.allowed d c.mark_node-marked.new.p e.pass in
-    let gone = c.let_all_go.ensures.gone s.slots (marked_hand f done u m all) in
+    let gone = c.let_all_go.ensures.gone s.slots (marked_hand ord (Root a.root) a.key 0 a.left a.first a.node a.next s t f noted done u m all) in
     mark_stops f done u (g.L.Links.seat d c.let_all_go.new.p) m gone all

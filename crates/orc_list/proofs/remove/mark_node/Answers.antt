@@ -1,12 +1,15 @@
 -- A swing of the node's own link that changes the mark alone.
-use Rattle.std.proofs.Common.{ap, refl, sym, ◌∙◌}
+use Rattle.std.proofs.Common.{ap, refl, sym, true, ℕ, ◌∙◌}
 use Rattle.orc_heap.specs.Slots.{id_in}
 use Rattle.orc_chain_rule.specs.Laws.Kinds.{key_linked}
 use Rattle.orc_heap.specs.declared.events.Link.{Link}
 use Rattle.orc_heap.specs.Seats.{heap_of}
 use Rattle.orc_ordered_search.specs.Searches.{target_at}
-use Rattle.orc_list.proofs.Marking.{mark_allowed, marks}
-use Rattle.orc_ordered_search.proofs.Marking.{refused_apart}
+use Rattle.orc_history.specs.declared.set.SetEntry.TheVariants.{Removed}
+use Rattle.orc_chain_rule.specs.declared.chain.ChainNote.TheVariants.{Entry}
+use Rattle.orc_list.proofs.Marking.{mark_allowed}
+use Rattle.orc_list.proofs.Ordered.{list_ordering}
+use Rattle.orc_ordered_search.proofs.Marking.{marks, refused_apart}
 use Rattle.orc_heap.proofs.Pieces.{linked_not_fresh}
 use Rattle.orc_list.proofs.remove.mark_node.Goals as goal
 
@@ -46,6 +49,6 @@ returns-clause-marked g c =
     let n = g.L.Links.numbers d in
     let s = g.L.Links.seat d c.args.p.now in
     let t = g.L.Links.seat d c.swing.new.p in
-    marks n s t (id_in s.slots c.args.node.now) c.args.key c.agent-agent.result (target_at s.slots c.args.next.now) _ _ _ c.in-Ok.done refl
-    (c.link_to.ensures.link s.slots) (c.link_to-2.ensures.link s.slots) c.agent-agent.ensures
+    marks (list_ordering n) s t (id_in s.slots c.args.node.now) (target_at s.slots c.args.next.now) _ _ _ _ _ c.in-Ok.done refl
+    (c.link_to.ensures.link s.slots) (c.link_to-2.ensures.link s.slots) (ap (λ (x : ℕ). Entry (Removed x c.args.key true)) c.agent-agent.ensures)
     c.requires.follows (λ i e. g.met.L.Links.fresh_is d c.args.p.now i c.requires.pass e) c.in-Ok.ensures.swung

@@ -2,7 +2,9 @@
 use Rattle.std.proofs.Common.{refl}
 use Rattle.orc_heap.specs.Slots.{id_in}
 use Rattle.orc_ordered_search.specs.Searches.{place_at, target_at}
-use Rattle.orc_list.proofs.Marking.{not_fresh_at, tries, try_allowed, worn_part}
+use Rattle.orc_list.proofs.Marking.{tries, try_allowed, worn_part}
+use Rattle.orc_list.proofs.Ordered.{list_ordering}
+use Rattle.orc_ordered_search.proofs.Marking.{not_fresh_at}
 use Rattle.orc_list.proofs.remove.unlink_run.Goals as goal
 
 pub swing-tried-requires-clause-place : goal.swing-tried-requires-clause-place
@@ -14,7 +16,7 @@ pub swing-tried-requires-clause-linked : goal.swing-tried-requires-clause-linked
 swing-tried-requires-clause-linked g c =
     let d = c.args.links.now in
     let s = g.L.Links.seat d c.args.p.now in
-    not_fresh_at (g.L.Links.numbers d) s c.place_of.result (place_at s.slots c.args.root c.args.left.now) (c.place_of.ensures.place s.slots)
+    not_fresh_at (list_ordering (g.L.Links.numbers d)) s c.place_of.result (place_at s.slots c.args.root c.args.left.now) (c.place_of.ensures.place s.slots)
     c.requires.left (λ i e. g.met.L.Links.fresh_is d c.args.p.now i c.requires.pass e)
 
 pub swing-tried-requires-clause-links : goal.swing-tried-requires-clause-links
