@@ -60,14 +60,6 @@ abbrev pub Enters : SetEntry → Seat ChainNote → Bool → Seat ChainNote → 
 Enters entry s true t = Answers 1 s entry t
 Enters entry s false t = Tires 1 s t
 
--- an answer of this agent that the key is absent
-abbrev pub IsAbsence : ℕ → ℕ → SetEntry → Type 0
-IsAbsence agent key entry = (entry ≡ Removed agent key false) ⊎ (entry ≡ Asked agent key false)
-
--- and one that it is present
-abbrev pub IsPresence : ℕ → ℕ → SetEntry → Type 0
-IsPresence agent key entry = (entry ≡ Added agent key false) ⊎ (entry ≡ Asked agent key true)
-
 -- a turn of a question
 abbrev pub AsksTurn : ℕ → Seat ChainNote → Option Bool → Seat ChainNote → Type 0
 AsksTurn key s None t = Tires 1 s t

@@ -1,81 +1,18 @@
-//! Answers that change nothing: one load that still finds the link on which the answer rests.
+//! Answers whether a key is present.
 
-ghost use Rattle.std.specs.Prelude.{◌≡◌, ◌<◌, ◌%◌, ◌≢◌, ℕ, Ok, Err};
+ghost use Rattle.std.specs.Prelude.{◌≡◌, ◌<◌, ◌%◌, ◌≢◌, Ok, Err};
 ghost use mathlib.Core.List.{IsPrefix};
-ghost use Rattle.orc_heap.specs.Seats.{Seat};
-ghost use Rattle.orc_chain_rule.specs.declared.chain.ChainNote.{ChainNote};
 ghost use Rattle.orc_list.specs.Answers.{AsksTurns};
 ghost use Rattle.orc_ordered_search.specs.Searches.{HasRoom};
-ghost use Rattle.orc_list.specs.Searches.{FindsAbsent, FindsPresent};
-ghost use Rattle.orc_list.specs.Turns.{AsksTurn, Enters, IsAbsence, IsPresence};
+ghost use Rattle.orc_list.specs.Turns.{AsksTurn};
 
 use crate::key::Key;
 use crate::search::search;
-use orc_chain_rule::{Chain, ChainNote};
+use orc_chain_rule::Chain;
 use orc_fault::Again;
-use orc_heap::{At, Held, Links};
+use orc_heap::Links;
 use orc_history::SetEntry;
-use orc_ordered_search::{Searched, let_all_go, link_of, link_to, place_of};
-
-// Enters an answer that rests on the key's absence, if the left place still shows its link.
-pub(crate) fn enter_absent<L: Links<Rule = Chain>>(
-    links: &L,
-    p: &mut L::Pass,
-    root: u32,
-    key: u64,
-    left: Option<Held>,
-    first: Option<Held>,
-    right: Option<Held>,
-    entry: SetEntry,
-) -> bool
-    requires pass { L.belongs links.now p.old }
-    requires root { (root < (L.numbers links.now).roots) × (root ≡ key % (L.numbers links.now).roots) }
-    requires entry { IsAbsence (L.seat links.now p.old).agent key entry }
-    requires absent { (s : Seat ChainNote) × FindsAbsent (L.numbers links.now) root key left first right s (L.seat links.now p.old) }
-    ensures pass { L.belongs links.now p.new }
-    ensures later { IsPrefix (L.journal p.old) (L.journal p.new) }
-    ensures entered { (s : Seat ChainNote) → FindsAbsent (L.numbers links.now) root key left first right s (L.seat links.now p.old)
-        → Enters entry s result (L.seat links.now p.new) }
-{
-    let entered = links.same(
-        p,
-        &place_of(root, &left),
-        &link_of(&first, &right),
-        Some(ChainNote::Entry(entry)),
-    );
-    let_all_go::<Key, L>(links, p, left, first, right, None);
-    entered
-}
-
-// Enters an answer that rests on the key's presence, if its node still shows its unmarked link.
-pub(crate) fn enter_present<L: Links<Rule = Chain>>(
-    links: &L,
-    p: &mut L::Pass,
-    root: u32,
-    key: u64,
-    left: Option<Held>,
-    first: Option<Held>,
-    node: Held,
-    next: Option<Held>,
-    entry: SetEntry,
-) -> bool
-    requires pass { L.belongs links.now p.old }
-    requires entry { IsPresence (L.seat links.now p.old).agent key entry }
-    requires present { (s : Seat ChainNote) × FindsPresent (L.numbers links.now) root key left first node next s (L.seat links.now p.old) }
-    ensures pass { L.belongs links.now p.new }
-    ensures later { IsPrefix (L.journal p.old) (L.journal p.new) }
-    ensures entered { (s : Seat ChainNote) → FindsPresent (L.numbers links.now) root key left first node next s (L.seat links.now p.old)
-        → Enters entry s result (L.seat links.now p.new) }
-{
-    let entered = links.same(
-        p,
-        &At::Node(&node),
-        &link_to(&next, false),
-        Some(ChainNote::Entry(entry)),
-    );
-    let_all_go::<Key, L>(links, p, left, first, Some(node), next);
-    entered
-}
+use orc_ordered_search::{Searched, enter_absent, enter_present};
 
 // One turn of a question.
 fn ask_turn<L: Links<Rule = Chain>>(links: &L, p: &mut L::Pass, root: u32, key: u64) -> Option<bool>
@@ -97,7 +34,7 @@ fn ask_turn<L: Links<Rule = Chain>>(links: &L, p: &mut L::Pass, root: u32, key: 
         } => {
             let yes = false;
             let entry = SetEntry::Asked { agent, key, yes };
-            if enter_absent(links, p, root, key, left, first, right, entry) {
+            if enter_absent::<Key, L>(links, p, root, key, left, first, right, entry) {
                 Some(false)
             } else {
                 None
@@ -112,7 +49,7 @@ fn ask_turn<L: Links<Rule = Chain>>(links: &L, p: &mut L::Pass, root: u32, key: 
         } => {
             let yes = true;
             let entry = SetEntry::Asked { agent, key, yes };
-            if enter_present(links, p, root, key, left, first, node, next, entry) {
+            if enter_present::<Key, L>(links, p, key, left, first, node, next, entry) {
                 Some(true)
             } else {
                 None

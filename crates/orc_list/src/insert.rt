@@ -17,14 +17,13 @@ ghost use Rattle.orc_list.specs.Inserts.{AddsAt, AddsNode, HoldsKey, Inserts, Ke
 ghost use Rattle.orc_ordered_search.specs.Searches.{HoldsIfAny, first_or, place_at, target_at};
 ghost use Rattle.orc_list.specs.Searches.{FindsAbsent};
 
-use crate::answer::enter_present;
 use crate::key::Key;
 use crate::search::search;
 use orc_chain_rule::{Chain, ChainNote};
 use orc_fault::Spent;
 use orc_heap::{Held, Links, Want};
 use orc_history::{ListRefused, SetEntry};
-use orc_ordered_search::{Searched, let_all_go, let_go, link_of, place_of};
+use orc_ordered_search::{Searched, enter_present, let_all_go, let_go, link_of, place_of};
 
 /// How a turn of an insert ended.
 #[derive(Clone, Copy, Debug, PartialEq, Eq)]
@@ -206,7 +205,7 @@ fn insert_turn<L: Links<Rule = Chain>>(
             let agent = links.agent(p);
             let yes = false;
             let entry = SetEntry::Added { agent, key, yes };
-            if enter_present(links, p, root, key, left, first, found, next, entry) {
+            if enter_present::<Key, L>(links, p, key, left, first, found, next, entry) {
                 (InsertTurn::Answered(false), node)
             } else {
                 (InsertTurn::Over, node)

@@ -1,12 +1,15 @@
 //! Keys as ranks.
 
+ghost use Rattle.orc_chain_rule.specs.declared.chain.ChainNote.{ChainNote};
+ghost use Rattle.orc_list.specs.Laws.Answering.{list_allows_absence, list_allows_presence, list_enters};
 ghost use Rattle.orc_list.specs.Laws.Ordered.{list_ordered};
 ghost use Rattle.orc_list.specs.Searches.{list_manner};
 ghost use Rattle.std.specs.Prelude.{false};
 
-use orc_chain_rule::Chain;
+use orc_chain_rule::{Chain, ChainNote};
 use orc_heap::{Held, Links};
-use orc_ordered_search::Rank;
+use orc_history::SetEntry;
+use orc_ordered_search::{Rank, SetRank};
 
 /// A key, by which the nodes of a list stand in order.
 #[derive(Clone, Copy)]
@@ -37,4 +40,21 @@ impl Rank for Key {
     }
 
     ghost ordered = { list_ordered };
+}
+
+impl SetRank for Key {
+    ghost key_rank = { λ key. key };
+
+    ghost noted = { λ entry. ChainNote.Entry entry };
+
+    #[inline(always)]
+    fn note(entry: SetEntry) -> ChainNote {
+        ChainNote::Entry(entry)
+    }
+
+    ghost enters = { list_enters };
+
+    ghost allows_absence = { list_allows_absence };
+
+    ghost allows_presence = { list_allows_presence };
 }

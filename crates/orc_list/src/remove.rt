@@ -14,14 +14,13 @@ ghost use Rattle.orc_list.specs.Searches.{FindsPresent, NextFollows};
 ghost use Rattle.orc_list.specs.Stops.{MarkStops};
 ghost use Rattle.orc_list.specs.Turns.{Marks, RemovesNode, RemovesTurn, TriesUnlink};
 
-use crate::answer::enter_absent;
 use crate::key::Key;
 use crate::search::search;
 use orc_chain_rule::{Chain, ChainNote};
 use orc_fault::Again;
 use orc_heap::{At, Held, Links, Want};
 use orc_history::SetEntry;
-use orc_ordered_search::{Searched, let_all_go, link_to, node_or, place_of};
+use orc_ordered_search::{Searched, enter_absent, let_all_go, link_to, node_or, place_of};
 
 // Marks the link of the node with the key. A swing that changes the mark alone is never refused.
 fn mark_node<L: Links<Rule = Chain>>(
@@ -148,7 +147,7 @@ fn remove_turn<L: Links<Rule = Chain>>(
         } => {
             let yes = false;
             let entry = SetEntry::Removed { agent, key, yes };
-            if enter_absent(links, p, root, key, left, first, right, entry) {
+            if enter_absent::<Key, L>(links, p, root, key, left, first, right, entry) {
                 Some(false)
             } else {
                 None

@@ -3,6 +3,7 @@ use Rattle.std.proofs.Common.{Bool, List, None, Option, Some, [], ap, arith, fal
 use Rattle.orc_heap.proofs.ByAnswer.{Tests-found, Tests-missed}
 use Rattle.orc_heap.proofs.Hands.{holds_of}
 use Rattle.orc_heap.proofs.Moved.{moves_in-append}
+use Rattle.orc_heap.proofs.Pieces.{puts_released}
 use Rattle.orc_heap.specs.Allowed.{AllAllowed}
 use Rattle.orc_heap.specs.Calls.{Misses, Tests, event_of}
 use Rattle.orc_heap.specs.Hands.{Hand, IsHeldApart}
@@ -20,9 +21,10 @@ use Rattle.orc_heap.specs.declared.holds.Want.{Want}
 use Rattle.orc_history.specs.declared.set.SetEntry.{SetEntry}
 use Rattle.orc_ordered_chains.specs.Chains.{IsRun, link_over}
 use Rattle.orc_ordered_search.specs.Reading.{Ordering}
-use Rattle.orc_ordered_search.specs.Turns.{Enters, Tires}
+use Rattle.orc_ordered_search.specs.Turns.{EntersFew, LoadsOnce, Tires}
+use Rattle.orc_ordered_search.specs.Ways.{IsFew}
 use Rattle.orc_ordered_search.proofs.Making.{made_after, made_on, missed, one_over, over_on}
-use Rattle.orc_ordered_search.proofs.Seen.{loads-append}
+use Rattle.orc_ordered_search.proofs.Seen.{few_more, loads-append}
 use Rattle.orc_ordered_search.specs.Searches.{AllGone, BeginsRun, InHand, LeadsOver, Quiet, first_or, left_place, node_of, place_at, target_at}
 use Rattle.orc_ordered_search.proofs.Held.{in_hand_on}
 use Rattle.orc_ordered_search.proofs.Quiets.{silent_one}
@@ -46,28 +48,43 @@ missed_over {N} ord s t u y own place link q still linked here g fresh all_u =
 
 -- one load that still finds the link enters the answer, and then all nodes are let go; or the link moved
 pub entered_at : {N : Type 0} (ord : Ordering N) (s t u y : Seat N) (own : List (Event N)) (place : Place) (link : Link) (noted : N) (entry : SetEntry)
-    (at : At) (want : Want) (done : Bool) (q : Quiet ord.reading s own t) → ord.reading.entries_in (Some noted) ≡ entry ∷ []
+    (at : At) (want : Want) (done : Bool) (q : Quiet ord.reading s own t) → IsFew 2 own → ord.reading.entries_in (Some noted) ≡ entry ∷ []
     → ShowsOrMoved ord.reading.numbers place link s t q.puts.part → IsLinkedPlace place (heap_of ord.reading.numbers t)
     → place_in t.slots at ≡ place → link_in t.slots want ≡ link → Tests at want (Some noted) t done u
-    → AllGone s.slots u y → AllAllowed ord.may [] u.seen → Enters ord.reading entry s done y
-entered_at {N} ord s t u y own place link noted entry at want done q enters still linked place_is link_is tests g all_u = by done refl
+    → AllGone s.slots u y → AllAllowed ord.may [] u.seen → EntersFew ord.reading entry s done y
+unfolding missed_over
+entered_at {N} ord s t u y own place link noted entry at want done q few enters still linked place_is link_is tests g all_u = by done refl
   where
-    by : (b : Bool) → done ≡ b → Enters ord.reading entry s b y
+    by : (b : Bool) → done ≡ b → EntersFew ord.reading entry s b y
     by true is =
         let e : Event N = event_of t (Look (place_in t.slots at) (link_in t.slots want)) (Some noted) in
-        let p : Puts t (e ∷ []) u = Tests-found tests is in
-        record {
-          own = own ++ e ∷ [];
-          made = made_on ord.reading 0 s u y (own ++ e ∷ []) (entry ∷ [])
-              (made_after ord.reading 0 s t u own (e ∷ []) (entry ∷ []) q p (rw enters refl) refl) g.puts;
-          slots = g.slots_are;
-          fresh = g.fresh ∙ (tests.fresh ∙ q.fresh);
-        }
+        let p : Puts t (e ∷ []) u = Tests-found tests is in (
+          record {
+            own = own ++ e ∷ [];
+            made = made_on ord.reading 0 s u y (own ++ e ∷ []) (entry ∷ [])
+                (made_after ord.reading 0 s t u own (e ∷ []) (entry ∷ []) q p (rw enters refl) refl) g.puts;
+            slots = g.slots_are;
+            fresh = g.fresh ∙ (tests.fresh ∙ q.fresh);
+          },
+          few_more 2 3 own (e ∷ []) few (omega arith),
+        )
     by false is =
         let miss = Tests-missed tests is in
         let here : Misses place link t u =
         subst (λ (p : Place). Misses p link t u) place_is (subst (λ (l : Link). Misses (place_in t.slots at) l t u) link_is miss) in
-        missed_over ord s t u y own place link q still linked here g (tests.fresh) all_u
+        let e : Event N = event_of t (Miss place link here.found) None in (
+          missed_over ord s t u y own place link q still linked here g (tests.fresh) all_u,
+          few_more 2 3 own (e ∷ []) few (omega arith),
+        )
+
+-- it is one load
+pub tests_once : {N : Type 0} (at : At) (want : Want) (noted : Option N) (done : Bool) (s t u : Seat N) → Tests at want noted s done t → Puts t [] u
+    → LoadsOnce s u
+tests_once {N} at want noted done s t u tests gone = by done refl
+  where
+    by : (b : Bool) → done ≡ b → LoadsOnce s u
+    by true is = record { event = _; load = tt; puts = puts_released s t u _ (Tests-found tests is) gone }
+    by false is = record { event = _; load = tt; puts = puts_released s t u _ (Tests-missed tests is).puts gone }
 
 -- what is in hand stays so at the load
 pub tested_hand : {N : Type 0} (ord : Ordering N) (slots : Slots) (left first at next : Option Hold) (where_at : At) (want : Want) (noted : Option N)

@@ -11,6 +11,7 @@ pub mod Alone
 pub mod Making
 pub mod Tiring
 pub mod Entering
+pub mod Answering
 pub mod Marking
 pub mod Removing
 pub mod Linking

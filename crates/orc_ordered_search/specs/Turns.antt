@@ -12,7 +12,7 @@ use Rattle.orc_heap.specs.declared.events.Place.TheVariants.{Next}
 use Rattle.orc_history.specs.declared.set.SetEntry.{SetEntry}
 use Rattle.orc_ordered_chains.specs.Chains.{link_over}
 use Rattle.orc_ordered_search.specs.Reading.{Reading}
-use Rattle.orc_ordered_search.specs.Ways.{AreLoads}
+use Rattle.orc_ordered_search.specs.Ways.{AreLoads, IsFew, IsLoad}
 
 module _ {N : Type 0} where
   -- what the pass did: its own events enter these entries, and give so many nodes
@@ -47,6 +47,17 @@ module _ {N : Type 0} where
   abbrev pub Enters : Reading N → SetEntry → Seat N → Bool → Seat N → Type 0
   Enters r entry s true t = Answers r s entry t
   Enters r entry s false t = Tires r 1 s t
+
+  -- the same, by at most two events for each node at whose link it looked, and three
+  abbrev pub EntersFew : Reading N → SetEntry → Seat N → Bool → Seat N → Type 0
+  EntersFew r entry s true t = (a : Answers r s entry t) × IsFew 3 a.own
+  EntersFew r entry s false t = (a : Tires r 1 s t) × IsFew 3 a.own
+
+  -- the pass made one load
+  pub record LoadsOnce (s t : Seat N) : Type 0 where
+    pub event : Event N
+    pub load : IsLoad event.act
+    pub puts : Puts s (event ∷ []) t
 
   -- at most so many turns of a call that keeps no node: one answered, or all are over
   abbrev pub AnswersTurns : Reading N → (Bool → SetEntry) → ℕ → Seat N → Result Bool AgainFault → Seat N → Type 0

@@ -37,6 +37,7 @@ use Rattle.orc_ordered_search.proofs.Seen.{loads-append}
 use Rattle.orc_split_rule.proofs.Later.{may_fits}
 use Rattle.orc_split_rule.specs.SplitDiscipline.{IsSize, SplitHolds, SplitMay, size_of}
 use Rattle.orc_split_rule.specs.SplitOrder.{bucket_of, key_place, split_order}
+use Rattle.orc_ordered_search.specs.Turns.{LoadsOnce}
 use Rattle.orc_split_rule.specs.declared.split.SplitNote.{SplitNote}
 use Rattle.orc_split_set.specs.Crowds.{SeesOwn}
 use Rattle.orc_split_set.specs.Looks.{HasStart, LoadsFew, MayEnd, ReachesIn, StartsAt, count_of, root_loads, search_loads}
@@ -171,11 +172,9 @@ look_grows root s t Moved looks =
     let (one, two, other, slots, puts, some) = looks.tells in
     puts_grow s t _ puts
 
--- a second load, and the release of what was in hand
-pub tests_few : (at : At) (wanted : Want) (noted : Option SplitNote) (done : Bool) (s t u : Seat SplitNote) → Tests at wanted noted s done t → Puts t [] u
-    → LoadsFew 1 s u
-tests_few at wanted noted true s t u k gone = few_of 1 s u _ (puts_released s t u _ k.puts gone) (tt, tt) (omega arith)
-tests_few at wanted noted false s t u k gone = few_of 1 s u _ (puts_released s t u _ k.puts.puts gone) (tt, tt) (omega arith)
+-- one load
+pub once_few : (s t : Seat SplitNote) → LoadsOnce s t → LoadsFew 1 s t
+once_few s t k = few_of 1 s t (k.event ∷ []) k.puts (k.load, tt) (omega arith)
 
 -- a search ends no later than it may
 

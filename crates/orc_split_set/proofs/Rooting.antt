@@ -37,7 +37,7 @@ use Rattle.orc_split_set.specs.SplitSearches.{split_reading}
 use Rattle.orc_split_set.specs.declared.bucket.Rooted.{Rooted}
 use Rattle.orc_split_set.specs.declared.bucket.Rooted.TheVariants.{Done, Moved, NoNode, Spent}
 use Rattle.orc_split_set.proofs.Anchoring.{set_puts}
-use Rattle.orc_split_set.proofs.Asking.{dummy_of_place}
+use Rattle.orc_split_set.specs.Laws.Placed.{dummy_of_place}
 use Rattle.orc_split_set.proofs.Ordered.{split_ordering}
 
 -- what was made in one piece and in the next

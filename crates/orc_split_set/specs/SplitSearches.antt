@@ -75,11 +75,3 @@ pub record SizeFound (n : HeapNumbers) (size : ℕ) (s t : Seat SplitNote) : Typ
 abbrev pub ReadsSizeIn : HeapNumbers → ℕ → Seat SplitNote → Result ℕ AgainFault → Seat SplitNote → Type 0
 ReadsSizeIn n turns s (Ok size) t = (turns ≢ 0) × SizeFound n size s t
 ReadsSizeIn n turns s (Err again) t = Tires (split_reading n) turns s t
-
--- an answer of this agent that the key is absent
-abbrev pub IsAbsence : ℕ → ℕ → SetEntry → Type 0
-IsAbsence agent key entry = (entry ≡ Removed agent key false) ⊎ (entry ≡ Asked agent key false)
-
--- and one that it is present
-abbrev pub IsPresence : ℕ → ℕ → SetEntry → Type 0
-IsPresence agent key entry = (entry ≡ Added agent key false) ⊎ (entry ≡ Asked agent key true)

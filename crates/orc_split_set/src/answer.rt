@@ -1,4 +1,4 @@
-//! Answers that change nothing: one load that still finds the link on which the answer rests.
+//! Answers whether a key is present.
 
 ghost use Rattle.std.specs.Prelude.{◌≡◌, ◌<◌, ◌≤◌, ◌≢◌, ◌+◌, ◌*◌, ◌-◌, ℕ, Ok, Err, List, Option};
 ghost use mathlib.Core.List.{IsPrefix};
@@ -6,87 +6,23 @@ ghost use Rattle.orc_heap.specs.Seats.{Seat, heap_of};
 ghost use Rattle.orc_heap.specs.declared.events.Place.{Place};
 ghost use Rattle.orc_history.specs.declared.set.SetEntry.{SetEntry};
 ghost use Rattle.orc_ordered_chains.specs.Chains.{IsPath};
-ghost use Rattle.orc_ordered_search.specs.Searches.{FindsAbsent, FindsPresent, HasRoom};
-ghost use Rattle.orc_ordered_search.specs.Turns.{AnswersTurn, AnswersTurns, Enters};
+ghost use Rattle.orc_ordered_search.specs.Searches.{HasRoom};
+ghost use Rattle.orc_ordered_search.specs.Turns.{AnswersTurn, AnswersTurns};
 ghost use Rattle.orc_split_rule.specs.SplitDiscipline.{greatest};
 ghost use Rattle.orc_split_rule.specs.SplitOrder.{key_place};
 ghost use Rattle.orc_split_rule.specs.declared.split.SplitNote.{SplitNote};
 ghost use Rattle.orc_split_set.specs.Looks.{HasStart, LoadsFew, MayEnd, ReachesIn, bucket_now, root_loads, search_loads};
-ghost use Rattle.orc_split_set.specs.SplitSearches.{BeginsAt, IsAbsence, IsPresence, split_reading};
+ghost use Rattle.orc_split_set.specs.SplitSearches.{BeginsAt, split_reading};
 
 use crate::begin::{Begun, begin};
 use crate::node::NewNode;
 use crate::order::SplitPlace;
 use crate::search::search_for;
 use orc_fault::Again;
-use orc_heap::{At, Held, Links};
+use orc_heap::{Held, Links};
 use orc_history::SetEntry;
-use orc_ordered_search::{Searched, let_all_go, link_of, link_to, place_of};
-use orc_split_rule::{Split, SplitNote};
-
-// Enters an answer that rests on the key's absence, if the left place still shows its link.
-pub(crate) fn enter_absent<L: Links<Rule = Split>>(
-    links: &L,
-    p: &mut L::Pass,
-    key: u64,
-    left: Option<Held>,
-    first: Option<Held>,
-    right: Option<Held>,
-    entry: SetEntry,
-) -> bool
-    requires pass { L.belongs links.now p.old }
-    requires roots { 0 < (L.numbers links.now).roots }
-    requires entry { IsAbsence (L.seat links.now p.old).agent key entry }
-    requires absent { (start : Place) × (passed : ℕ) × (s : Seat SplitNote)
-        × FindsAbsent (split_reading (L.numbers links.now)) start (key_place key) passed left first right s (L.seat links.now p.old) }
-    ensures pass { L.belongs links.now p.new }
-    ensures later { IsPrefix (L.journal p.old) (L.journal p.new) }
-    ensures entered { (start : Place) (passed : ℕ) (s : Seat SplitNote)
-        → FindsAbsent (split_reading (L.numbers links.now)) start (key_place key) passed left first right s (L.seat links.now p.old)
-        → Enters (split_reading (L.numbers links.now)) entry s result (L.seat links.now p.new) }
-    ensures few { LoadsFew 1 (L.seat links.now p.old) (L.seat links.now p.new) }
-{
-    let entered = links.same(
-        p,
-        &place_of(0, &left),
-        &link_of(&first, &right),
-        Some(SplitNote::Entry(entry)),
-    );
-    let_all_go::<SplitPlace, L>(links, p, left, first, right, None);
-    entered
-}
-
-// Enters an answer that rests on the key's presence, if its node still shows its unmarked link.
-pub(crate) fn enter_present<L: Links<Rule = Split>>(
-    links: &L,
-    p: &mut L::Pass,
-    key: u64,
-    left: Option<Held>,
-    first: Option<Held>,
-    node: Held,
-    next: Option<Held>,
-    entry: SetEntry,
-) -> bool
-    requires pass { L.belongs links.now p.old }
-    requires entry { IsPresence (L.seat links.now p.old).agent key entry }
-    requires present { (start : Place) × (passed : ℕ) × (s : Seat SplitNote)
-        × FindsPresent (split_reading (L.numbers links.now)) start (key_place key) passed left first node next s (L.seat links.now p.old) }
-    ensures pass { L.belongs links.now p.new }
-    ensures later { IsPrefix (L.journal p.old) (L.journal p.new) }
-    ensures entered { (start : Place) (passed : ℕ) (s : Seat SplitNote)
-        → FindsPresent (split_reading (L.numbers links.now)) start (key_place key) passed left first node next s (L.seat links.now p.old)
-        → Enters (split_reading (L.numbers links.now)) entry s result (L.seat links.now p.new) }
-    ensures few { LoadsFew 1 (L.seat links.now p.old) (L.seat links.now p.new) }
-{
-    let entered = links.same(
-        p,
-        &At::Node(&node),
-        &link_to(&next, false),
-        Some(SplitNote::Entry(entry)),
-    );
-    let_all_go::<SplitPlace, L>(links, p, left, first, Some(node), next);
-    entered
-}
+use orc_ordered_search::{Searched, enter_absent, enter_present};
+use orc_split_rule::Split;
 
 // One turn of a question, which begins at the dummy in hand, or else at root 0.
 fn ask_from<L: Links<Rule = Split>>(
@@ -120,7 +56,7 @@ fn ask_from<L: Links<Rule = Split>>(
         } => {
             let yes = false;
             let entry = SetEntry::Asked { agent, key, yes };
-            if enter_absent(links, p, key, left, first, right, entry) {
+            if enter_absent::<SplitPlace, L>(links, p, 0, key, left, first, right, entry) {
                 Some(false)
             } else {
                 None
@@ -135,7 +71,7 @@ fn ask_from<L: Links<Rule = Split>>(
         } => {
             let yes = true;
             let entry = SetEntry::Asked { agent, key, yes };
-            if enter_present(links, p, key, left, first, node, next, entry) {
+            if enter_present::<SplitPlace, L>(links, p, key, left, first, node, next, entry) {
                 Some(true)
             } else {
                 None

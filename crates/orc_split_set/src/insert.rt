@@ -22,7 +22,6 @@ ghost use Rattle.orc_split_set.specs.NewNodes.{IsPossible, entries_for, kind_of,
 ghost use Rattle.orc_split_set.specs.SplitSearches.{BeginsAt, split_reading};
 ghost use Rattle.orc_split_set.specs.Stops.{IsUnnamed};
 
-use crate::answer::enter_present;
 use crate::begin::{Begun, begin};
 use crate::node::NewNode;
 use crate::order::SplitPlace;
@@ -30,7 +29,9 @@ use crate::search::search_for;
 use orc_fault::Spent;
 use orc_heap::{Held, Links, Want};
 use orc_history::{ListRefused, SetEntry};
-use orc_ordered_search::{InsertTurn, Searched, let_all_go, let_go, link_of, place_of};
+use orc_ordered_search::{
+    InsertTurn, Searched, enter_present, let_all_go, let_go, link_of, place_of,
+};
 use orc_split_rule::Split;
 
 // The node, if there is one.
@@ -235,7 +236,7 @@ fn insert_from<L: Links<Rule = Split>>(
         } => {
             let yes = false;
             let entry = SetEntry::Added { agent, key, yes };
-            if enter_present(links, p, key, left, first, found, next, entry) {
+            if enter_present::<SplitPlace, L>(links, p, key, left, first, found, next, entry) {
                 (InsertTurn::Answered(false, passed), node)
             } else {
                 (InsertTurn::Over, node)

@@ -1,13 +1,16 @@
 //! Split order.
 
 ghost use Rattle.std.specs.Prelude.{◌≡◌, ◌≢◌, ◌<◌, true, false};
-ghost use Rattle.orc_split_rule.specs.SplitOrder.{reversed};
+ghost use Rattle.orc_split_rule.specs.SplitOrder.{key_place, reversed};
+ghost use Rattle.orc_split_rule.specs.declared.split.SplitNote.{SplitNote};
+ghost use Rattle.orc_split_set.specs.Laws.Answering.{split_allows_absence, split_allows_presence, split_enters};
 ghost use Rattle.orc_split_set.specs.Laws.Ordered.{split_ordered};
 ghost use Rattle.orc_split_set.specs.SplitSearches.{rank_of, split_manner};
 
 use orc_heap::{Held, Links};
-use orc_ordered_search::Rank;
-use orc_split_rule::Split;
+use orc_history::SetEntry;
+use orc_ordered_search::{Rank, SetRank};
+use orc_split_rule::{Split, SplitNote};
 
 /// A place in split order: that of this key, or of the dummy of this bucket.
 #[derive(Clone, Copy)]
@@ -57,4 +60,21 @@ impl Rank for SplitPlace {
     }
 
     ghost ordered = { split_ordered };
+}
+
+impl SetRank for SplitPlace {
+    ghost key_rank = { key_place };
+
+    ghost noted = { λ entry. SplitNote.Entry entry };
+
+    #[inline(always)]
+    fn note(entry: SetEntry) -> SplitNote {
+        SplitNote::Entry(entry)
+    }
+
+    ghost enters = { split_enters };
+
+    ghost allows_absence = { split_allows_absence };
+
+    ghost allows_presence = { split_allows_presence };
 }

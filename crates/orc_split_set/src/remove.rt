@@ -14,7 +14,6 @@ ghost use Rattle.orc_split_rule.specs.SplitOrder.{key_place, split_order};
 ghost use Rattle.orc_split_rule.specs.declared.split.SplitNote.{SplitNote};
 ghost use Rattle.orc_split_set.specs.SplitSearches.{BeginsAt, split_reading};
 
-use crate::answer::enter_absent;
 use crate::begin::{Begun, begin};
 use crate::node::NewNode;
 use crate::order::SplitPlace;
@@ -22,7 +21,7 @@ use crate::search::search_for;
 use orc_fault::Again;
 use orc_heap::{At, Held, Links, Want};
 use orc_history::SetEntry;
-use orc_ordered_search::{Searched, let_all_go, link_to, node_or, place_of};
+use orc_ordered_search::{Searched, enter_absent, let_all_go, link_to, node_or, place_of};
 use orc_split_rule::{Split, SplitNote};
 
 // Marks the link of the node with the key. A swing that changes the mark alone is never refused.
@@ -147,7 +146,7 @@ fn remove_from<L: Links<Rule = Split>>(
         } => {
             let yes = false;
             let entry = SetEntry::Removed { agent, key, yes };
-            if enter_absent(links, p, key, left, first, right, entry) {
+            if enter_absent::<SplitPlace, L>(links, p, 0, key, left, first, right, entry) {
                 Some(false)
             } else {
                 None

@@ -2,6 +2,8 @@
 use Rattle.std.proofs.Common.{Bool, false, subst, true, ℕ, ◌∙◌}
 use Rattle.orc_history.specs.declared.set.SetEntry.TheVariants.{Added}
 use Rattle.orc_list.specs.Turns.{Enters}
+use Rattle.orc_heap.specs.declared.events.Place.TheVariants.{Root}
+use Rattle.orc_list.proofs.Answering.{list_entered}
 use Rattle.orc_list.proofs.Adding.{keeps_answer, keeps_on}
 use Rattle.orc_ordered_search.proofs.Inserting.{has_room}
 use Rattle.orc_list.proofs.Making.{found_over}
@@ -42,6 +44,9 @@ returns-in-Absent-clause-worn g c = λ why is.
     part_of_later g.L.Links g.met.L.Links.steps_add g.met.L.Links.seen_is d c.args.p.now c.search.new.p c.add_at.new.p _ c.requires.pass e.pass q.puts q.some
     e.later c.add_at.ensures.later (λ agent. g.L.Links.worn d agent why) (c.add_at.ensures.worn why is)
 
+pub enter_present-requires-clause-present : goal.enter_present-requires-clause-present
+enter_present-requires-clause-present g c = (Root c.args.root, 0, g.L.Links.seat c.args.links.now c.args.p.now, c.in-Present.ensures.found)
+
 pub returns-then-enter_present-clause-inserted : goal.returns-then-enter_present-clause-inserted
 returns-then-enter_present-clause-inserted g c = λ slots room k.
     let d = c.args.links.now in
@@ -51,7 +56,7 @@ returns-then-enter_present-clause-inserted g c = λ slots room k.
     let u = g.L.Links.seat d c.enter_present.new.p in
     let agent = c.agent-agent.ensures ∙ c.in-Present.ensures.found.behind.quiet.puts.agent in
     let done = subst (λ (b : Bool). Enters (Added c.agent-agent.result a.key false) s b u) c.if-enter_present.true
-    (c.enter_present.ensures.entered s c.in-Present.ensures.found) in
+    (list_entered n _ s u _ (c.enter_present.ensures.entered (Root a.root) 0 s c.in-Present.ensures.found)) in
     let (own, ends) = keeps_answer n a.key a.node slots (Added s.agent a.key false) s u k
     (subst (λ (x : ℕ). Enters (Added x a.key false) s true u) agent done) in
     (own, ends, λ yes. cc)
@@ -65,5 +70,5 @@ returns-else-enter_present-clause-inserted g c = λ slots room k.
     let u = g.L.Links.seat d c.enter_present.new.p in
     let e = c.enter_present.ensures in
     let over = subst (λ (b : Bool). Enters (Added c.agent-agent.result a.key false) s b u) c.if-enter_present.false
-    (e.entered s c.in-Present.ensures.found) in
+    (list_entered n _ s u _ (e.entered (Root a.root) 0 s c.in-Present.ensures.found)) in
     keeps_on n a.key a.node slots s u k over (g.met.L.Links.obeys d a.p.now c.requires.pass) (g.met.L.Links.allowed d c.enter_present.new.p e.pass)

@@ -1,7 +1,10 @@
 -- By what the search found.
-use Rattle.std.proofs.Common.{Bool, [], append-nil, subst}
+use Rattle.std.proofs.Common.{Bool, [], append-nil, false, subst, true, ℕ}
+use Rattle.orc_heap.specs.declared.events.Place.TheVariants.{Root}
+use Rattle.orc_history.specs.declared.set.SetEntry.TheVariants.{Removed}
 use Rattle.orc_list.specs.Causes.{HasWorn}
-use Rattle.orc_list.specs.Turns.{RemovesNode, TakesOut}
+use Rattle.orc_list.specs.Turns.{Enters, RemovesNode, TakesOut}
+use Rattle.orc_list.proofs.Answering.{list_entered}
 use Rattle.orc_list.proofs.Making.{found_over}
 use Rattle.orc_list.proofs.Marking.{worn_wider}
 use Rattle.orc_list.proofs.Tiring.{either_wider}
@@ -12,8 +15,23 @@ returns-in-Over-clause-removed g c =
     let d = c.args.links.now in
     found_over (g.L.Links.numbers d) (g.L.Links.seat d c.args.p.now) (g.L.Links.seat d c.search.new.p) c.in-Over.ensures.found
 
+pub enter_absent-requires-clause-absent : goal.enter_absent-requires-clause-absent
+enter_absent-requires-clause-absent g c = (Root c.args.root, 0, g.L.Links.seat c.args.links.now c.args.p.now, c.in-Absent.ensures.found)
+
+pub returns-then-enter_absent-clause-removed : goal.returns-then-enter_absent-clause-removed
+returns-then-enter_absent-clause-removed g c =
+    let d = c.args.links.now in
+    let s = g.L.Links.seat d c.args.p.now in
+    let u = g.L.Links.seat d c.enter_absent.new.p in
+    subst (λ (i : ℕ). Enters (Removed i c.args.key false) s true u) c.agent-agent.ensures
+    (list_entered (g.L.Links.numbers d) (Removed c.agent-agent.result c.args.key false) s u true (c.if-enter_absent.ensures.entered (Root c.args.root) 0 s c.in-Absent.ensures.found))
+
 pub returns-else-enter_absent-clause-removed : goal.returns-else-enter_absent-clause-removed
-returns-else-enter_absent-clause-removed g c = c.if-enter_absent.ensures.entered (g.L.Links.seat c.args.links.now c.args.p.now) c.in-Absent.ensures.found
+returns-else-enter_absent-clause-removed g c =
+    let d = c.args.links.now in
+    let s = g.L.Links.seat d c.args.p.now in
+    list_entered (g.L.Links.numbers d) (Removed c.agent-agent.result c.args.key false) s (g.L.Links.seat d c.enter_absent.new.p) false
+    (c.if-enter_absent.ensures.entered (Root c.args.root) 0 s c.in-Absent.ensures.found)
 
 pub returns-then-take_out-clause-removed : goal.returns-then-take_out-clause-removed
 returns-then-take_out-clause-removed g c =

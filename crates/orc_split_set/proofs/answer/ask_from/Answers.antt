@@ -1,5 +1,5 @@
 -- By what the search found.
-use Rattle.std.proofs.Common.{List, Option, ap, inr, subst, sym, false, true, ℕ, ◌+◌, ◌∙◌}
+use Rattle.std.proofs.Common.{List, Option, ap, inr, refl, subst, sym, false, true, ℕ, ◌+◌, ◌∙◌}
 use Rattle.orc_heap.specs.Seats.{Seat, heap_of}
 use Rattle.orc_heap.specs.declared.events.Place.{Place}
 use Rattle.orc_history.specs.declared.set.SetEntry.TheVariants.{Asked}
@@ -12,7 +12,7 @@ use Rattle.orc_split_rule.specs.declared.split.SplitNote.{SplitNote}
 use Rattle.orc_split_set.specs.Looks.{LoadsFew, MayEnd, search_loads}
 use Rattle.orc_split_set.specs.SplitSearches.{BeginsAt, split_reading}
 use Rattle.orc_split_set.proofs.Crowding.{own_not_moved, seen_grows}
-use Rattle.orc_split_set.proofs.Looking.{absent_few, present_few}
+use Rattle.orc_split_set.proofs.Looking.{absent_few, once_few, present_few}
 use Rattle.orc_split_set.proofs.answer.ask_from.Given.{Over}
 use Rattle.orc_split_set.proofs.answer.ask_from.Goals.{After-enter_absent, After-enter_present}
 use Rattle.orc_split_set.proofs.answer.ask_from.Goals as goal
@@ -33,7 +33,7 @@ few_absent g c = λ start s room b nodes to path ends.
     (g.L.Links.journal c.enter_absent.new.p) t u e.later (g.met.L.Links.seen_is d c.search_for.new.p x.ensures.pass)
     (g.met.L.Links.seen_is d c.enter_absent.new.p e.pass) in
     absent_few (g.L.Links.numbers d) start c.args.key s t u (g.met.L.Links.obeys d c.search_for.new.p x.ensures.pass)
-    (g.met.L.Links.allowed d c.search_for.new.p x.ensures.pass) grows e.few nodes to path ends x.passed x.left x.first x.right
+    (g.met.L.Links.allowed d c.search_for.new.p x.ensures.pass) grows (once_few t u e.load) nodes to path ends x.passed x.left x.first x.right
     (x.ensures.found start s room b)
 
 few_present : (g : Over) (c : After-enter_present g) → let d = c.args.links.now in let n = g.L.Links.numbers d in
@@ -50,8 +50,11 @@ few_present g c = λ start s room b nodes to path ends.
     (g.L.Links.journal c.enter_present.new.p) t u e.later (g.met.L.Links.seen_is d c.search_for.new.p x.ensures.pass)
     (g.met.L.Links.seen_is d c.enter_present.new.p e.pass) in
     present_few (g.L.Links.numbers d) start c.args.key s t u (g.met.L.Links.obeys d c.search_for.new.p x.ensures.pass)
-    (g.met.L.Links.allowed d c.search_for.new.p x.ensures.pass) grows e.few nodes to path ends x.passed x.left x.first x.node x.next
+    (g.met.L.Links.allowed d c.search_for.new.p x.ensures.pass) grows (once_few t u e.load) nodes to path ends x.passed x.left x.first x.node x.next
     (x.ensures.found start s room b)
+
+pub enter_absent-requires-clause-root : goal.enter_absent-requires-clause-root
+enter_absent-requires-clause-root g c = (c.requires.roots, refl)
 
 pub enter_absent-requires-clause-entry : goal.enter_absent-requires-clause-entry
 enter_absent-requires-clause-entry g c =
@@ -84,23 +87,23 @@ pub returns-then-enter_absent-clause-asked : goal.returns-then-enter_absent-clau
 returns-then-enter_absent-clause-asked g c = λ start s room b.
     let d = c.args.links.now in
     let agent = c.agent-agent.ensures ∙ b.begins.agent in
-    let done = c.if-enter_absent.ensures.entered start c.in-Absent.passed s (c.in-Absent.ensures.found start s room b) in
+    let done = (c.if-enter_absent.ensures.entered start c.in-Absent.passed s (c.in-Absent.ensures.found start s room b)).0 in
     subst (λ (i : ℕ). Enters (split_reading (g.L.Links.numbers d)) (Asked i c.args.key false) s true (g.L.Links.seat d c.enter_absent.new.p)) agent done
 
 pub returns-else-enter_absent-clause-asked : goal.returns-else-enter_absent-clause-asked
 returns-else-enter_absent-clause-asked g c = λ start s room b.
-    c.if-enter_absent.ensures.entered start c.in-Absent.passed s (c.in-Absent.ensures.found start s room b)
+    (c.if-enter_absent.ensures.entered start c.in-Absent.passed s (c.in-Absent.ensures.found start s room b)).0
 
 pub returns-then-enter_present-clause-asked : goal.returns-then-enter_present-clause-asked
 returns-then-enter_present-clause-asked g c = λ start s room b.
     let d = c.args.links.now in
     let agent = c.agent-agent.ensures ∙ b.begins.agent in
-    let done = c.if-enter_present.ensures.entered start c.in-Present.passed s (c.in-Present.ensures.found start s room b) in
+    let done = (c.if-enter_present.ensures.entered start c.in-Present.passed s (c.in-Present.ensures.found start s room b)).0 in
     subst (λ (i : ℕ). Enters (split_reading (g.L.Links.numbers d)) (Asked i c.args.key true) s true (g.L.Links.seat d c.enter_present.new.p)) agent done
 
 pub returns-else-enter_present-clause-asked : goal.returns-else-enter_present-clause-asked
 returns-else-enter_present-clause-asked g c = λ start s room b.
-    c.if-enter_present.ensures.entered start c.in-Present.passed s (c.in-Present.ensures.found start s room b)
+    (c.if-enter_present.ensures.entered start c.in-Present.passed s (c.in-Present.ensures.found start s room b)).0
 
 pub returns-in-Over-clause-few : goal.returns-in-Over-clause-few
 returns-in-Over-clause-few g c = λ start s room b nodes to path ends sees.

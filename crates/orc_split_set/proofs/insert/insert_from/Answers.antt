@@ -82,7 +82,7 @@ returns-then-enter_present-clause-inserted g c = λ start slots s room k b.
     let key = c.args.key in
     let f = c.in-Present.ensures.found start s (has_room (split_reading n) key 1 c.args.node slots s room k) b in
     let u = g.L.Links.seat d c.enter_present.new.p in
-    let done = c.if-enter_present.ensures.entered start c.in-Present.passed s f in
+    let done = (c.if-enter_present.ensures.entered start c.in-Present.passed s f).0 in
     keeps_answer (split_reading n) key 1 c.args.node slots (Added s.agent key false) s u k
     (subst (λ (i : ℕ). Enters (split_reading n) (Added i key false) s true u) (c.agent-agent.ensures ∙ b.begins.agent) done)
 
@@ -92,7 +92,7 @@ returns-else-enter_present-clause-inserted g c = λ start slots s room k b.
     let n = g.L.Links.numbers d in
     let f = c.in-Present.ensures.found start s (has_room (split_reading n) c.args.key 1 c.args.node slots s room k) b in
     let u = g.L.Links.seat d c.enter_present.new.p in
-    let over = c.if-enter_present.ensures.entered start c.in-Present.passed s f in
+    let over = (c.if-enter_present.ensures.entered start c.in-Present.passed s f).0 in
     let all = g.met.L.Links.allowed d c.enter_present.new.p c.enter_present.ensures.pass in
     keeps_on (split_ordering n) c.args.key 1 c.args.node slots s u k over (seen_holds (split_ordering n) s u over.own over.over.made.puts all) all
 

@@ -1,10 +1,13 @@
 -- By what the search found.
-use Rattle.std.proofs.Common.{ap, inl, subst, sym, false, true, ℕ, ◌∙◌}
+use Rattle.std.proofs.Common.{ap, inl, refl, subst, sym, false, true, ℕ, ◌∙◌}
 use Rattle.orc_history.specs.declared.set.SetEntry.TheVariants.{Removed}
 use Rattle.orc_ordered_search.specs.Turns.{Enters}
 use Rattle.orc_ordered_search.proofs.Making.{found_over}
 use Rattle.orc_split_set.specs.SplitSearches.{split_reading}
 use Rattle.orc_split_set.proofs.remove.remove_from.Goals as goal
+
+pub enter_absent-requires-clause-root : goal.enter_absent-requires-clause-root
+enter_absent-requires-clause-root g c = (c.requires.roots, refl)
 
 pub enter_absent-requires-clause-entry : goal.enter_absent-requires-clause-entry
 enter_absent-requires-clause-entry g c =
@@ -26,12 +29,12 @@ pub returns-then-enter_absent-clause-removed : goal.returns-then-enter_absent-cl
 returns-then-enter_absent-clause-removed g c = λ start s room b.
     let d = c.args.links.now in
     let agent = c.agent-agent.ensures ∙ b.begins.agent in
-    let done = c.if-enter_absent.ensures.entered start c.in-Absent.passed s (c.in-Absent.ensures.found start s room b) in
+    let done = (c.if-enter_absent.ensures.entered start c.in-Absent.passed s (c.in-Absent.ensures.found start s room b)).0 in
     subst (λ (i : ℕ). Enters (split_reading (g.L.Links.numbers d)) (Removed i c.args.key false) s true (g.L.Links.seat d c.enter_absent.new.p)) agent done
 
 pub returns-else-enter_absent-clause-removed : goal.returns-else-enter_absent-clause-removed
 returns-else-enter_absent-clause-removed g c = λ start s room b.
-    c.if-enter_absent.ensures.entered start c.in-Absent.passed s (c.in-Absent.ensures.found start s room b)
+    (c.if-enter_absent.ensures.entered start c.in-Absent.passed s (c.in-Absent.ensures.found start s room b)).0
 
 pub take_out-requires-clause-present : goal.take_out-requires-clause-present
 take_out-requires-clause-present g c =

@@ -13,7 +13,7 @@ use Rattle.orc_split_rule.specs.declared.split.SplitNote.{SplitNote}
 use Rattle.orc_split_rule.specs.declared.split.SplitNote.TheVariants.{Entry}
 use Rattle.orc_split_set.specs.SplitSearches.{split_reading}
 use Rattle.orc_split_set.proofs.Allowing.{follows_at}
-use Rattle.orc_split_set.proofs.Asking.{key_of_place}
+use Rattle.orc_split_set.specs.Laws.Placed.{key_of_place}
 use Rattle.orc_split_set.proofs.Ordered.{split_ordering}
 use Rattle.orc_split_set.proofs.remove.take_out.Given.{Over}
 use Rattle.orc_split_set.proofs.remove.take_out.Goals.{After-mark_node}

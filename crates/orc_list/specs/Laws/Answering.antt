@@ -1,0 +1,50 @@
+-- The answers that change nothing are allowed where a search found the key absent or present.
+use Rattle.std.proofs.Common.{List, Option, Some, [], false, inl, inr, refl, subst, sym, ℕ, ◌∷◌, ◌≡◌}
+use Rattle.orc_heap.specs.Allowed.{AllowedLater}
+use Rattle.orc_heap.specs.Heap.{HeapNumbers}
+use Rattle.orc_heap.specs.Journals.{event_by, run_heap}
+use Rattle.orc_heap.specs.declared.events.Act.TheVariants.{Look}
+use Rattle.orc_heap.specs.declared.events.Event.{Event}
+use Rattle.orc_heap.specs.declared.events.Link.{Link}
+use Rattle.orc_heap.specs.declared.events.Place.{Place}
+use Rattle.orc_heap.specs.declared.events.Place.TheVariants.{Next}
+use Rattle.orc_history.specs.declared.set.SetEntry.{SetEntry}
+use Rattle.orc_chain_rule.proofs.Coming.{added_present_allowed, asked_absent_allowed, asked_present_allowed, removed_absent_allowed}
+use Rattle.orc_chain_rule.specs.declared.chain.ChainNote.{ChainNote}
+use Rattle.orc_chain_rule.specs.declared.chain.ChainNote.TheVariants.{Entry}
+use Rattle.orc_ordered_chains.specs.Chains.{IsRun}
+use Rattle.orc_chain_rule.specs.ChainDiscipline.{ChainHolds, ChainMay, FollowsOn, HasKey, IsAbove}
+use Rattle.orc_ordered_search.specs.Entries.{AllowsAbsence, AllowsPresence, IsAbsence, IsPresence}
+use Rattle.orc_list.specs.Searches.{list_manner, list_reading}
+
+pub list_enters : (n : HeapNumbers) (entry : SetEntry) → (list_manner n).entries_in (Some (Entry entry)) ≡ entry ∷ []
+list_enters n entry = refl
+
+absence_allowed : (n : HeapNumbers) (agent : ℕ) (place : Place) (from : Link) (over : List ℕ) (to : Option ℕ) (key : ℕ) (entry : SetEntry)
+    (seen : List (Event ChainNote))
+    → IsAbsence agent key entry → ChainHolds n seen
+    → FollowsOn n.roots (run_heap n seen) place key → from.mark ≡ false → IsRun (run_heap n seen) from over to → IsAbove (run_heap n seen) to key
+    → AllowedLater (ChainMay n) n agent seen place from (event_by agent (Look place from) (Some (Entry entry)))
+absence_allowed n agent place from over to key entry seen (inl is) holds f plain run above =
+    subst (λ (x : SetEntry). AllowedLater (ChainMay n) n agent seen place from (event_by agent (Look place from) (Some (Entry x)))) (sym is)
+    (removed_absent_allowed n agent place from over to key seen holds f plain run above)
+absence_allowed n agent place from over to key entry seen (inr is) holds f plain run above =
+    subst (λ (x : SetEntry). AllowedLater (ChainMay n) n agent seen place from (event_by agent (Look place from) (Some (Entry x)))) (sym is)
+    (asked_absent_allowed n agent place from over to key seen holds f plain run above)
+
+pub list_allows_absence : (n : HeapNumbers) → AllowsAbsence (list_reading n) (ChainHolds n) (ChainMay n) (λ key. key) (λ entry. Entry entry)
+list_allows_absence n = λ agent place from over to key entry seen is holds below plain run above.
+    absence_allowed n agent place from over to key entry seen is holds below plain run above
+
+presence_allowed : (n : HeapNumbers) (agent id key : ℕ) (link : Link) (entry : SetEntry) (seen : List (Event ChainNote)) → IsPresence agent key entry
+    → ChainHolds n seen → HasKey (run_heap n seen) id key → link.mark ≡ false
+    → AllowedLater (ChainMay n) n agent seen (Next id) link (event_by agent (Look (Next id) link) (Some (Entry entry)))
+presence_allowed n agent id key link entry seen (inl is) holds own plain =
+    subst (λ (x : SetEntry). AllowedLater (ChainMay n) n agent seen (Next id) link (event_by agent (Look (Next id) link) (Some (Entry x)))) (sym is)
+    (added_present_allowed n agent id key link seen holds own plain)
+presence_allowed n agent id key link entry seen (inr is) holds own plain =
+    subst (λ (x : SetEntry). AllowedLater (ChainMay n) n agent seen (Next id) link (event_by agent (Look (Next id) link) (Some (Entry x)))) (sym is)
+    (asked_present_allowed n agent id key link seen holds own plain)
+
+pub list_allows_presence : (n : HeapNumbers) → AllowsPresence (list_reading n) (ChainHolds n) (ChainMay n) (λ key. key) (λ entry. Entry entry)
+list_allows_presence n = λ agent id key link entry seen is holds own plain. presence_allowed n agent id key link entry seen is holds own plain

@@ -1,0 +1,36 @@
+-- Where the entries of a set's history may stand.
+use Rattle.std.specs.Prelude.{List, None, Option, Some, [], false, true, ℕ, ◌∷◌, ◌≡◌, ◌⊎◌}
+use Rattle.orc_heap.specs.Allowed.{AllowedLater}
+use Rattle.orc_heap.specs.Journals.{event_by, run_heap}
+use Rattle.orc_heap.specs.declared.events.Act.TheVariants.{Look}
+use Rattle.orc_heap.specs.declared.events.Event.{Event}
+use Rattle.orc_heap.specs.declared.events.Link.{Link}
+use Rattle.orc_heap.specs.declared.events.Place.{Place}
+use Rattle.orc_heap.specs.declared.events.Place.TheVariants.{Next}
+use Rattle.orc_history.specs.declared.set.SetEntry.{SetEntry}
+use Rattle.orc_history.specs.declared.set.SetEntry.TheVariants.{Added, Asked, Removed}
+use Rattle.orc_ordered_chains.specs.Chains.{FollowsOn, HasRank, IsAbove, IsRun}
+use Rattle.orc_ordered_search.specs.Reading.{Reading}
+
+-- an answer of this agent that the key is absent
+abbrev pub IsAbsence : ℕ → ℕ → SetEntry → Type 0
+IsAbsence agent key entry = (entry ≡ Removed agent key false) ⊎ (entry ≡ Asked agent key false)
+
+-- and one that it is present
+abbrev pub IsPresence : ℕ → ℕ → SetEntry → Type 0
+IsPresence agent key entry = (entry ≡ Added agent key false) ⊎ (entry ≡ Asked agent key true)
+
+module _ {N : Type 0} (r : Reading N) (holds : List (Event N) → Type 0) (may : List (Event N) → Event N → Type 0) (rank_of : ℕ → ℕ) (noted : SetEntry → N) where
+  -- a Look may tell of the key's absence that found an unmarked link of a place below the key's rank, from which a run of marked nodes
+  -- leads to null or above the rank
+  abbrev pub AllowsAbsence : Type 0
+  AllowsAbsence = (agent : ℕ) (place : Place) (from : Link) (over : List ℕ) (to : Option ℕ) (key : ℕ) (entry : SetEntry) (seen : List (Event N))
+      → IsAbsence agent key entry → holds seen → FollowsOn r.order (run_heap r.numbers seen) place (rank_of key) → from.mark ≡ false
+      → IsRun (run_heap r.numbers seen) from over to → IsAbove r.order (run_heap r.numbers seen) to (rank_of key)
+      → AllowedLater may r.numbers agent seen place from (event_by agent (Look place from) (Some (noted entry)))
+
+  -- one may tell of its presence that found the link of a node with the key's rank unmarked
+  abbrev pub AllowsPresence : Type 0
+  AllowsPresence = (agent id key : ℕ) (link : Link) (entry : SetEntry) (seen : List (Event N)) → IsPresence agent key entry → holds seen
+      → HasRank r.order (run_heap r.numbers seen) id (rank_of key) → link.mark ≡ false
+      → AllowedLater may r.numbers agent seen (Next id) link (event_by agent (Look (Next id) link) (Some (noted entry)))
