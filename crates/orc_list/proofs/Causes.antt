@@ -5,11 +5,11 @@ use Rattle.std.proofs.Math.Seq.{drop-append_seam, take-length}
 use Rattle.std.specs.List.{list_all}
 use Rattle.std.specs.Prelude.{IfErr, IfOk}
 use mathlib.Core.List.{IsPrefix}
-use Rattle.orc_heap.proofs.Calls.{part_allowed}
-use Rattle.orc_heap.proofs.OwnEntries.{entries_added, noted-append, own_of_events}
+use Rattle.orc_heap.proofs.InJournal.{CallSeen, adds_entries, own_after, seen_new, seen_part}
+use Rattle.orc_heap.proofs.OwnEntries.{noted-append, own_of_events}
 use Rattle.orc_heap.proofs.OwnParts.{from_own-others, moves_from_own, own_from, quiet_not_alone}
 use Rattle.orc_heap.proofs.Stays.{allowed-left, allowed-right}
-use Rattle.orc_heap.proofs.Steps.{PartEvents, part_bounds, part_events}
+use Rattle.orc_heap.proofs.Steps.{PartEvents, part_bounds}
 use Rattle.orc_heap.specs.Allowed.{AllAllowed, events_by}
 use Rattle.orc_heap.specs.Heap.{HeapNumbers}
 use Rattle.orc_heap.specs.Journals.{run_heap}
@@ -30,23 +30,17 @@ use Rattle.orc_chain_rule.specs.declared.chain.ChainNote.{ChainNote}
 use Rattle.orc_list.specs.Causes.{CostTurns, UsesTurns}
 use Rattle.orc_list.specs.Turns.{AreFew}
 use Rattle.orc_ordered_search.proofs.Parts.{others_append, others_split}
-use Rattle.orc_ordered_search.proofs.Causes.{below_right, of_crowd}
 use Rattle.orc_list.proofs.Settling.{Did}
 
 -- the own events of a call
-pub own_part : (s u : Seat ChainNote) (own : List (Event ChainNote)) → Puts s own u → events_by u.agent u.seen ≡ events_by s.agent s.seen ++ own
-own_part s u own p =
-    ap (λ (a : ℕ). events_by a u.seen) p.agent ∙ (ap (λ z. events_by s.agent z) p.is ∙ (filter-append (λ e. e.agent == s.agent) s.seen p.part ∙ ap
-    (λ z. events_by s.agent s.seen ++ z) p.own_is))
-
 pub own_drop : (s u : Seat ChainNote) (own : List (Event ChainNote)) → Puts s own u
     → drop (length (events_by s.agent s.seen)) (events_by u.agent u.seen) ≡ own
-own_drop s u own p = ap (λ z. drop (length (events_by s.agent s.seen)) z) (own_part s u own p) ∙ drop-append_seam (events_by s.agent s.seen) own
+own_drop s u own p = ap (λ z. drop (length (events_by s.agent s.seen)) z) (own_after s u own p) ∙ drop-append_seam (events_by s.agent s.seen) own
 
 module _ {E IsAgain : Type 0} (most turns : ℕ) (entry : Bool → SetEntry) (s u : Seat ChainNote) (r : Result Bool E)
     (d : Did {E = E} IsAgain most turns entry s r u) where
   own_events : events_by u.agent u.seen ≡ events_by s.agent s.seen ++ d.own
-  own_events = own_part s u d.own d.made.puts
+  own_events = own_after s u d.own d.made.puts
 
   pub own_call : drop (length (events_by s.agent s.seen)) (events_by u.agent u.seen) ≡ d.own
   own_call = own_drop s u d.own d.made.puts
@@ -77,17 +71,13 @@ module _ {S : Type 0} (n : HeapNumbers) (agents : ℕ) (agent_of : S → ℕ) (e
     (s u : Seat ChainNote) (j m : List S) (grows : IsPrefix j m) (is_s : s.seen ≡ events j) (is_u : u.seen ≡ events m)
     (all : AllAllowed (ChainMay n) [] u.seen) (below : IsBelow agents u.seen)
   where
+    abbrev seen : CallSeen ChainMay n agents agent_of events s u j m
+    seen = record { adds = adds; grows = grows; is_s = is_s; is_t = is_u; all = all; below = below }
+
     -- the entries
-    pub call_adds : (own : List (Event ChainNote)) (es : List SetEntry) (p : Puts s own u) → entries_of own ≡ es
+    pub call_adds : (own : List (Event ChainNote)) (es : List SetEntry) → Puts s own u → entries_of own ≡ es
         → Adds agent_of_set_entry (λ (a : ℕ). a < agents) s.agent (entries_of (events j)) es (entries_of (events m))
-    call_adds own es p entries_are =
-        let others = of_crowd s.agent agents p.part (below_right agents s.seen p.part (subst (λ z. IsBelow agents z) p.is below)) in
-        let a = entries_added entries_in agent_of_set_entry (ChainMay n) (entries_own n) (λ (x : ℕ). x < agents) s.agent s.seen p.part
-        (part_allowed (ChainMay n) s u own p all) others in
-        let mine : entries_of (events_by s.agent p.part) ≡ es = ap entries_of p.own_is ∙ entries_are in
-        subst (λ z. Adds agent_of_set_entry (λ (x : ℕ). x < agents) s.agent (entries_of (events j)) es (entries_of z)) (sym p.is ∙ is_u)
-        (subst (λ z. Adds agent_of_set_entry (λ (x : ℕ). x < agents) s.agent (entries_of z) es (entries_of (s.seen ++ p.part))) is_s
-        (subst (λ z. Adds agent_of_set_entry (λ (x : ℕ). x < agents) s.agent (entries_of s.seen) z (entries_of (s.seen ++ p.part))) mine a))
+    call_adds own es p entries_are = adds_entries seen entries_in agent_of_set_entry (entries_own n) own es p entries_are
 
     module _ {E IsAgain : Type 0} (most turns : ℕ) (entry : Bool → SetEntry) where
       pub did_enter : (r : Result Bool E) → Did {E = E} IsAgain most turns entry s r u
@@ -103,8 +93,7 @@ module _ {S : Type 0} (n : HeapNumbers) (agents : ℕ) (agent_of : S → ℕ) (e
     -- where the call was alone, so was its part of the events
     pub part_alone : (own : List (Event ChainNote)) (p : Puts s own u) → IsAlone agent_of s.agent j m → AllOwn s.agent (from_own s.agent p.part)
     part_alone own p alone =
-        let new : events m ≡ events j ++ p.part = sym is_u ∙ (p.is ∙ ap (λ z. z ++ p.part) is_s) in
-        let e = part_events agent_of events adds s.agent j m p.part grows new in
+        let e = seen_part seen own p in
         let same : from_own s.agent p.part ≡ from_own s.agent e.part = ap (λ z. from_own s.agent z) e.is ∙ from_own-others s.agent e.gap e.part e.others in
         subst (λ z. AllOwn s.agent z) (sym same) (own_from s.agent e.part (e.alone alone))
 
@@ -139,8 +128,8 @@ module _ {S : Type 0} (n : HeapNumbers) (agents : ℕ) (agent_of : S → ℕ) (e
     turns_used most turns entry r d again =
         let p = d.made.puts in
         let (no_entry, none, moved) = d.over again in
-        let new : events m ≡ events j ++ p.part = sym is_u ∙ (p.is ∙ ap (λ z. z ++ p.part) is_s) in
-        let e = part_events agent_of events adds s.agent j m p.part grows new in
+        let new = seen_new seen d.own p in
+        let e = seen_part seen d.own p in
         let bounds = part_bounds agent_of s.agent j m grows in
         let whole : events (take (length m) m) ≡ (events j ++ e.gap) ++ e.part = ap events (take-length m) ∙
         (new ∙ (ap (λ z. events j ++ z) e.is ∙ sym (append_assoc (events j) e.gap e.part))) in

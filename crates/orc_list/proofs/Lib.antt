@@ -3,7 +3,6 @@ pub mod Starting
 pub mod Making
 pub mod Answering
 pub mod Tiring
-pub mod Marking
 pub mod Removing
 pub mod Passing
 pub mod Linking

@@ -33,14 +33,15 @@ use Rattle.orc_chain_rule.specs.ChainDiscipline.{ChainHolds, ChainMay, FollowsOn
 use Rattle.orc_chain_rule.specs.Laws.Kept.{chain_keeps}
 use Rattle.orc_ordered_chains.proofs.Acts.{move_moves}
 use Rattle.orc_chain_rule.specs.Laws.Kinds.{key_linked, key_one}
-use Rattle.orc_ordered_search.specs.Searches.{AllGone, Quiet, left_place, node_of}
+use Rattle.orc_ordered_search.specs.Searches.{AllGone, Quiet, left_place, node_of, run_head}
 use Rattle.orc_list.specs.Inserts.{SeesAbsent}
 use Rattle.orc_list.specs.Searches.{FindsPresent, InHand, list_reading}
 use Rattle.orc_ordered_search.specs.Ways.{IsFew}
 use Rattle.orc_ordered_search.specs.Searches.{first_or, place_at, target_at}
 use Rattle.orc_list.specs.Stops.{MarkStops}
-use Rattle.orc_list.specs.Turns.{HasManyLinks, LeavesOff, Made, Marks, StopsBefore, TakesOut, Tires, TriesUnlink}
-use Rattle.orc_ordered_search.proofs.Removing.{marked_at, marked_link, run_from, run_head, unlink_at}
+use Rattle.orc_list.specs.Turns.{LeavesOff, Made, StopsBefore, TakesOut}
+use Rattle.orc_ordered_search.specs.Turns.{HasManyLinks, Marks, TakesNode}
+use Rattle.orc_ordered_search.proofs.Removing.{marked_at, marked_link, run_from}
 use Rattle.orc_ordered_search.proofs.Held.{in_hand_on}
 use Rattle.orc_list.proofs.Making.{made_after, made_on, over_on}
 use Rattle.orc_ordered_search.proofs.Making.{missed}
@@ -122,43 +123,6 @@ module _ {n : HeapNumbers} {root key : ℕ} {left first : Option Hold} {node : H
   from_head : f.behind.leads.from ≡ link_to (run_head first f.first_id f.id)
   from_head = (run_from (list_ordering n) (Root root) key 0 left first node next s t f).from_is
 
-  pub tries_at : (u v : Seat ChainNote) (h : Hold) (Worn : Type 0) → root ≡ key % n.roots → u.slots ≡ t.slots → Some h ≡ first_or first (Some node)
-      → TriesUnlink (place_at u.slots root left) (id_in u.slots h) (target_at u.slots next) Worn u v
-      → TriesUnlink (left_place (key % n.roots) left f.left_id) (run_head first f.first_id f.id) (node_of next f.next_id) Worn u v
-  tries_at u v h Worn of_key same is tried =
-      let a = unlink_at (list_ordering n) (Root root) key 0 left first node next s t f u h same is in
-      let at = subst (λ (r : ℕ). TriesUnlink (place_at u.slots r left) (id_in u.slots h) (target_at u.slots next) Worn u v) of_key tried in
-      let one = subst (λ (p : Place). TriesUnlink p (id_in u.slots h) (target_at u.slots next) Worn u v) a.place_is at in
-      let two = subst (λ (i : ℕ). TriesUnlink place i (target_at u.slots next) Worn u v) a.id_is one in
-      subst (λ (o : Option ℕ). TriesUnlink place head o Worn u v) a.to_is two
-
-  pub tried_hand : (u v : Seat ChainNote) (at : Place) (id : ℕ) (past : Option ℕ) (Worn : Type 0) → TriesUnlink at id past Worn u v
-      → AllAllowed (ChainMay n) [] v.seen → InHand n s.slots left first (Some node) next u → InHand n s.slots left first (Some node) next v
-  tried_hand u v at id past Worn tried all h = elim tried.either [
-    | inl swung ↦ elim swung [
-      | inl p ↦ in_hand_on (list_ordering n) s.slots left first (Some node) next u v _ p all tried.slots h
-      | inr miss ↦ in_hand_on (list_ordering n) s.slots left first (Some node) next u v _ miss.puts all tried.slots h
-    ]
-    | inr worn ↦ in_hand_on (list_ordering n) s.slots left first (Some node) next u v [] worn.2 all tried.slots h
-  ]
-
-  pub removes_missed : (u y : Seat ChainNote) → Marks key f.id (node_of next f.next_id) t false u → AllGone s.slots u y → AllAllowed (ChainMay n) [] u.seen
-      → Tires 1 s y
-  removes_missed u y m g all =
-      let from : Link = link_over to in
-      let q = f.behind.quiet in
-      let made = made_after n 0 s t u f.own _ [] q few m.puts.puts refl refl (omega arith) in
-      let moved = missed (list_ordering n) s t u f.own _ (Next f.id) from q.puts q.some f.still (key_linked (heap_of n t) f.id key f.is_of.has_key) m.puts all made.puts in
-      let still : moves_in (f.own ++ event_of t (Miss (Next f.id) from m.puts.found) None ∷ []) ≡ 0 = omega
-      (arith, moves_in-append f.own (event_of t (Miss (Next f.id) from m.puts.found) None ∷ []), q.no_move) in
-      record {
-        own = _;
-        over = over_on 0 1 s u y _ (record { made = made; no_move = still; moved = moved }) g.puts;
-        loads = loads-append f.own _ q.loads (tt, tt);
-        slots = g.slots_are;
-        fresh = g.fresh ∙ (m.fresh ∙ q.fresh);
-      }
-
   abbrev mark : Event ChainNote
   mark = event_of t (Move (Next f.id) (link_over (node_of next f.next_id)) (record { to = node_of next f.next_id; mark = true }))
       (Some (Entry (Removed t.agent key true)))
@@ -174,7 +138,7 @@ module _ {n : HeapNumbers} {root key : ℕ} {left first : Option Hold} {node : H
       p entries (omega (arith, no_give)) (omega (arith, short))) g
 
   -- a remove that stops there
-  pub mark_stops : (done : Bool) (u y : Seat ChainNote) → Marks key f.id (node_of next f.next_id) t done u → AllGone s.slots u y
+  pub mark_stops : (done : Bool) (u y : Seat ChainNote) → Marks (Entry (Removed t.agent key true)) f.id (node_of next f.next_id) t done u → AllGone s.slots u y
       → AllAllowed (ChainMay n) [] u.seen → MarkStops n key s done y
   mark_stops true u y m g all =
       let q = f.behind.quiet in
@@ -281,40 +245,45 @@ module _ {n : HeapNumbers} {root key : ℕ} {left first : Option Hold} {node : H
     many = subst (λ (z : List (Event ChainNote)). 32 ≤ links_made z many.0) (sym q.is) (links_stay v.seen q.part many.0 many.2);
   }
 
-  pub removes_done : (Worn : Type 0) (u v y : Seat ChainNote) → Marks key f.id (node_of next f.next_id) t true u
-      → TriesUnlink (left_place (key % n.roots) left f.left_id) (run_head first f.first_id f.id) (node_of next f.next_id) Worn u v → AllGone s.slots v y
-      → ChainHolds n t.seen → AllAllowed (ChainMay n) [] y.seen → TakesOut n key Worn 1 s y
-  removes_done Worn u v y m tries g holds all_y = elim tries.either [
-    | inl swung ↦ elim swung [
-      | inl p ↦
-          let e : Event ChainNote = event_of u (Move place (link_to head) (link_over to)) (Some Unlink) in
-          let whole = Puts-trans t u v (mark ∷ []) (e ∷ []) m.puts p in
-          let made = took (e ∷ []) v y whole g.puts refl refl (omega arith) in
-          record {
-            answers = record { own = f.own ++ mark ∷ e ∷ []; made = made; slots = g.slots_are; fresh = fresh };
-            off = λ alone. inl (leaves (e ∷ []) (heap_of n y) (off_chain u.agent y holds (alone_at (e ∷ []) y
-                (puts_released t v y (mark ∷ e ∷ []) whole g.puts) made.puts alone all_y)));
-          }
-      | inr miss ↦
-          let e : Event ChainNote = event_of u (Miss place (link_to head) miss.found) None in
-          let whole = Puts-trans t u v (mark ∷ []) (e ∷ []) m.puts miss.puts in
-          let made = took (e ∷ []) v y whole g.puts refl refl (omega arith) in
-          record {
-            answers = record { own = f.own ++ mark ∷ e ∷ []; made = made; slots = g.slots_are; fresh = fresh };
-            off = λ alone.
-                let a = alone_at (e ∷ []) y (puts_released t v y (mark ∷ e ∷ []) whole g.puts) made.puts alone all_y in
-                let found : miss.found ≡ f.behind.leads.from = some_same (sym a.all.1.0.fits.0 ∙ a.shows) in
-                absurd (miss.other (found ∙ from_head));
-          }
-    ]
-    | inr worn ↦
-        let whole = Puts-trans t u v (mark ∷ []) [] m.puts worn.2 in
-        let made = took [] v y whole g.puts refl refl (omega arith) in
-        record {
-          answers = record { own = f.own ++ mark ∷ []; made = made; slots = g.slots_are; fresh = fresh };
-          off = λ alone. inr (worn.0, stops v y (puts_released t v y (mark ∷ []) whole g.puts) g.puts worn.1 all_y);
-        }
-  ]
+  pub removes_done : (Worn : Type 0) (y : Seat ChainNote)
+      → TakesNode (Entry (Removed t.agent key true)) Unlink (left_place (key % n.roots) left f.left_id) (run_head first f.first_id f.id) f.id
+      (node_of next f.next_id) Worn s.slots t y → ChainHolds n t.seen → AllAllowed (ChainMay n) [] y.seen → TakesOut n key Worn 1 s y
+  removes_done Worn y k holds all_y =
+      let u = k.marked in
+      let v = k.tried in
+      let m = k.marks in
+      let g = k.gone in
+      elim k.tries.either [
+        | inl swung ↦ elim swung [
+          | inl p ↦
+              let e : Event ChainNote = event_of u (Move place (link_to head) (link_over to)) (Some Unlink) in
+              let whole = Puts-trans t u v (mark ∷ []) (e ∷ []) m.puts p in
+              let made = took (e ∷ []) v y whole g.puts refl refl (omega arith) in
+              record {
+                answers = record { own = f.own ++ mark ∷ e ∷ []; made = made; slots = g.slots_are; fresh = fresh };
+                off = λ alone. inl (leaves (e ∷ []) (heap_of n y) (off_chain u.agent y holds (alone_at (e ∷ []) y
+                    (puts_released t v y (mark ∷ e ∷ []) whole g.puts) made.puts alone all_y)));
+              }
+          | inr miss ↦
+              let e : Event ChainNote = event_of u (Miss place (link_to head) miss.found) None in
+              let whole = Puts-trans t u v (mark ∷ []) (e ∷ []) m.puts miss.puts in
+              let made = took (e ∷ []) v y whole g.puts refl refl (omega arith) in
+              record {
+                answers = record { own = f.own ++ mark ∷ e ∷ []; made = made; slots = g.slots_are; fresh = fresh };
+                off = λ alone.
+                    let a = alone_at (e ∷ []) y (puts_released t v y (mark ∷ e ∷ []) whole g.puts) made.puts alone all_y in
+                    let found : miss.found ≡ f.behind.leads.from = some_same (sym a.all.1.0.fits.0 ∙ a.shows) in
+                    absurd (miss.other (found ∙ from_head));
+              }
+        ]
+        | inr worn ↦
+            let whole = Puts-trans t u v (mark ∷ []) [] m.puts worn.2 in
+            let made = took [] v y whole g.puts refl refl (omega arith) in
+            record {
+              answers = record { own = f.own ++ mark ∷ []; made = made; slots = g.slots_are; fresh = fresh };
+              off = λ alone. inr (worn.0, stops v y (puts_released t v y (mark ∷ []) whole g.puts) g.puts worn.1 all_y);
+            }
+      ]
     where
       fresh : y.fresh ≡ s.fresh
-      fresh = g.fresh ∙ (tries.fresh ∙ (m.fresh ∙ f.behind.quiet.fresh))
+      fresh = k.gone.fresh ∙ (k.tries.fresh ∙ (k.marks.fresh ∙ f.behind.quiet.fresh))

@@ -35,10 +35,6 @@ pub record UsesTurns {S : Type 0} (n : HeapNumbers) (agent_of : S → ℕ) (even
   pub not_alone : 1 ≤ turns → list_all (λ s. agent_of s == agent) (drop from (take to journal)) ≡ true → ⊥
   pub cost : CostTurns n events agent turns journal from to
 
--- between the ends of two journals, the later of which is the longer, the domain read some row's sequence at its limit
-abbrev pub HasWorn : {S : Type 0} → (SpentRow → List S → ℕ → ℕ → Type 0) → List S → List S → Type 0
-HasWorn worn before after = (why : SpentRow) × Within (length before) (length after) (worn why after)
-
 -- the cause of each refusal, where `Lacks` says that no row could be given, and `Worn` that a row was worn
 abbrev pub Cause : {S : Type 0} → HeapNumbers → (S → ℕ) → (List S → List (Event ChainNote)) → Type 0 → (SpentRow → Type 0) → ℕ → ℕ
     → ListRefused → List S → ℕ → ℕ → Type 0

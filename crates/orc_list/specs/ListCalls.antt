@@ -10,7 +10,8 @@ use Rattle.orc_history.specs.declared.set.SetEntry.{SetEntry}
 use Rattle.orc_chain_rule.specs.ChainDiscipline.{entries_in}
 use Rattle.orc_chain_rule.specs.declared.chain.ChainNote.{ChainNote}
 use Rattle.orc_history.specs.Parts.{WithinPart}
-use Rattle.orc_list.specs.Causes.{CostTurns, HasWorn, UsesTurns}
+use Rattle.orc_list.specs.Causes.{CostTurns, UsesTurns}
+use Rattle.orc_ordered_search.specs.Causes.{HasWorn}
 use Rattle.orc_list.specs.Inserts.{LeavesRunOff, SeesAbsent}
 use Rattle.orc_list.specs.Turns.{AreFew, LeavesOff, MarksAlone, StopsBefore}
 

@@ -65,21 +65,6 @@ abbrev pub AsksTurn : ℕ → Seat ChainNote → Option Bool → Seat ChainNote 
 AsksTurn key s None t = Tires 1 s t
 AsksTurn key s (Some answer) t = Answers 1 s (Asked s.agent key answer) t
 
--- the node's link to this target was marked, and the key is taken out; or the link was another
-abbrev pub Marks : ℕ → ℕ → Option ℕ → Seat ChainNote → Bool → Seat ChainNote → Type 0
-Marks key id to s done t = MarksNoted (Entry (Removed s.agent key true)) id to s done t
-
--- at least 32 links were made to this node
-abbrev pub HasManyLinks : Option ℕ → List (Event ChainNote) → Type 0
-HasManyLinks to seen = (id : ℕ) × (to ≡ Some id) × (32 ≤ links_made seen id)
-
--- the place was led past the run, or showed another link, or something was worn, and the node behind the run has many links
-pub record TriesUnlink (place : Place) (first : ℕ) (to : Option ℕ) (IsWorn : Type 0) (s t : Seat ChainNote) : Type 0 where
-  pub slots : t.slots ≡ s.slots
-  pub fresh : t.fresh ≡ s.fresh
-  pub either : (Puts s (event_of s (Move place (link_to first) (link_over to))
-      (Some Unlink) ∷ []) t ⊎ Misses place (link_to first) s t) ⊎ (IsWorn × HasManyLinks to t.seen × Puts s [] t)
-
 -- one of these events takes the key out at this node: it marks the node's link
 abbrev pub TakesKey : List (Event ChainNote) → ℕ → ℕ → Type 0
 TakesKey [] key id = ⊥
@@ -113,11 +98,6 @@ pub record TakesOut (n : HeapNumbers) (key : ℕ) (IsWorn : Type 0) (turns : ℕ
   pub answers : Answers turns s (Removed s.agent key true) t
   pub off : AllOwn s.agent (from_own s.agent answers.made.puts.part)
       → LeavesOff key answers.own (heap_of n t) ⊎ (IsWorn × StopsBefore key answers.own (heap_of n t) t.seen)
-
--- the same at the node that a search found, or its link was another
-abbrev pub RemovesNode : HeapNumbers → ℕ → Type 0 → Seat ChainNote → Bool → Seat ChainNote → Type 0
-RemovesNode n key IsWorn s false t = Tires 1 s t
-RemovesNode n key IsWorn s true t = TakesOut n key IsWorn 1 s t
 
 -- a turn of a remove
 abbrev pub RemovesTurn : HeapNumbers → ℕ → Type 0 → ℕ → Seat ChainNote → Option Bool → Seat ChainNote → Type 0

@@ -1,7 +1,7 @@
 //! Keys as ranks.
 
 ghost use Rattle.orc_chain_rule.specs.declared.chain.ChainNote.{ChainNote};
-ghost use Rattle.orc_list.specs.Laws.Answering.{list_allows_absence, list_allows_presence, list_enters};
+ghost use Rattle.orc_list.specs.Laws.Entries.{list_allows_absence, list_allows_mark, list_allows_presence, list_allows_unlink, list_enters, list_enters_none};
 ghost use Rattle.orc_list.specs.Laws.Ordered.{list_ordered};
 ghost use Rattle.orc_list.specs.Searches.{list_manner};
 ghost use Rattle.std.specs.Prelude.{false};
@@ -47,14 +47,27 @@ impl SetRank for Key {
 
     ghost noted = { λ entry. ChainNote.Entry entry };
 
+    ghost unlinking = { ChainNote.Unlink };
+
     #[inline(always)]
     fn note(entry: SetEntry) -> ChainNote {
         ChainNote::Entry(entry)
     }
 
+    #[inline(always)]
+    fn unlink_note() -> ChainNote {
+        ChainNote::Unlink
+    }
+
     ghost enters = { list_enters };
+
+    ghost enters_none = { list_enters_none };
 
     ghost allows_absence = { list_allows_absence };
 
     ghost allows_presence = { list_allows_presence };
+
+    ghost allows_mark = { list_allows_mark };
+
+    ghost allows_unlink = { list_allows_unlink };
 }

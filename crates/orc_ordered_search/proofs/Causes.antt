@@ -5,10 +5,9 @@ use Rattle.std.proofs.Math.Seq.{drop-append_seam, take-length}
 use Rattle.std.specs.List.{list_all, AllByRecursion}
 use Rattle.std.specs.Prelude.{IfErr, IfOk, IsErr}
 use mathlib.Core.List.{IsPrefix}
-use Rattle.orc_heap.proofs.Calls.{part_allowed}
-use Rattle.orc_heap.proofs.OwnEntries.{entries_added}
+use Rattle.orc_heap.proofs.InJournal.{CallSeen, adds_entries, own_after, seen_new, seen_part}
 use Rattle.orc_heap.proofs.OwnParts.{from_own-others, own_from}
-use Rattle.orc_heap.proofs.Steps.{part_bounds, part_events}
+use Rattle.orc_heap.proofs.Steps.{part_bounds}
 use Rattle.orc_heap.specs.Allowed.{AllAllowed, events_by}
 use Rattle.orc_heap.specs.Journals.{noted_entries}
 use Rattle.orc_heap.specs.Moves.{AllOwn, from_own, gives_in}
@@ -24,23 +23,11 @@ use Rattle.orc_ordered_search.specs.Reading.{Ordering, Reading}
 use Rattle.orc_ordered_search.proofs.Parts.{others_alone, others_append, others_from}
 use Rattle.orc_ordered_search.proofs.Settling.{Did}
 
-pub below_right : {N : Type 0} (agents : ℕ) (es fs : List (Event N)) → IsBelow agents (es ++ fs) → IsBelow agents fs
-below_right agents [] fs b = b
-below_right agents (e ∷ es) fs b = below_right agents es fs b.1
-
-pub of_crowd : {N : Type 0} (agent agents : ℕ) (es : List (Event N)) → IsBelow agents es
-    → AllByRecursion (λ (e : Event N). (e.agent ≡ agent) ⊎ (e.agent < agents)) es
-of_crowd agent agents [] b = tt
-of_crowd {N} agent agents (e ∷ es) b = (inr b.0, of_crowd agent agents es b.1)
-
 -- the own events
 module _ {E N IsAgain : Type 0} (r : Reading N) (most turns : ℕ) (entry : Bool → SetEntry) (s u : Seat N) (result : Result Bool E)
     (d : Did {E = E} r IsAgain most turns entry s result u) where
   own_events : events_by u.agent u.seen ≡ events_by s.agent s.seen ++ d.own
-  own_events =
-      let p = d.made.puts in
-      ap (λ (a : ℕ). events_by a u.seen) p.agent ∙ (ap (λ z. events_by s.agent z) p.is ∙ (filter-append (λ e. e.agent == s.agent) s.seen p.part ∙ ap
-      (λ z. events_by s.agent s.seen ++ z) p.own_is))
+  own_events = own_after s u d.own d.made.puts
 
   pub own_call : drop (length (events_by s.agent s.seen)) (events_by u.agent u.seen) ≡ d.own
   own_call = ap (λ z. drop (length (events_by s.agent s.seen)) z) own_events ∙ drop-append_seam (events_by s.agent s.seen) d.own
@@ -58,17 +45,13 @@ module _ {N S : Type 0} (ord : Ordering N) (agents : ℕ) (agent_of : S → ℕ)
     (s u : Seat N) (j m : List S) (grows : IsPrefix j m) (is_s : s.seen ≡ events j) (is_u : u.seen ≡ events m)
     (all : AllAllowed ord.may [] u.seen) (below : IsBelow agents u.seen)
   where
+    seen : CallSeen (λ n. ord.may) ord.reading.numbers agents agent_of events s u j m
+    seen = record { adds = adds; grows = grows; is_s = is_s; is_t = is_u; all = all; below = below }
+
     -- the entries
-    call_adds : (own : List (Event N)) (es : List SetEntry) (p : Puts s own u) → noted_entries ord.reading.entries_in own ≡ es
+    call_adds : (own : List (Event N)) (es : List SetEntry) → Puts s own u → noted_entries ord.reading.entries_in own ≡ es
         → Adds agent_of_set_entry (λ (a : ℕ). a < agents) s.agent (noted_entries ord.reading.entries_in (events j)) es (noted_entries ord.reading.entries_in (events m))
-    call_adds own es p entries_are =
-        let others = of_crowd s.agent agents p.part (below_right agents s.seen p.part (subst (λ z. IsBelow agents z) p.is below)) in
-        let a = entries_added ord.reading.entries_in agent_of_set_entry ord.may (λ es e may. ord.owes.own es e may) (λ (x : ℕ). x < agents) s.agent s.seen p.part
-        (part_allowed ord.may s u own p all) others in
-        let mine : noted_entries ord.reading.entries_in (events_by s.agent p.part) ≡ es = ap (λ z. noted_entries ord.reading.entries_in z) p.own_is ∙ entries_are in
-        subst (λ z. Adds agent_of_set_entry (λ (x : ℕ). x < agents) s.agent (noted_entries ord.reading.entries_in (events j)) es (noted_entries ord.reading.entries_in z)) (sym p.is ∙ is_u)
-        (subst (λ z. Adds agent_of_set_entry (λ (x : ℕ). x < agents) s.agent (noted_entries ord.reading.entries_in z) es (noted_entries ord.reading.entries_in (s.seen ++ p.part))) is_s
-        (subst (λ z. Adds agent_of_set_entry (λ (x : ℕ). x < agents) s.agent (noted_entries ord.reading.entries_in s.seen) z (noted_entries ord.reading.entries_in (s.seen ++ p.part))) mine a))
+    call_adds own es p entries_are = adds_entries seen ord.reading.entries_in agent_of_set_entry (λ es e may. ord.owes.own es e may) own es p entries_are
 
     module _ {E IsAgain : Type 0} (most turns : ℕ) (entry : Bool → SetEntry) where
       pub did_enter : (r : Result Bool E) → Did {E = E} ord.reading IsAgain most turns entry s r u
@@ -84,8 +67,7 @@ module _ {N S : Type 0} (ord : Ordering N) (agents : ℕ) (agent_of : S → ℕ)
     -- where the call was alone, so was its part of the events
     pub part_alone : (own : List (Event N)) (p : Puts s own u) → IsAlone agent_of s.agent j m → AllOwn s.agent (from_own s.agent p.part)
     part_alone own p alone =
-        let new : events m ≡ events j ++ p.part = sym is_u ∙ (p.is ∙ ap (λ z. z ++ p.part) is_s) in
-        let e = part_events agent_of events adds s.agent j m p.part grows new in
+        let e = seen_part seen own p in
         let same : from_own s.agent p.part ≡ from_own s.agent e.part = ap (λ z. from_own s.agent z) e.is ∙ from_own-others s.agent e.gap e.part e.others in
         subst (λ z. AllOwn s.agent z) (sym same) (own_from s.agent e.part (e.alone alone))
 
@@ -96,8 +78,8 @@ module _ {N S : Type 0} (ord : Ordering N) (agents : ℕ) (agent_of : S → ℕ)
     turns_used most turns entry r d again =
         let p = d.made.puts in
         let moved = d.over again in
-        let new : events m ≡ events j ++ p.part = sym is_u ∙ (p.is ∙ ap (λ z. z ++ p.part) is_s) in
-        let e = part_events agent_of events adds s.agent j m p.part grows new in
+        let new = seen_new seen d.own p in
+        let e = seen_part seen d.own p in
         let bounds = part_bounds agent_of s.agent j m grows in
         let whole : events (take (length m) m) ≡ (events j ++ e.gap) ++ e.part = ap events (take-length m) ∙
         (new ∙ (ap (λ z. events j ++ z) e.is ∙ sym (append_assoc (events j) e.gap e.part))) in

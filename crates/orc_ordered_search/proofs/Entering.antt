@@ -32,19 +32,22 @@ use Rattle.orc_ordered_search.proofs.Quiets.{silent_one}
 -- a load that found another link, and then all nodes are let go
 pub missed_over : {N : Type 0} (ord : Ordering N) (s t u y : Seat N) (own : List (Event N)) (place : Place) (link : Link) (q : Quiet ord.reading s own t)
     → ShowsOrMoved ord.reading.numbers place link s t q.puts.part → IsLinkedPlace place (heap_of ord.reading.numbers t)
-    → Misses place link t u → AllGone s.slots u y → u.fresh ≡ t.fresh → AllAllowed ord.may [] u.seen → Tires ord.reading 1 s y
-missed_over {N} ord s t u y own place link q still linked here g fresh all_u =
+    → Misses place link t u → AllGone s.slots u y → u.fresh ≡ t.fresh → AllAllowed ord.may [] u.seen → IsFew 2 own
+    → (a : Tires ord.reading 1 s y) × IsFew 3 a.own
+missed_over {N} ord s t u y own place link q still linked here g fresh all_u few =
     let e : Event N = event_of t (Miss place link here.found) None in
     let m = made_after ord.reading 0 s t u own (e ∷ []) [] q here.puts (silent_one ord t.agent (Miss place link here.found)) refl in
     let moved = missed ord s t u own (own ++ e ∷ []) place link q.puts q.some still linked here all_u m.puts in
-    let none : moves_in (own ++ e ∷ []) ≡ 0 = omega (arith, moves_in-append own (e ∷ []), q.no_move) in
-    record {
-      own = own ++ e ∷ [];
-      over = over_on ord.reading 0 1 s u y (own ++ e ∷ []) (one_over ord.reading 0 s u (own ++ e ∷ []) m none moved) g.puts;
-      loads = loads-append own (e ∷ []) q.loads (tt, tt);
-      slots = g.slots_are;
-      fresh = g.fresh ∙ (fresh ∙ q.fresh);
-    }
+    let none : moves_in (own ++ e ∷ []) ≡ 0 = omega (arith, moves_in-append own (e ∷ []), q.no_move) in (
+      record {
+        own = own ++ e ∷ [];
+        over = over_on ord.reading 0 1 s u y (own ++ e ∷ []) (one_over ord.reading 0 s u (own ++ e ∷ []) m none moved) g.puts;
+        loads = loads-append own (e ∷ []) q.loads (tt, tt);
+        slots = g.slots_are;
+        fresh = g.fresh ∙ (fresh ∙ q.fresh);
+      },
+      few_more 2 3 own (e ∷ []) few (omega arith),
+    )
 
 -- one load that still finds the link enters the answer, and then all nodes are let go; or the link moved
 pub entered_at : {N : Type 0} (ord : Ordering N) (s t u y : Seat N) (own : List (Event N)) (place : Place) (link : Link) (noted : N) (entry : SetEntry)
@@ -52,7 +55,6 @@ pub entered_at : {N : Type 0} (ord : Ordering N) (s t u y : Seat N) (own : List 
     → ShowsOrMoved ord.reading.numbers place link s t q.puts.part → IsLinkedPlace place (heap_of ord.reading.numbers t)
     → place_in t.slots at ≡ place → link_in t.slots want ≡ link → Tests at want (Some noted) t done u
     → AllGone s.slots u y → AllAllowed ord.may [] u.seen → EntersFew ord.reading entry s done y
-unfolding missed_over
 entered_at {N} ord s t u y own place link noted entry at want done q few enters still linked place_is link_is tests g all_u = by done refl
   where
     by : (b : Bool) → done ≡ b → EntersFew ord.reading entry s b y
@@ -72,10 +74,7 @@ entered_at {N} ord s t u y own place link noted entry at want done q few enters 
         let miss = Tests-missed tests is in
         let here : Misses place link t u =
         subst (λ (p : Place). Misses p link t u) place_is (subst (λ (l : Link). Misses (place_in t.slots at) l t u) link_is miss) in
-        let e : Event N = event_of t (Miss place link here.found) None in (
-          missed_over ord s t u y own place link q still linked here g (tests.fresh) all_u,
-          few_more 2 3 own (e ∷ []) few (omega arith),
-        )
+        missed_over ord s t u y own place link q still linked here g (tests.fresh) all_u few
 
 -- it is one load
 pub tests_once : {N : Type 0} (at : At) (want : Want) (noted : Option N) (done : Bool) (s t u : Seat N) → Tests at want noted s done t → Puts t [] u

@@ -46,28 +46,3 @@ module _ {N S : Type 0} (agent_of : S → ℕ) (events : List S → List (Event 
       let some : turns ≢ 0 = λ zero_turns. let bad : ◌≡◌ {A = Result Bool ListRefused} (Err (Spent why)) (Err Again) = none zero_turns in cc in
       let (from, to, low, order, high, fact) = (spent why refl).within in
       (from, to, omega (arith, low, (part_bounds agent_of agent j m grows).0), order, high, (some, fact))
-
--- the entries of each of two agents in what both have seen
-pub learns : {N S : Type 0} (ord : Ordering N) (events : List S → List (Event N)) (agent1 agent2 : ℕ) (s1 s2 t1 : Seat N)
-    (j1 j2 k1 k2 : List S)
-    → k1 ≡ k2 → (IsPrefix j1 j2 × (k1 ≡ j2)) ⊎ (IsPrefix j2 j1 × (k1 ≡ j1))
-    → AllAllowed ord.may [] s1.seen → AllAllowed ord.may [] s2.seen → AllAllowed ord.may [] t1.seen → s1.seen ≡ events j1 → s2.seen ≡ events
-    j2
-    → t1.seen ≡ events k1
-    → events_by agent1 t1.seen ≡ events_by agent1 s1.seen → events_by agent2 t1.seen ≡ events_by agent2 s2.seen
-    → LearnsEntries (λ j. noted_entries ord.reading.entries_in (events j)) agent_of_set_entry agent1 agent2 j1 j2 k1 k2
-learns {N} {S} ord events agent1 agent2 s1 s2 t1 j1 j2 k1 k2 one longer all1 all2 all is1 is2 is own1 own2 = record {
-  one = one;
-  longer = longer;
-  own1 = own agent1 s1 j1 all1 is1 own1;
-  own2 = own agent2 s2 j2 all2 is2 own2;
-}
-  where
-    own : (agent : ℕ) (s : Seat N) (j : List S) → AllAllowed ord.may [] s.seen → s.seen ≡ events j
-        → events_by agent t1.seen ≡ events_by agent s.seen
-        → own_of agent_of_set_entry agent (noted_entries ord.reading.entries_in (events k1)) ≡ own_of agent_of_set_entry agent (noted_entries ord.reading.entries_in (events j))
-    own agent s j all_s is_j same =
-        ap (λ z. own_of agent_of_set_entry agent (noted_entries ord.reading.entries_in z)) (sym is)
-        ∙ (own_of_events ord.reading.entries_in agent_of_set_entry ord.may (λ es e may. ord.owes.own es e may) agent [] t1.seen all ∙
-        (ap (λ z. noted_entries ord.reading.entries_in z) same ∙ (sym (own_of_events ord.reading.entries_in agent_of_set_entry ord.may (λ es e may. ord.owes.own es e may) agent [] s.seen all_s) ∙ ap
-        (λ z. own_of agent_of_set_entry agent (noted_entries ord.reading.entries_in z)) is_j)))

@@ -1,5 +1,5 @@
 -- A node is marked, and a place is led past a run of marked nodes.
-use Rattle.std.proofs.Common.{Bool, List, None, Ok, Err, Option, Result, Some, [], ap, append-nil, arith, false, length, length-append, refl, subst, sym, true, ℕ, ◌+◌, ◌++◌, ◌∙◌, ◌∷◌, ◌≡◌}
+use Rattle.std.proofs.Common.{Bool, List, None, Ok, Err, Option, Result, Some, [], ap, append-nil, arith, false, inl, inr, length, length-append, refl, subst, sym, true, ℕ, ◌+◌, ◌++◌, ◌∙◌, ◌∷◌, ◌≡◌}
 use Rattle.std.specs.Prelude.{IfErr, IfOk}
 use mathlib.Core.List.{IsPrefix}
 use Rattle.orc_fault.specs.declared.Spent.{Spent}
@@ -22,10 +22,15 @@ use Rattle.orc_heap.specs.declared.holds.Want.TheVariants.{Node as WantNode, Nul
 use Rattle.orc_history.specs.Journals.{Within}
 use Rattle.orc_history.specs.Parts.{InPart, part_begin}
 use Rattle.orc_ordered_chains.proofs.Acts.{rank_linked}
-use Rattle.orc_ordered_chains.specs.Chains.{IsChainPlace, link_over}
-use Rattle.orc_ordered_search.specs.Reading.{Ordering}
+use Rattle.orc_ordered_chains.specs.Chains.{HasRank, IsChainPlace, IsRun, link_over}
+use Rattle.orc_ordered_search.specs.Entries.{AllowsMark, AllowsUnlink}
+use Rattle.orc_history.specs.declared.set.SetEntry.{SetEntry}
+use Rattle.orc_history.specs.declared.set.SetEntry.TheVariants.{Removed}
+use Rattle.orc_heap.specs.Allowed.{AllowedLater}
+use Rattle.orc_heap.specs.Heap.{link_to}
+use Rattle.orc_ordered_search.specs.Reading.{Ordering, Reading}
 use Rattle.orc_ordered_search.specs.Searches.{NextFollows}
-use Rattle.orc_ordered_search.specs.Turns.{Marks, Tries}
+use Rattle.orc_ordered_search.specs.Turns.{HasManyLinks, Marks, Tries, TriesUnlink}
 use Rattle.orc_ordered_search.proofs.Held.{FreshIs}
 use Rattle.orc_ordered_search.proofs.Quiets.{silent_one}
 
@@ -74,33 +79,95 @@ marks {N} ord s t id to noted same at from marked done at_is from_is marked_is n
           (Swings-missed w is));
     }
 
--- a swing with a note that enters nothing, whatever comes of it
-pub tries : {N : Type 0} (ord : Ordering N) (s t : Seat N) (id : ℕ) (to : Option ℕ) (noted : N) (at : At) (from past : Want) (result : Result Bool Spent)
-    → ord.reading.entries_in (Some noted) ≡ [] → link_in s.slots past ≡ link_over to → NextFollows ord.reading id to s → FreshIs ord s
-    → IfOk result (λ done. Swings at from past (Some noted) s done t) → IfErr result (λ e. Only [] s t) → Tries ord.reading s t
-tries {N} ord s t id to noted at from past (Ok done) silent past_is follows fresh w none = cases done refl
+pub mark_allowed : {N : Type 0} (ord : Ordering N) (rank_of : ℕ → ℕ) (noted : SetEntry → N) → AllowsMark ord.reading ord.holds ord.may rank_of noted
+    → (s : Seat N) (id key by : ℕ) (to : Option ℕ) (from marked : Link) (note : N) → from ≡ link_over to → marked ≡ record { to = to; mark = true }
+    → note ≡ noted (Removed by key true) → by ≡ s.agent → ord.holds s.seen → HasRank ord.reading.order (heap_of ord.reading.numbers s) id (rank_of key)
+    → AllowedLater ord.may ord.reading.numbers s.agent s.seen (Next id) from (event_of s (Move (Next id) from marked) (Some note))
+mark_allowed {N} ord rank_of noted allows s id key by to from marked note from_is marked_is note_is by_is holds own =
+    let same : note ≡ noted (Removed s.agent key true) = note_is ∙ ap (λ (a : ℕ). noted (Removed a key true)) by_is in
+    rw (from_is, marked_is, same) (allows s.agent id key (link_over to) s.seen holds own refl)
+
+pub try_allowed : {N : Type 0} (ord : Ordering N) (unlinking : N) → AllowsUnlink ord.reading ord.holds ord.may unlinking
+    → (s : Seat N) (place at : Place) (first : ℕ) (others : List ℕ) (to : Option ℕ) (past : Link) (note : N) → at ≡ place → past ≡ link_over to
+    → note ≡ unlinking → ord.holds s.seen → IsChainPlace ord.reading.order (heap_of ord.reading.numbers s) place
+    → IsRun (heap_of ord.reading.numbers s) (link_to first) (first ∷ others) to
+    → AllowedLater ord.may ord.reading.numbers s.agent s.seen at (link_to first) (event_of s (Move at (link_to first) past) (Some note))
+try_allowed {N} ord unlinking allows s place at first others to past note at_is past_is note_is holds l run =
+    rw (at_is, past_is, note_is) (allows s.agent place (link_to first) first others to s.seen holds l refl run)
+
+-- a refused swing names a target to which many links were made
+many_links : {N : Type 0} (s : Seat N) (from past : Want) (why : Spent) (seen : List (Event N)) (to : Option ℕ) → link_in s.slots past ≡ link_over to
+    → RefusesSwing s.slots from past why seen → HasManyLinks to seen
+many_links s from (WantNull mark) why seen to is r = absurd r
+many_links s from (WantNode h mark) why seen to is r = (id_in s.slots h.now, sym (ap (λ (l : Link). l.to) is), r.1.links)
+
+-- one swing past a run, whatever comes of it
+pub tries : {N : Type 0} (ord : Ordering N) (s t : Seat N) (place : Place) (id first : ℕ) (to : Option ℕ) (Worn : Type 0) (note unlinking : N) (at : At)
+    (from past : Want) (result : Result Bool Spent)
+    → place_in s.slots at ≡ place → link_in s.slots from ≡ link_to first → link_in s.slots past ≡ link_over to → note ≡ unlinking
+    → NextFollows ord.reading id to s → FreshIs ord s
+    → IfOk result (λ done. Swings at from past (Some note) s done t) → IfErr result (λ e. Only [] s t)
+    → IfErr result (λ e. RefusesSwing s.slots from past e t.seen) → IfErr result (λ e. Worn)
+    → TriesUnlink unlinking place first to Worn s t
+tries {N} ord s t place id first to Worn note unlinking at from past (Ok done) at_is from_is past_is note_is follows fresh w none refused worn =
+    cases done refl
   where
-    cases : (b : Bool) → done ≡ b → Tries ord.reading s t
+    cases : (b : Bool) → done ≡ b → TriesUnlink unlinking place first to Worn s t
     cases true is = record {
-      own = move_of s at from past (Some noted) ∷ [];
-      puts = Swings-moved w is;
+      slots = w.slots;
+      fresh = Swings-fresh w is ∙ (ap (λ (l : Link). unless_node s.fresh l.to) past_is ∙ target_fresh ord s id to follows fresh);
+      either = inl (inl (subst (λ (e : Event N). Puts s (e ∷ []) t) event_is (Swings-moved w is)));
+    }
+      where
+        event_is : move_of s at from past (Some note) ≡ event_of s (Move place (link_to first) (link_over to)) (Some unlinking)
+        event_is = rw (at_is, from_is, past_is, note_is) refl
+    cases false is = record {
+      slots = w.slots;
+      fresh = missed_fresh w is;
+      either = inl (inr (subst (λ (p : Place). Misses p (link_to first) s t) at_is (subst (λ (l : Link). Misses (place_in s.slots at) l s t) from_is
+          (Swings-missed w is))));
+    }
+tries ord s t place id first to Worn note unlinking at from past (Err e) at_is from_is past_is note_is follows fresh w none refused worn = record
+    { slots = none.slots; fresh = none.fresh; either = inr (worn, many_links s from past e t.seen to past_is refused, none.puts) }
+
+-- such a swing enters nothing
+pub tried_of : {N : Type 0} (ord : Ordering N) (s t : Seat N) (place : Place) (first : ℕ) (to : Option ℕ) (Worn : Type 0) (unlinking : N)
+    → ord.reading.entries_in (Some unlinking) ≡ [] → TriesUnlink unlinking place first to Worn s t → Tries ord.reading s t
+tried_of {N} ord s t place first to Worn unlinking silent w = elim w.either [
+  | inl swung ↦ elim swung [
+    | inl p ↦ record {
+      own = event_of s (Move place (link_to first) (link_over to)) (Some unlinking) ∷ [];
+      puts = p;
       no_entries = rw silent refl;
       no_give = refl;
       slots = w.slots;
-      fresh = Swings-fresh w is ∙ (ap (λ (l : Link). unless_node s.fresh l.to) past_is ∙ target_fresh ord s id to follows fresh);
+      fresh = w.fresh;
     }
-    cases false is =
-        let m = Swings-missed w is in
-        record {
-          own = event_of s (Miss (place_in s.slots at) (link_in s.slots from) m.found) None ∷ [];
-          puts = m.puts;
-          no_entries = silent_one ord s.agent (Miss (place_in s.slots at) (link_in s.slots from) m.found);
-          no_give = refl;
-          slots = w.slots;
-          fresh = missed_fresh w is;
-        }
-tries ord s t id to noted at from past (Err e) silent past_is follows fresh w none =
-    record { own = []; puts = none.puts; no_entries = refl; no_give = refl; slots = none.slots; fresh = none.fresh }
+    | inr miss ↦ record {
+      own = event_of s (Miss place (link_to first) miss.found) None ∷ [];
+      puts = miss.puts;
+      no_entries = silent_one ord s.agent (Miss place (link_to first) miss.found);
+      no_give = refl;
+      slots = w.slots;
+      fresh = w.fresh;
+    }
+  ]
+  | inr worn ↦ record { own = []; puts = worn.2; no_entries = refl; no_give = refl; slots = w.slots; fresh = w.fresh }
+]
+
+pub tries_wider : {N : Type 0} (Worn More : Type 0) (unlinking : N) (place : Place) (first : ℕ) (to : Option ℕ) (s t : Seat N) → (Worn → More)
+    → TriesUnlink unlinking place first to Worn s t → TriesUnlink unlinking place first to More s t
+tries_wider Worn More unlinking place first to s t wider w = record {
+  slots = w.slots;
+  fresh = w.fresh;
+  either = elim w.either [ inl swung ↦ inl swung | inr worn ↦ inr (wider worn.0, worn.1, worn.2) ];
+}
+
+-- what follows a node, by what the pass holds
+pub follows_at : {N : Type 0} (r : Reading N) (t : Seat N) (id at : ℕ) (to target : Option ℕ) → id ≡ at → to ≡ target → NextFollows r id to t
+    → NextFollows r at target t
+follows_at r t id at to target id_is to_is f =
+    subst (λ (i : ℕ). NextFollows r i target t) id_is (subst (λ (o : Option ℕ). NextFollows r id o t) to_is f)
 
 -- a fact of a call's part is one of two places in what is new
 pub part_fact : {S : Type 0} (agent_of : S → ℕ) (agent : ℕ) (before after : List S) (Fact : ℕ → ℕ → Type 0) → IsPrefix before after
@@ -129,3 +196,18 @@ worn_since {S} worn agent_of a b j k m stays same one two (Err e) w =
     let here : Within (length k) (length m) (worn b e m) = part_fact agent_of b k m (worn b e m) two w in
     let there : Within (length k) (length m) (worn a e m) = subst (λ (x : ℕ). Within (length k) (length m) (worn x e m)) same here in
     within_wider (worn a e) j k m m (stays e) one ([], append-nil m) there
+
+pub worn_part : {S : Type 0} (agent_of : S → ℕ) (agent : ℕ) (before after : List S) (worn : Spent → List S → ℕ → ℕ → Type 0) → IsPrefix before after
+    → (result : Result Bool Spent)
+    → IfErr result (λ e. InPart agent_of agent before after (worn e after))
+    → IfErr result (λ e. (why : Spent) × Within (length before) (length after) (worn why after))
+worn_part agent_of agent before after worn grows (Ok done) w = tt
+worn_part agent_of agent before after worn grows (Err e) w = (e, part_fact agent_of agent before after (worn e after) grows w)
+
+-- what was worn in a piece of a call was so in the whole
+pub worn_wider : {S : Type 0} (worn : ℕ → Spent → List S → ℕ → ℕ → Type 0) (a b : ℕ) (j k m o : List S)
+    → ((why : Spent) (xs more : List S) (from to : ℕ) → worn a why xs from to → worn a why (xs ++ more) from to) → b ≡ a → IsPrefix j k → IsPrefix m o
+    → ((why : Spent) × Within (length k) (length m) (worn b why m)) → (why : Spent) × Within (length j) (length o) (worn a why o)
+worn_wider worn a b j k m o stays same one two (why, w) =
+    let here : Within (length k) (length m) (worn a why m) = subst (λ (x : ℕ). Within (length k) (length m) (worn x why m)) same w in
+    (why, within_wider (worn a why) j k m o (stays why) one two here)

@@ -24,8 +24,11 @@ use Rattle.orc_ordered_chains.proofs.Acts.{move_moves, rank_linked}
 use Rattle.orc_ordered_chains.proofs.Later.{marked_later, rank_later}
 use Rattle.orc_ordered_chains.specs.Chains.{HasRank, IsChainPlace, IsRun, link_over}
 use Rattle.orc_ordered_search.specs.Reading.{Ordering}
-use Rattle.orc_ordered_search.specs.Searches.{AllGone, BeginsRun, FindsPresent, HoldsIfAny, InHand, NextFollows, first_or, left_place, node_of, place_at, target_at}
-use Rattle.orc_ordered_search.specs.Turns.{Answers, Marks, Tires, Tries}
+use Rattle.orc_ordered_search.specs.Searches.{AllGone, BeginsRun, FindsPresent, HoldsIfAny, InHand, NextFollows, first_or, left_place, node_of, place_at, run_head, target_at}
+use Rattle.orc_ordered_search.specs.Turns.{Answers, Marks, TakesNode, Tires, Tries, TriesUnlink}
+use Rattle.orc_ordered_search.specs.Ways.{IsFew}
+use Rattle.orc_ordered_search.proofs.Marking.{tried_of}
+use Rattle.orc_ordered_search.proofs.Seen.{present_few}
 use Rattle.orc_ordered_search.proofs.Entering.{from_is, head_of, missed_over, place_of_hand, target_is, target_of_hand}
 use Rattle.orc_ordered_search.proofs.Held.{first_held, fourth_held, in_hand_on, present_hand, second_held}
 use Rattle.orc_ordered_search.proofs.Making.{made_after, made_on}
@@ -56,11 +59,6 @@ marked_link {N} ord t u id rank from to noted p all own mark =
     (marked_later ord.reading.order n ord.may ord.owes.fits ord.owes.marked ((t.seen ++ m.before) ++ e ∷ []) m.later id to there mark m.last)
 
 -- the run that ends with the marked node
-
--- its first node
-abbrev pub run_head : Option Hold → ℕ → ℕ → ℕ
-run_head None first_id id = id
-run_head (Some h) first_id id = first_id
 
 pub record RunFrom (from : Link) (over : List ℕ) (head : ℕ) : Type 0 where
   pub others : List ℕ
@@ -208,29 +206,45 @@ module _ {N : Type 0} (ord : Ordering N) (start : Place) (wanted passed : ℕ) (
       let to_is : target_at u.slots next ≡ to = ap (λ (z : Slots). target_at z next) m.slots ∙ r.next_is in
       (f.id, subst (λ (o : Option ℕ). NextFollows ord.reading f.id o u) (sym to_is) (next_puts ord t u _ m.puts all f.id to f.follows))
 
+  pub tries_at : (u v : Seat N) (h : Hold) (root : ℕ) (unlinking : N) (Worn : Type 0) → root ≡ ord.reading.order.root wanted → u.slots ≡ t.slots
+      → Some h ≡ first_or first (Some node) → TriesUnlink unlinking (place_at u.slots root left) (id_in u.slots h) (target_at u.slots next) Worn u v
+      → TriesUnlink unlinking (left_place (ord.reading.order.root wanted) left f.left_id) (run_head first f.first_id f.id) (node_of next f.next_id) Worn u v
+  tries_at u v h root unlinking Worn of_rank same is tried =
+      let a = unlink_at u h same is in
+      let place = left_place (ord.reading.order.root wanted) left f.left_id in
+      let at = subst (λ (r : ℕ). TriesUnlink unlinking (place_at u.slots r left) (id_in u.slots h) (target_at u.slots next) Worn u v) of_rank tried in
+      let one = subst (λ (p : Place). TriesUnlink unlinking p (id_in u.slots h) (target_at u.slots next) Worn u v) a.place_is at in
+      let two = subst (λ (i : ℕ). TriesUnlink unlinking place i (target_at u.slots next) Worn u v) a.id_is one in
+      subst (λ (o : Option ℕ). TriesUnlink unlinking place (run_head first f.first_id f.id) o Worn u v) a.to_is two
+
   pub tried_hand : (u v : Seat N) → Tries ord.reading u v → AllAllowed ord.may [] v.seen → InHand ord.reading s.slots left first (Some node) next u
       → InHand ord.reading s.slots left first (Some node) next v
   tried_hand u v tried all h = in_hand_on ord s.slots left first (Some node) next u v tried.own tried.puts all tried.slots h
 
   -- the node's link was another
   pub removes_missed : (noted : N) (u y : Seat N) → Marks noted f.id (node_of next f.next_id) t false u → AllGone s.slots u y → AllAllowed ord.may [] u.seen
-      → Tires ord.reading 1 s y
+      → (a : Tires ord.reading 1 s y) × IsFew 3 a.own
   removes_missed noted u y m g all =
       missed_over ord s t u y f.own (Next f.id) (link_over (node_of next f.next_id)) f.behind.quiet f.still
       (rank_linked ord.reading.order (heap_of ord.reading.numbers t) f.id wanted f.is_of.has_key) m.puts g m.fresh all
+      (present_few ord.reading start wanted passed left first node next s t f)
 
   -- the node was marked, and a try was made to lead past it
-  pub removes_done : (noted : N) (entry : SetEntry) (u v y : Seat N) → ord.reading.entries_in (Some noted) ≡ entry ∷ []
-      → Marks noted f.id (node_of next f.next_id) t true u → Tries ord.reading u v → AllGone s.slots v y → Answers ord.reading s entry y
-  removes_done noted entry u v y enters m tried g =
+  pub removes_done : (noted unlinking : N) (entry : SetEntry) (Worn : Type 0) (y : Seat N) → ord.reading.entries_in (Some noted) ≡ entry ∷ []
+      → ord.reading.entries_in (Some unlinking) ≡ []
+      → TakesNode noted unlinking (left_place (ord.reading.order.root wanted) left f.left_id) (run_head first f.first_id f.id) f.id (node_of next f.next_id) Worn
+      s.slots t y → Answers ord.reading s entry y
+  removes_done noted unlinking entry Worn y enters silent k =
       let to : Option ℕ = node_of next f.next_id in
+      let m = k.marks in
+      let tried = tried_of ord k.marked k.tried _ _ to Worn unlinking silent k.tries in
       let e : Event N = event_of t (Move (Next f.id) (link_over to) (record { to = to; mark = true })) (Some noted) in
-      let p = Puts-trans t u v (e ∷ []) tried.own m.puts tried.puts in
+      let p = Puts-trans t k.marked k.tried (e ∷ []) tried.own m.puts tried.puts in
       let entries : noted_entries ord.reading.entries_in (e ∷ tried.own) ≡ entry ∷ [] = rw (enters, tried.no_entries) refl in
-      let made = made_after ord.reading 0 s t v f.own (e ∷ tried.own) (entry ∷ []) f.behind.quiet p entries (omega (arith, tried.no_give)) in
+      let made = made_after ord.reading 0 s t k.tried f.own (e ∷ tried.own) (entry ∷ []) f.behind.quiet p entries (omega (arith, tried.no_give)) in
       record {
         own = f.own ++ e ∷ tried.own;
-        made = made_on ord.reading 0 s v y (f.own ++ e ∷ tried.own) (entry ∷ []) made g.puts;
-        slots = g.slots_are;
-        fresh = g.fresh ∙ (tried.fresh ∙ (m.fresh ∙ f.behind.quiet.fresh));
+        made = made_on ord.reading 0 s k.tried y (f.own ++ e ∷ tried.own) (entry ∷ []) made k.gone.puts;
+        slots = k.gone.slots_are;
+        fresh = k.gone.fresh ∙ (tried.fresh ∙ (m.fresh ∙ f.behind.quiet.fresh));
       }

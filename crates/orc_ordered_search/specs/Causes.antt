@@ -4,6 +4,7 @@ use Rattle.std.specs.Prelude.{List, drop, if◌then◌else◌, length, take, tru
 use Rattle.orc_fault.specs.declared.Spent.{Spent as SpentRow}
 use Rattle.orc_heap.specs.Moves.{move_with}
 use Rattle.orc_heap.specs.declared.events.Event.{Event}
+use Rattle.orc_history.specs.Journals.{Within}
 use Rattle.orc_history.specs.declared.set.ListRefused.{ListRefused}
 use Rattle.orc_history.specs.declared.set.ListRefused.TheVariants.{Again, NoNode, Spent}
 
@@ -19,6 +20,10 @@ pub record UsesTurns {N S : Type 0} (agent_of : S → ℕ) (events : List S → 
   pub in_journal : to ≤ length journal
   pub moves : others_moves agent (events (take from journal)) + turns ≤ others_moves agent (events (take to journal))
   pub not_alone : 1 ≤ turns → list_all (λ s. agent_of s == agent) (drop from (take to journal)) ≡ true → ⊥
+
+-- between the ends of two journals, the later of which is the longer, the domain read some row's sequence at its limit
+abbrev pub HasWorn : {S : Type 0} → (SpentRow → List S → ℕ → ℕ → Type 0) → List S → List S → Type 0
+HasWorn worn before after = (why : SpentRow) × Within (length before) (length after) (worn why after)
 
 -- the cause of each refusal, where `Lacks` says that no row could be given, and `Worn` that a row was worn
 abbrev pub Cause : {N S : Type 0} → (S → ℕ) → (List S → List (Event N)) → Type 0 → (SpentRow → Type 0) → ℕ → ℕ → ListRefused → List S → ℕ → ℕ → Type 0

@@ -2,14 +2,14 @@
 use Rattle.std.specs.Prelude.{List, None, Option, Some, [], false, true, ℕ, ◌∷◌, ◌≡◌, ◌⊎◌}
 use Rattle.orc_heap.specs.Allowed.{AllowedLater}
 use Rattle.orc_heap.specs.Journals.{event_by, run_heap}
-use Rattle.orc_heap.specs.declared.events.Act.TheVariants.{Look}
+use Rattle.orc_heap.specs.declared.events.Act.TheVariants.{Look, Move}
 use Rattle.orc_heap.specs.declared.events.Event.{Event}
 use Rattle.orc_heap.specs.declared.events.Link.{Link}
 use Rattle.orc_heap.specs.declared.events.Place.{Place}
 use Rattle.orc_heap.specs.declared.events.Place.TheVariants.{Next}
 use Rattle.orc_history.specs.declared.set.SetEntry.{SetEntry}
 use Rattle.orc_history.specs.declared.set.SetEntry.TheVariants.{Added, Asked, Removed}
-use Rattle.orc_ordered_chains.specs.Chains.{FollowsOn, HasRank, IsAbove, IsRun}
+use Rattle.orc_ordered_chains.specs.Chains.{FollowsOn, HasRank, IsAbove, IsChainPlace, IsRun, link_over}
 use Rattle.orc_ordered_search.specs.Reading.{Reading}
 
 -- an answer of this agent that the key is absent
@@ -34,3 +34,16 @@ module _ {N : Type 0} (r : Reading N) (holds : List (Event N) → Type 0) (may :
   AllowsPresence = (agent id key : ℕ) (link : Link) (entry : SetEntry) (seen : List (Event N)) → IsPresence agent key entry → holds seen
       → HasRank r.order (run_heap r.numbers seen) id (rank_of key) → link.mark ≡ false
       → AllowedLater may r.numbers agent seen (Next id) link (event_by agent (Look (Next id) link) (Some (noted entry)))
+
+  -- a Move may take a key out that marks the unmarked link of a node with the key's rank
+  abbrev pub AllowsMark : Type 0
+  AllowsMark = (agent id key : ℕ) (link : Link) (seen : List (Event N)) → holds seen → HasRank r.order (run_heap r.numbers seen) id (rank_of key)
+      → link.mark ≡ false
+      → AllowedLater may r.numbers agent seen (Next id) link
+      (event_by agent (Move (Next id) link (record { to = link.to; mark = true })) (Some (noted (Removed agent key true))))
+
+-- a Move with this note may lead a place of a chain past a run of marked nodes
+abbrev pub AllowsUnlink : {N : Type 0} → Reading N → (List (Event N) → Type 0) → (List (Event N) → Event N → Type 0) → N → Type 0
+AllowsUnlink {N} r holds may unlinking = (agent : ℕ) (place : Place) (from : Link) (first : ℕ) (others : List ℕ) (to : Option ℕ) (seen : List (Event N))
+    → holds seen → IsChainPlace r.order (run_heap r.numbers seen) place → from.mark ≡ false → IsRun (run_heap r.numbers seen) from (first ∷ others) to
+    → AllowedLater may r.numbers agent seen place from (event_by agent (Move place from (link_over to)) (Some unlinking))

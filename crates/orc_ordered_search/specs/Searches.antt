@@ -86,6 +86,11 @@ abbrev pub ends_looks : Option Hold → ℕ
 ends_looks None = 2
 ends_looks (Some h) = 4
 
+-- the first node of the run that ends with this one, by what is in hand
+abbrev pub run_head : Option Hold → ℕ → ℕ → ℕ
+run_head None first_id id = id
+run_head (Some h) first_id id = first_id
+
 module _ {N : Type 0} where
   -- Looks among these events found that this link leads over these nodes, each with a marked link, to the target
   abbrev pub SeesRun : List (Event N) → Link → List ℕ → Option ℕ → Type 0

@@ -1,17 +1,21 @@
 -- What the turns of a call do. After Harris 2001.
-use Rattle.std.specs.Prelude.{Bool, Err, List, MatchBool, None, Ok, Option, Result, Some, [], false, true, ℕ, ◌∷◌, ◌≡◌, ◌≢◌, ◌≤◌}
+use Rattle.std.specs.Prelude.{Bool, Err, List, MatchBool, None, Ok, Option, Result, Some, [], false, true, ℕ, ◌∷◌, ◌≡◌, ◌≢◌, ◌≤◌, ◌⊎◌}
 use Rattle.orc_fault.specs.declared.Again.{Again as AgainFault}
-use Rattle.orc_heap.specs.Calls.{Misses, event_of}
+use Rattle.orc_heap.specs.Calls.{Misses, event_of, links_made}
+use Rattle.orc_heap.specs.Heap.{link_to}
 use Rattle.orc_heap.specs.Journals.{noted_entries}
 use Rattle.orc_heap.specs.Moves.{from_own, gives_in, moves_in}
 use Rattle.orc_heap.specs.OwnEvents.{Puts}
 use Rattle.orc_heap.specs.Seats.{Seat}
+use Rattle.orc_heap.specs.Slots.{Hold, Slots}
 use Rattle.orc_heap.specs.declared.events.Act.TheVariants.{Move}
 use Rattle.orc_heap.specs.declared.events.Event.{Event}
+use Rattle.orc_heap.specs.declared.events.Place.{Place}
 use Rattle.orc_heap.specs.declared.events.Place.TheVariants.{Next}
 use Rattle.orc_history.specs.declared.set.SetEntry.{SetEntry}
 use Rattle.orc_ordered_chains.specs.Chains.{link_over}
 use Rattle.orc_ordered_search.specs.Reading.{Reading}
+use Rattle.orc_ordered_search.specs.Searches.{AllGone, FindsPresent, left_place, node_of, run_head}
 use Rattle.orc_ordered_search.specs.Ways.{AreLoads, IsFew, IsLoad}
 
 module _ {N : Type 0} where
@@ -75,6 +79,33 @@ module _ {N : Type 0} where
     pub fresh : t.fresh ≡ s.fresh
     pub puts : MatchBool done (Puts s (event_of s (Move (Next id) (link_over to) (record { to = to; mark = true })) (Some noted) ∷ []) t)
         (Misses (Next id) (link_over to) s t)
+
+  -- at least 32 links were made to this node
+  abbrev pub HasManyLinks : Option ℕ → List (Event N) → Type 0
+  HasManyLinks to seen = (id : ℕ) × (to ≡ Some id) × (32 ≤ links_made seen id)
+
+  -- the place was led past the run, with this note, or showed another link, or something was worn, and the node behind the run has many links
+  pub record TriesUnlink (noted : N) (place : Place) (first : ℕ) (to : Option ℕ) (IsWorn : Type 0) (s t : Seat N) : Type 0 where
+    pub slots : t.slots ≡ s.slots
+    pub fresh : t.fresh ≡ s.fresh
+    pub either : (Puts s (event_of s (Move place (link_to first) (link_over to)) (Some noted) ∷ []) t ⊎ Misses place (link_to first) s t)
+        ⊎ (IsWorn × HasManyLinks to t.seen × Puts s [] t)
+
+  -- a node that a search found was marked, with this note, and then one try made to lead the left place past the run that ends with it; all
+  -- nodes are let go
+  pub record TakesNode (noted unlinking : N) (place : Place) (first id : ℕ) (to : Option ℕ) (IsWorn : Type 0) (slots : Slots) (s t : Seat N) : Type 0 where
+    pub marked : Seat N
+    pub tried : Seat N
+    pub marks : Marks noted id to s true marked
+    pub tries : TriesUnlink unlinking place first to IsWorn marked tried
+    pub gone : AllGone slots tried t
+
+  -- or its link was another
+  abbrev pub TakesOut : (r : Reading N) → N → N → (start : Place) (wanted passed : ℕ) (left first : Option Hold) (node : Hold) (next : Option Hold) → Type 0
+      → (s t : Seat N) → FindsPresent r start wanted passed left first node next s t → Bool → Seat N → Type 0
+  TakesOut r noted unlinking start wanted passed left first node next IsWorn s t f true u =
+      TakesNode noted unlinking (left_place (r.order.root wanted) left f.left_id) (run_head first f.first_id f.id) f.id (node_of next f.next_id) IsWorn s.slots t u
+  TakesOut r noted unlinking start wanted passed left first node next IsWorn s t f false u = (a : Tires r 1 s u) × IsFew 3 a.own
 
   -- one event at most, which enters nothing and gives no node; the pass holds what it held
   pub record Tries (r : Reading N) (s t : Seat N) : Type 0 where

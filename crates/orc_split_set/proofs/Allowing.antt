@@ -32,18 +32,6 @@ use Rattle.orc_split_set.specs.declared.node.NewNode.{NewNode}
 use Rattle.orc_split_set.specs.declared.node.NewNode.TheVariants.{Dummy, Key}
 use Rattle.orc_split_set.proofs.Ordered.{split_ordering}
 
-pub mark_allowed : (n : HeapNumbers) (s : Seat SplitNote) (id key by : ℕ) (to : Option ℕ) (from marked : Link) → from ≡ link_over to
-    → marked ≡ record { to = to; mark = true } → by ≡ s.agent → SplitHolds n s.seen → HasKey (heap_of n s) id key
-    → AllowedLater (SplitMay n) n s.agent s.seen (Next id) from (event_of s (Move (Next id) from marked) (Some (Entry (Removed by key true))))
-mark_allowed n s id key by to from marked from_is marked_is by_is holds own =
-    rw (from_is, marked_is, by_is) (removed_allowed n s.agent id key (link_over to) s.seen holds own refl)
-
-pub try_allowed : (n : HeapNumbers) (s : Seat SplitNote) (place at : Place) (first : ℕ) (others : List ℕ) (to : Option ℕ) (past : Link) → at ≡ place
-    → past ≡ link_over to → SplitHolds n s.seen → IsChainPlace split_order (heap_of n s) place → IsRun (heap_of n s) (link_to first) (first ∷ others) to
-    → AllowedLater (SplitMay n) n s.agent s.seen at (link_to first) (event_of s (Move at (link_to first) past) (Some Unlink))
-try_allowed n s place at first others to past at_is past_is holds l run =
-    rw (at_is, past_is) (unlink_allowed n s.agent place (link_to first) first others to s.seen holds l refl run)
-
 -- a new node, of either kind
 
 new_allowed : (n : HeapNumbers) (agent : ℕ) (new : NewNode) (place : Place) (from : Link) (over : List ℕ) (to : Option ℕ) (fresh : ℕ)
@@ -76,12 +64,6 @@ link_allowed n by new noted h id to s t place at from want over possible k o hol
     } in
     subst (λ (x : SplitNote). AllowedLater (SplitMay n) n t.agent t.seen at want (event_of t (Move at want (link_to (id_in t.slots h))) (Some x))) (sym noted_is)
     (rw (at_is, want_is, by_is, id_is) (new_allowed n t.agent new place from over to id t.seen possible holds_t out node))
-
--- what follows a node, by what the pass holds
-pub follows_at : (n : HeapNumbers) (t : Seat SplitNote) (id at : ℕ) (to target : Option ℕ) → id ≡ at → to ≡ target
-    → NextFollows (split_reading n) id to t → NextFollows (split_reading n) at target t
-follows_at n t id at to target id_is to_is f =
-    subst (λ (i : ℕ). NextFollows (split_reading n) i target t) id_is (subst (λ (o : Option ℕ). NextFollows (split_reading n) id o t) to_is f)
 
 -- what is entered where a new node is linked
 pub note_enters : (by agent : ℕ) (new : NewNode) (noted : SplitNote) → noted ≡ note_for by new → by ≡ agent → entries_in (Some noted) ≡ entries_for agent new

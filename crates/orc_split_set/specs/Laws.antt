@@ -1,5 +1,5 @@
 -- Proofs of the laws that the set owes to its traits.
 pub mod Ordered
 pub mod SetLaws
-pub mod Answering
+pub mod Entries
 pub mod Placed

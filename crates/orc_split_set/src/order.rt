@@ -3,7 +3,7 @@
 ghost use Rattle.std.specs.Prelude.{◌≡◌, ◌≢◌, ◌<◌, true, false};
 ghost use Rattle.orc_split_rule.specs.SplitOrder.{key_place, reversed};
 ghost use Rattle.orc_split_rule.specs.declared.split.SplitNote.{SplitNote};
-ghost use Rattle.orc_split_set.specs.Laws.Answering.{split_allows_absence, split_allows_presence, split_enters};
+ghost use Rattle.orc_split_set.specs.Laws.Entries.{split_allows_absence, split_allows_mark, split_allows_presence, split_allows_unlink, split_enters, split_enters_none};
 ghost use Rattle.orc_split_set.specs.Laws.Ordered.{split_ordered};
 ghost use Rattle.orc_split_set.specs.SplitSearches.{rank_of, split_manner};
 
@@ -67,14 +67,27 @@ impl SetRank for SplitPlace {
 
     ghost noted = { λ entry. SplitNote.Entry entry };
 
+    ghost unlinking = { SplitNote.Unlink };
+
     #[inline(always)]
     fn note(entry: SetEntry) -> SplitNote {
         SplitNote::Entry(entry)
     }
 
+    #[inline(always)]
+    fn unlink_note() -> SplitNote {
+        SplitNote::Unlink
+    }
+
     ghost enters = { split_enters };
+
+    ghost enters_none = { split_enters_none };
 
     ghost allows_absence = { split_allows_absence };
 
     ghost allows_presence = { split_allows_presence };
+
+    ghost allows_mark = { split_allows_mark };
+
+    ghost allows_unlink = { split_allows_unlink };
 }

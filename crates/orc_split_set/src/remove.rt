@@ -1,16 +1,14 @@
-//! Taking a key out: its node's own link is marked, and then the left place is led past the marked nodes.
+//! Taking a key out.
 
-ghost use Rattle.std.specs.Prelude.{◌≡◌, ◌<◌, ◌≤◌, ◌≢◌, ℕ, List, ◌∷◌, Some, Ok, Err, true, false};
+ghost use Rattle.std.specs.Prelude.{◌≡◌, ◌<◌, ◌≤◌, ◌≢◌, ℕ, Ok, Err};
 ghost use mathlib.Core.List.{IsPrefix};
-ghost use Rattle.orc_heap.specs.Seats.{Seat, heap_of};
-ghost use Rattle.orc_heap.specs.Slots.{Holds, id_in};
+ghost use Rattle.orc_heap.specs.Seats.{Seat};
 ghost use Rattle.orc_heap.specs.declared.events.Place.{Place};
 ghost use Rattle.orc_history.specs.declared.set.SetEntry.{SetEntry};
-ghost use Rattle.orc_ordered_chains.specs.Chains.{IsChainPlace, IsRun, link_over};
-ghost use Rattle.orc_ordered_search.specs.Searches.{FindsPresent, HasRoom, HoldsIfAny, NextFollows, place_at, target_at};
-ghost use Rattle.orc_ordered_search.specs.Turns.{AnswersTurn, AnswersTurns, Enters, Marks, Tries};
-ghost use Rattle.orc_split_rule.specs.SplitDiscipline.{HasKey, greatest};
-ghost use Rattle.orc_split_rule.specs.SplitOrder.{key_place, split_order};
+ghost use Rattle.orc_ordered_search.specs.Searches.{HasRoom};
+ghost use Rattle.orc_ordered_search.specs.Turns.{AnswersTurn, AnswersTurns};
+ghost use Rattle.orc_split_rule.specs.SplitDiscipline.{greatest};
+ghost use Rattle.orc_split_rule.specs.SplitOrder.{key_place};
 ghost use Rattle.orc_split_rule.specs.declared.split.SplitNote.{SplitNote};
 ghost use Rattle.orc_split_set.specs.SplitSearches.{BeginsAt, split_reading};
 
@@ -19,104 +17,10 @@ use crate::node::NewNode;
 use crate::order::SplitPlace;
 use crate::search::search_for;
 use orc_fault::Again;
-use orc_heap::{At, Held, Links, Want};
+use orc_heap::{Held, Links};
 use orc_history::SetEntry;
-use orc_ordered_search::{Searched, enter_absent, let_all_go, link_to, node_or, place_of};
-use orc_split_rule::{Split, SplitNote};
-
-// Marks the link of the node with the key. A swing that changes the mark alone is never refused.
-fn mark_node<L: Links<Rule = Split>>(
-    links: &L,
-    p: &mut L::Pass,
-    key: u64,
-    node: &Held,
-    next: &Option<Held>,
-) -> bool
-    requires pass { L.belongs links.now p.old }
-    requires node { Holds (L.seat links.now p.old).slots node.now }
-    requires next { HoldsIfAny (L.seat links.now p.old).slots next.now }
-    requires key { HasKey (heap_of (L.numbers links.now) (L.seat links.now p.old)) (id_in (L.seat links.now p.old).slots node.now) key }
-    requires follows { NextFollows (split_reading (L.numbers links.now)) (id_in (L.seat links.now p.old).slots node.now) (target_at
-        (L.seat links.now p.old).slots next.now) (L.seat links.now p.old) }
-    ensures pass { L.belongs links.now p.new }
-    ensures later { IsPrefix (L.journal p.old) (L.journal p.new) }
-    ensures marked { Marks (SplitNote.Entry (SetEntry.Removed (L.seat links.now p.old).agent key true)) (id_in (L.seat links.now p.old).slots node.now)
-        (target_at (L.seat links.now p.old).slots next.now) (L.seat links.now p.old) result (L.seat links.now p.new) }
-{
-    let agent = links.agent(p);
-    let yes = true;
-    let note = SplitNote::Entry(SetEntry::Removed { agent, key, yes });
-    match links.swing(
-        p,
-        &At::Node(node),
-        &link_to(next, false),
-        &link_to(next, true),
-        Some(note),
-    ) {
-        Ok(done) => done,
-        Err(_) => unreachable!(),
-    }
-}
-
-// One try to lead the left place past the run that ends with the marked node, whatever comes of it.
-fn unlink_run<L: Links<Rule = Split>>(
-    links: &L,
-    p: &mut L::Pass,
-    left: &Option<Held>,
-    first: &Held,
-    next: &Option<Held>,
-)
-    requires pass { L.belongs links.now p.old }
-    requires roots { 0 < (L.numbers links.now).roots }
-    requires held { HoldsIfAny (L.seat links.now p.old).slots left.now × Holds (L.seat links.now p.old).slots first.now
-        × HoldsIfAny (L.seat links.now p.old).slots next.now }
-    requires left { IsChainPlace split_order (heap_of (L.numbers links.now) (L.seat links.now p.old)) (place_at (L.seat links.now p.old).slots 0 left.now) }
-    requires run { (others : List ℕ) × IsRun (heap_of (L.numbers links.now) (L.seat links.now p.old)) (link_over (target_at (L.seat links.now p.old).slots
-        (Some first.now)))
-        (id_in (L.seat links.now p.old).slots first.now ∷ others) (target_at (L.seat links.now p.old).slots next.now) }
-    requires follows { (id : ℕ) × NextFollows (split_reading (L.numbers links.now)) id (target_at (L.seat links.now p.old).slots next.now)
-        (L.seat links.now p.old) }
-    ensures pass { L.belongs links.now p.new }
-    ensures later { IsPrefix (L.journal p.old) (L.journal p.new) }
-    ensures tried { Tries (split_reading (L.numbers links.now)) (L.seat links.now p.old) (L.seat links.now p.new) }
-{
-    let _tried = links.swing(
-        p,
-        &place_of(0, left),
-        &Want::Node(first, false),
-        &link_to(next, false),
-        Some(SplitNote::Unlink),
-    );
-}
-
-// Takes the key out at its node, which a search found.
-fn take_out<L: Links<Rule = Split>>(
-    links: &L,
-    p: &mut L::Pass,
-    key: u64,
-    left: Option<Held>,
-    first: Option<Held>,
-    node: Held,
-    next: Option<Held>,
-) -> bool
-    requires pass { L.belongs links.now p.old }
-    requires roots { 0 < (L.numbers links.now).roots }
-    requires present { (start : Place) × (passed : ℕ) × (s : Seat SplitNote)
-        × FindsPresent (split_reading (L.numbers links.now)) start (key_place key) passed left first node next s (L.seat links.now p.old) }
-    ensures pass { L.belongs links.now p.new }
-    ensures later { IsPrefix (L.journal p.old) (L.journal p.new) }
-    ensures removed { (start : Place) (passed : ℕ) (s : Seat SplitNote)
-        → FindsPresent (split_reading (L.numbers links.now)) start (key_place key) passed left first node next s (L.seat links.now p.old)
-        → Enters (split_reading (L.numbers links.now)) (SetEntry.Removed (L.seat links.now p.old).agent key true) s result (L.seat links.now p.new) }
-{
-    if !mark_node(links, p, key, &node, &next) {
-        let_all_go::<SplitPlace, L>(links, p, left, first, Some(node), next);
-        return false;
-    }
-    unlink_run(links, p, &left, node_or(&first, &node), &next);
-    let_all_go::<SplitPlace, L>(links, p, left, first, Some(node), next);
-    true
-}
+use orc_ordered_search::{Searched, enter_absent, take_out};
+use orc_split_rule::Split;
 
 // One turn of a remove, which begins at the dummy in hand, or else at root 0.
 fn remove_from<L: Links<Rule = Split>>(
@@ -159,7 +63,7 @@ fn remove_from<L: Links<Rule = Split>>(
             next,
             passed: _,
         } => {
-            if take_out(links, p, key, left, first, node, next) {
+            if take_out::<SplitPlace, L>(links, p, 0, key, left, first, node, next) {
                 Some(true)
             } else {
                 None

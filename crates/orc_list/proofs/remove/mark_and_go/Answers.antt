@@ -1,5 +1,10 @@
 -- The node is marked, and all nodes are let go.
-use Rattle.std.proofs.Common.{true}
+use Rattle.std.proofs.Common.{subst, sym, true, ℕ}
+use Rattle.orc_heap.specs.Seats.{heap_of}
+use Rattle.orc_ordered_chains.specs.Chains.{HasRank}
+use Rattle.orc_chain_rule.specs.ChainDiscipline.{chain_order}
+use Rattle.orc_list.specs.Searches.{list_reading}
+use Rattle.orc_ordered_search.proofs.Marking.{follows_at}
 use Rattle.orc_heap.specs.declared.events.Place.TheVariants.{Root}
 use Rattle.orc_history.specs.declared.set.SetEntry.TheVariants.{Removed}
 use Rattle.orc_chain_rule.specs.declared.chain.ChainNote.TheVariants.{Entry}
@@ -14,6 +19,33 @@ mark_node-marked-requires-clause-node g c =
     let d = c.args.links.now in
     let a = c.args in
     (reads_node (list_ordering (g.L.Links.numbers d)) (Root a.root) a.key 0 a.left a.first a.node a.next s (g.L.Links.seat d a.p.now) f).node_held
+
+pub mark_node-marked-requires-clause-next : goal.mark_node-marked-requires-clause-next
+mark_node-marked-requires-clause-next g c =
+    let (s, f) = c.requires.present in
+    let d = c.args.links.now in
+    let a = c.args in
+    let t = g.L.Links.seat d a.p.now in
+    (reads_node (list_ordering (g.L.Links.numbers d)) (Root a.root) a.key 0 a.left a.first a.node a.next s t f).next_held
+
+pub mark_node-marked-requires-clause-key : goal.mark_node-marked-requires-clause-key
+mark_node-marked-requires-clause-key g c =
+    let (s, f) = c.requires.present in
+    let d = c.args.links.now in
+    let a = c.args in
+    let t = g.L.Links.seat d a.p.now in
+    let n = g.L.Links.numbers d in
+    subst (λ (i : ℕ). HasRank (chain_order n.roots) (heap_of n t) i a.key) (sym (reads_node (list_ordering (g.L.Links.numbers d)) (Root a.root) a.key 0 a.left a.first a.node a.next s t f).id_is)
+    f.is_of.has_key
+
+pub mark_node-marked-requires-clause-follows : goal.mark_node-marked-requires-clause-follows
+mark_node-marked-requires-clause-follows g c =
+    let (s, f) = c.requires.present in
+    let d = c.args.links.now in
+    let a = c.args in
+    let t = g.L.Links.seat d a.p.now in
+    let r = reads_node (list_ordering (g.L.Links.numbers d)) (Root a.root) a.key 0 a.left a.first a.node a.next s t f in
+    follows_at (list_reading (g.L.Links.numbers d)) t f.id _ _ _ (sym r.id_is) (sym r.next_is) f.follows
 
 pub let_all_go-requires-clause-hands : goal.let_all_go-requires-clause-hands
 let_all_go-requires-clause-hands g c =

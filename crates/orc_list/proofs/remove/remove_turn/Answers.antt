@@ -1,12 +1,13 @@
 -- By what the search found.
-use Rattle.std.proofs.Common.{Bool, [], append-nil, false, subst, true, ℕ}
+use Rattle.std.proofs.Common.{[], append-nil, false, subst, true, ℕ}
 use Rattle.orc_heap.specs.declared.events.Place.TheVariants.{Root}
 use Rattle.orc_history.specs.declared.set.SetEntry.TheVariants.{Removed}
-use Rattle.orc_list.specs.Causes.{HasWorn}
-use Rattle.orc_list.specs.Turns.{Enters, RemovesNode, TakesOut}
+use Rattle.orc_ordered_search.specs.Causes.{HasWorn}
+use Rattle.orc_list.specs.Turns.{Enters}
+use Rattle.orc_list.proofs.Removing.{removes_done}
 use Rattle.orc_list.proofs.Answering.{list_entered}
 use Rattle.orc_list.proofs.Making.{found_over}
-use Rattle.orc_list.proofs.Marking.{worn_wider}
+use Rattle.orc_ordered_search.proofs.Marking.{worn_wider}
 use Rattle.orc_list.proofs.Tiring.{either_wider}
 use Rattle.orc_list.proofs.remove.remove_turn.Goals as goal
 
@@ -33,20 +34,21 @@ returns-else-enter_absent-clause-removed g c =
     list_entered (g.L.Links.numbers d) (Removed c.agent-agent.result c.args.key false) s (g.L.Links.seat d c.enter_absent.new.p) false
     (c.if-enter_absent.ensures.entered (Root c.args.root) 0 s c.in-Absent.ensures.found)
 
+pub take_out-requires-clause-present : goal.take_out-requires-clause-present
+take_out-requires-clause-present g c = (Root c.args.root, 0, g.L.Links.seat c.args.links.now c.args.p.now, c.in-Present.ensures.found)
+
 pub returns-then-take_out-clause-removed : goal.returns-then-take_out-clause-removed
 returns-then-take_out-clause-removed g c =
     let d = c.args.links.now in
-    let n = g.L.Links.numbers d in
     let s = g.L.Links.seat d c.args.p.now in
     let t = g.L.Links.seat d c.search.new.p in
-    let u = g.L.Links.seat d c.take_out.new.p in
     let j = g.L.Links.journal c.args.p.now in
     let k = g.L.Links.journal c.search.new.p in
     let l = g.L.Links.journal c.take_out.new.p in
     let e = c.in-Present.ensures in
-    let r = c.take_out.ensures.removed s e.found in
-    let done : TakesOut n c.args.key (HasWorn (g.L.Links.worn d t.agent) k l) 1 s u = subst
-    (λ (b : Bool). RemovesNode n c.args.key (HasWorn (g.L.Links.worn d t.agent) k l) s b u) c.if-take_out.true r in
+    let done = removes_done e.found (HasWorn (g.L.Links.worn d t.agent) k l) (g.L.Links.seat d c.take_out.new.p)
+    (c.if-take_out.ensures.removed (Root c.args.root) 0 s e.found) (g.met.L.Links.obeys d c.search.new.p e.pass)
+    (g.met.L.Links.allowed d c.take_out.new.p c.take_out.ensures.pass) in
     record {
       answers = done.answers;
       off = λ alone. either_wider
@@ -57,11 +59,6 @@ returns-then-take_out-clause-removed g c =
 pub returns-else-take_out-clause-removed : goal.returns-else-take_out-clause-removed
 returns-else-take_out-clause-removed g c =
     let d = c.args.links.now in
-    let n = g.L.Links.numbers d in
     let s = g.L.Links.seat d c.args.p.now in
-    let t = g.L.Links.seat d c.search.new.p in
-    let u = g.L.Links.seat d c.take_out.new.p in
-    let k = g.L.Links.journal c.search.new.p in
-    let l = g.L.Links.journal c.take_out.new.p in
-    subst (λ (b : Bool). RemovesNode n c.args.key (HasWorn (g.L.Links.worn d t.agent) k l) s b u) c.if-take_out.false
-    (c.take_out.ensures.removed s c.in-Present.ensures.found)
+    list_entered (g.L.Links.numbers d) (Removed s.agent c.args.key true) s (g.L.Links.seat d c.take_out.new.p) false
+    (c.if-take_out.ensures.removed (Root c.args.root) 0 s c.in-Present.ensures.found)

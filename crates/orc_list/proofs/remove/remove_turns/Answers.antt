@@ -4,7 +4,7 @@ use Rattle.orc_heap.proofs.Pieces.{goes_on}
 use Rattle.orc_heap.specs.Slots.{Slots}
 use Rattle.orc_ordered_search.specs.Searches.{HasRoom}
 use Rattle.orc_list.specs.Turns.{Tires}
-use Rattle.orc_list.proofs.Marking.{worn_wider}
+use Rattle.orc_ordered_search.proofs.Marking.{worn_wider}
 use Rattle.orc_list.proofs.Tiring.{removes_answer, tires_next, tires_none}
 use Rattle.orc_list.proofs.remove.remove_turns.Goals as goal
 

@@ -1,8 +1,7 @@
 -- What the call did, and the settling after it.
 use Rattle.std.proofs.Common.{Bool, subst, sym, ℕ}
 use Rattle.orc_heap.proofs.Pieces.{goes_on}
-use Rattle.orc_heap.proofs.Steps.{alone_later}
-use Rattle.orc_history.specs.Parts.{IsAlone}
+use Rattle.orc_heap.proofs.InJournal.{settling_alone}
 use Rattle.orc_history.specs.declared.set.SetEntry.{SetEntry}
 use Rattle.orc_history.specs.declared.set.SetEntry.TheVariants.{Asked}
 use Rattle.orc_list.proofs.Causes.{did_enter, did_few, did_give, did_not_enter, did_nothing, turns_used}
@@ -51,5 +50,5 @@ returns g c =
       cost = if_err r _ (λ is. (used is).cost);
       gives = did_give 0 turns entry s u r did;
       tries = did_few 0 turns entry s u r did;
-      settled = λ alone. settle.settled (subst (λ (x : ℕ). IsAlone by x k m) (sym keeps.1) (alone_later by s.agent j k m done.later settle.later alone));
+      settled = λ alone. settle.settled (settling_alone g.L.Links d c.args.p.now c.ask_turns-answer.new.p c.settle.new.p done.later settle.later keeps.1 alone);
     }

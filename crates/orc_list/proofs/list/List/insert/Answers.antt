@@ -1,8 +1,7 @@
 -- What the call did, and the settling after it.
 use Rattle.std.proofs.Common.{Bool, subst, sym, ℕ}
 use Rattle.orc_heap.proofs.Pieces.{goes_on}
-use Rattle.orc_heap.proofs.Steps.{alone_later}
-use Rattle.orc_history.specs.Parts.{IsAlone}
+use Rattle.orc_heap.proofs.InJournal.{settling_alone}
 use Rattle.orc_history.specs.declared.set.SetEntry.{SetEntry}
 use Rattle.orc_history.specs.declared.set.SetEntry.TheVariants.{Added}
 use Rattle.orc_list.proofs.Causes.{did_enter, did_few, did_give, did_not_enter, did_nothing, own_call, turns_used}
@@ -61,5 +60,5 @@ returns g c =
           (leaves_did s t u settle.nothing n c.args.key turns r done.inserted is (g.met.L.Links.obeys d c.insert_key-answer.new.p done.pass) all);
       spent = λ why is. within_goes_on by s.agent (g.L.Links.worn d s.agent why) (g.met.L.Links.worn_stays d s.agent why) j k m done.later settle.later
           (done.worn why is);
-      settled = λ alone. settle.settled (subst (λ (x : ℕ). IsAlone by x k m) (sym keeps.1) (alone_later by s.agent j k m done.later settle.later alone));
+      settled = λ alone. settle.settled (settling_alone g.L.Links d c.args.p.now c.insert_key-answer.new.p c.settle.new.p done.later settle.later keeps.1 alone);
     }

@@ -1,8 +1,7 @@
 -- What the call did, and the settling after it.
 use Rattle.std.proofs.Common.{Bool, [], append-nil, refl, subst, sym, ℕ, ◌⊎◌}
 use Rattle.orc_heap.proofs.Pieces.{goes_on}
-use Rattle.orc_heap.proofs.Steps.{alone_later}
-use Rattle.orc_history.specs.Parts.{IsAlone}
+use Rattle.orc_heap.proofs.InJournal.{settling_alone}
 use Rattle.orc_history.specs.declared.set.SetEntry.{SetEntry}
 use Rattle.orc_history.specs.declared.set.SetEntry.TheVariants.{Removed}
 use Rattle.orc_list.proofs.Causes.{did_enter, did_few, did_give, did_not_enter, did_nothing, own_call, part_alone, turns_used}
@@ -10,10 +9,10 @@ use Rattle.orc_ordered_search.proofs.Causes.{if_err}
 use Rattle.orc_list.proofs.Settling.{off_settled, remove_did, remove_keeps}
 use Rattle.orc_ordered_search.proofs.Settling.{idle_settled}
 use Rattle.orc_heap.specs.Seats.{heap_of}
-use Rattle.orc_list.specs.Causes.{HasWorn}
+use Rattle.orc_ordered_search.specs.Causes.{HasWorn}
 use Rattle.orc_list.specs.Turns.{LeavesOff, StopsBefore}
 use Rattle.orc_list.proofs.Tiring.{either_wider}
-use Rattle.orc_list.proofs.Marking.{worn_wider}
+use Rattle.orc_ordered_search.proofs.Marking.{worn_wider}
 use Rattle.orc_list.proofs.list.List.remove.Goals as goal
 
 pub returns : goal.returns
@@ -63,5 +62,5 @@ returns g c =
           (sym (own_call 0 turns entry s u r did))
           (off_settled s t u settle.nothing n c.args.key _ turns r done.removed is
           (part_alone n agents by events adds s u j m grows is_s is_u all below did.own did.made.puts alone)));
-      settled = λ alone. settle.settled (subst (λ (x : ℕ). IsAlone by x k m) (sym keeps.1) (alone_later by s.agent j k m done.later settle.later alone));
+      settled = λ alone. settle.settled (settling_alone g.L.Links d c.args.p.now c.remove_turns-answer.new.p c.settle.new.p done.later settle.later keeps.1 alone);
     }

@@ -1,9 +1,9 @@
 -- What the call did, and the settling after it.
 use Rattle.std.proofs.Common.{Bool, Err, Ok, Result, arith, subst, sym, true, ℕ, ◌+◌, ◌∙◌, ◌≡◌, ◌≢◌, ◌≤◌}
 use Rattle.orc_heap.proofs.Pieces.{goes_on}
-use Rattle.orc_heap.proofs.Steps.{alone_later}
+use Rattle.orc_heap.proofs.InJournal.{settling_alone}
 use Rattle.orc_heap.specs.Seats.{IsIdle}
-use Rattle.orc_history.specs.Parts.{IsAlone, WithinPart}
+use Rattle.orc_history.specs.Parts.{WithinPart}
 use Rattle.orc_fault.specs.declared.Spent.{Spent as SpentRow}
 use Rattle.orc_history.specs.declared.set.ListRefused.TheVariants.{Again, NoNode, Spent}
 use Rattle.orc_history.specs.declared.set.ListRefused.{ListRefused}
@@ -132,6 +132,6 @@ returns g c =
       no_node = lacks;
       spent = worn;
       gives = did_give r 3 turns entry s u answer did;
-      settled = λ alone. settle.settled (subst (λ (x : ℕ). IsAlone by x k1 m) (sym (grown.grown.doubles.call.made.puts.agent ∙ (keeps.1 ∙ same)))
-          (alone_later by s.agent j k1 m since_grown settle.later alone));
+      settled = λ alone. settle.settled (settling_alone g.L.Links d c.args.p.now c.grow_after-grown.new.p c.settle.new.p since_grown settle.later
+          (grown.grown.doubles.call.made.puts.agent ∙ (keeps.1 ∙ same)) alone);
     }

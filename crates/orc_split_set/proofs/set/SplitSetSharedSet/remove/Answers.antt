@@ -3,9 +3,9 @@ use Rattle.std.proofs.Common.{Bool, Ok, Result, arith, subst, sym, ℕ, ◌∙�
 use Rattle.std.specs.Prelude.{IsErr}
 use Rattle.orc_fault.specs.declared.Again.{Again as AgainFault}
 use Rattle.orc_heap.proofs.Pieces.{goes_on}
-use Rattle.orc_heap.proofs.Steps.{alone_later}
+use Rattle.orc_heap.proofs.InJournal.{settling_alone}
 use Rattle.orc_heap.specs.Seats.{IsIdle}
-use Rattle.orc_history.specs.Parts.{IsAlone, WithinPart}
+use Rattle.orc_history.specs.Parts.{WithinPart}
 use Rattle.orc_history.specs.declared.set.SetEntry.{SetEntry}
 use Rattle.orc_history.specs.declared.set.SetEntry.TheVariants.{Removed}
 use Rattle.orc_ordered_search.proofs.Causes.{did_enter, did_give, did_not_enter, did_nothing, if_err, turns_used}
@@ -76,5 +76,6 @@ returns g c =
       no_event = did_nothing r 1 turns entry s u answer did;
       again = again;
       gives = did_give r 1 turns entry s u answer did;
-      settled = λ alone. settle.settled (subst (λ (x : ℕ). IsAlone by x k m) (sym (keeps.1 ∙ same)) (alone_later by s.agent j k m since settle.later alone));
+      settled = λ alone. settle.settled
+          (settling_alone g.L.Links d c.args.p.now c.remove_turns-answer.new.p c.settle.new.p since settle.later (keeps.1 ∙ same) alone);
     }

@@ -1,17 +1,15 @@
 -- A swing of the node's own link that changes the mark alone.
 use Rattle.std.proofs.Common.{ap, refl, sym, true, ℕ, ◌∙◌}
-use Rattle.orc_heap.specs.Slots.{id_in}
-use Rattle.orc_split_rule.specs.Laws.Values.{value_linked}
-use Rattle.orc_heap.specs.declared.events.Link.{Link}
-use Rattle.orc_heap.specs.Seats.{heap_of}
-use Rattle.orc_ordered_search.specs.Searches.{target_at}
-use Rattle.orc_history.specs.declared.set.SetEntry.TheVariants.{Removed}
-use Rattle.orc_ordered_search.proofs.Marking.{marks, refused_apart}
-use Rattle.orc_split_rule.specs.declared.split.SplitNote.TheVariants.{Entry}
-use Rattle.orc_split_set.proofs.Allowing.{mark_allowed}
-use Rattle.orc_split_set.proofs.Ordered.{split_ordering}
 use Rattle.orc_heap.proofs.Pieces.{linked_not_fresh}
-use Rattle.orc_split_set.proofs.remove.mark_node.Goals as goal
+use Rattle.orc_heap.specs.Seats.{heap_of}
+use Rattle.orc_heap.specs.Slots.{id_in}
+use Rattle.orc_heap.specs.declared.events.Link.{Link}
+use Rattle.orc_history.specs.declared.set.SetEntry.TheVariants.{Removed}
+use Rattle.orc_ordered_chains.proofs.Acts.{rank_linked}
+use Rattle.orc_ordered_search.specs.Reading.{ordering_of}
+use Rattle.orc_ordered_search.specs.Searches.{target_at}
+use Rattle.orc_ordered_search.proofs.Marking.{mark_allowed, marks, refused_apart}
+use Rattle.orc_ordered_search.proofs.remove.mark_node.Goals as goal
 
 pub swing-requires-clause-linked : goal.swing-requires-clause-linked
 swing-requires-clause-linked g c =
@@ -19,7 +17,9 @@ swing-requires-clause-linked g c =
     let n = g.L.Links.numbers d in
     let s = g.L.Links.seat d c.args.p.now in
     let id = id_in s.slots c.args.node.now in
-    linked_not_fresh n s id (λ i e. g.met.L.Links.fresh_is d c.args.p.now i c.requires.pass e) (value_linked (heap_of n s) id c.args.key 1 c.requires.key)
+    let ord = ordering_of (g.met.K.Rank.ordered n) in
+    linked_not_fresh n s id (λ i e. g.met.L.Links.fresh_is d c.args.p.now i c.requires.pass e)
+    (rank_linked ord.reading.order (heap_of n s) id (g.K.SetRank.key_rank c.args.key) c.requires.key)
 
 pub swing-requires-clause-links : goal.swing-requires-clause-links
 swing-requires-clause-links g c =
@@ -31,9 +31,9 @@ swing-requires-clause-allowed g c =
     let d = c.args.links.now in
     let n = g.L.Links.numbers d in
     let s = g.L.Links.seat d c.args.p.now in
-    mark_allowed n s (id_in s.slots c.args.node.now) c.args.key c.agent-agent.result (target_at s.slots c.args.next.now) _ _
-    (c.link_to.ensures.link s.slots) (c.link_to-2.ensures.link s.slots) c.agent-agent.ensures
-    (g.met.L.Links.obeys d c.args.p.now c.requires.pass) c.requires.key
+    mark_allowed (ordering_of (g.met.K.Rank.ordered n)) g.K.SetRank.key_rank g.K.SetRank.noted (g.met.K.SetRank.allows_mark n) s
+    (id_in s.slots c.args.node.now) c.args.key c.agent-agent.result (target_at s.slots c.args.next.now) _ _ _ (c.link_to.ensures.link s.slots)
+    (c.link_to-2.ensures.link s.slots) c.note-note.ensures c.agent-agent.ensures (g.met.L.Links.obeys d c.args.p.now c.requires.pass) c.requires.key
 
 pub unreachable-requires : goal.unreachable-requires
 unreachable-requires g c =
@@ -46,9 +46,10 @@ unreachable-requires g c =
 pub returns-clause-marked : goal.returns-clause-marked
 returns-clause-marked g c =
     let d = c.args.links.now in
-    let n = g.L.Links.numbers d in
     let s = g.L.Links.seat d c.args.p.now in
     let t = g.L.Links.seat d c.swing.new.p in
-    marks (split_ordering n) s t (id_in s.slots c.args.node.now) (target_at s.slots c.args.next.now) _ _ _ _ _ c.in-Ok.done refl
-    (c.link_to.ensures.link s.slots) (c.link_to-2.ensures.link s.slots) (ap (λ (x : ℕ). Entry (Removed x c.args.key true)) c.agent-agent.ensures)
-    c.requires.follows (λ i e. g.met.L.Links.fresh_is d c.args.p.now i c.requires.pass e) c.in-Ok.ensures.swung
+    let noted = g.K.SetRank.noted in
+    marks (ordering_of (g.met.K.Rank.ordered (g.L.Links.numbers d))) s t (id_in s.slots c.args.node.now) (target_at s.slots c.args.next.now) _ _ _ _ _
+    c.in-Ok.done refl (c.link_to.ensures.link s.slots) (c.link_to-2.ensures.link s.slots)
+    (c.note-note.ensures ∙ ap (λ (x : ℕ). noted (Removed x c.args.key true)) c.agent-agent.ensures) c.requires.follows
+    (λ i e. g.met.L.Links.fresh_is d c.args.p.now i c.requires.pass e) c.in-Ok.ensures.swung

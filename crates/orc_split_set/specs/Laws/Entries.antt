@@ -1,4 +1,4 @@
--- The answers that change nothing are allowed where a search found the key absent or present.
+-- What a rank of a set owes: entries are allowed where a search found the key absent or present.
 use Rattle.std.proofs.Common.{List, Option, Some, [], false, inl, inr, refl, subst, sym, ℕ, ◌∷◌, ◌≡◌}
 use Rattle.orc_heap.specs.Allowed.{AllowedLater}
 use Rattle.orc_heap.specs.Heap.{HeapNumbers}
@@ -9,13 +9,13 @@ use Rattle.orc_heap.specs.declared.events.Link.{Link}
 use Rattle.orc_heap.specs.declared.events.Place.{Place}
 use Rattle.orc_heap.specs.declared.events.Place.TheVariants.{Next}
 use Rattle.orc_history.specs.declared.set.SetEntry.{SetEntry}
-use Rattle.orc_ordered_search.specs.Entries.{AllowsAbsence, AllowsPresence, IsAbsence, IsPresence}
-use Rattle.orc_split_rule.proofs.Coming.{added_present_allowed, asked_absent_allowed, asked_present_allowed, removed_absent_allowed}
+use Rattle.orc_ordered_search.specs.Entries.{AllowsAbsence, AllowsMark, AllowsPresence, AllowsUnlink, IsAbsence, IsPresence}
+use Rattle.orc_split_rule.proofs.Coming.{added_present_allowed, asked_absent_allowed, asked_present_allowed, removed_absent_allowed, removed_allowed, unlink_allowed}
 use Rattle.orc_split_rule.specs.SplitDiscipline.{HasKey, SplitHolds, SplitMay}
 use Rattle.orc_split_rule.specs.SplitOrder.{key_place}
 use Rattle.orc_split_rule.specs.Watches.{LeavesOut}
 use Rattle.orc_split_rule.specs.declared.split.SplitNote.{SplitNote}
-use Rattle.orc_split_rule.specs.declared.split.SplitNote.TheVariants.{Entry}
+use Rattle.orc_split_rule.specs.declared.split.SplitNote.TheVariants.{Entry, Unlink}
 use Rattle.orc_split_set.specs.SplitSearches.{split_manner, split_reading}
 use Rattle.orc_split_set.specs.Laws.Placed.{key_of_place}
 
@@ -49,3 +49,14 @@ presence_allowed n agent id key link entry seen (inr is) holds own plain =
 pub split_allows_presence : (n : HeapNumbers) → AllowsPresence (split_reading n) (SplitHolds n) (SplitMay n) key_place (λ entry. Entry entry)
 split_allows_presence n = λ agent id key link entry seen is holds own plain.
     presence_allowed n agent id key link entry seen is holds (key_of_place (run_heap n seen) id key own) plain
+
+pub split_enters_none : (n : HeapNumbers) → (split_manner n).entries_in (Some Unlink) ≡ []
+split_enters_none n = refl
+
+pub split_allows_mark : (n : HeapNumbers) → AllowsMark (split_reading n) (SplitHolds n) (SplitMay n) key_place (λ entry. Entry entry)
+split_allows_mark n = λ agent id key link seen holds own plain.
+    removed_allowed n agent id key link seen holds (key_of_place (run_heap n seen) id key own) plain
+
+pub split_allows_unlink : (n : HeapNumbers) → AllowsUnlink (split_reading n) (SplitHolds n) (SplitMay n) Unlink
+split_allows_unlink n = λ agent place from first others to seen holds on plain run.
+    unlink_allowed n agent place from first others to seen holds on plain run
