@@ -1,5 +1,5 @@
 -- The answers that change nothing are allowed where they stand.
-use Rattle.std.proofs.Common.{List, Option, Some, [], ap, refl, subst, sym, ℕ, ◌∙◌, ◌∷◌, ◌≡◌}
+use Rattle.std.proofs.Common.{Option, Some, [], ap, refl, sym, ℕ, ◌∙◌, ◌∷◌, ◌≡◌}
 use Rattle.orc_heap.specs.Allowed.{AllowedLater}
 use Rattle.orc_heap.specs.Calls.{event_of}
 use Rattle.orc_heap.specs.Hands.{hand}

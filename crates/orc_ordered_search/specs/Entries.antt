@@ -1,5 +1,5 @@
 -- Where the entries of a set's history may stand.
-use Rattle.std.specs.Prelude.{List, None, Option, Some, [], false, true, ℕ, ◌∷◌, ◌≡◌, ◌⊎◌}
+use Rattle.std.specs.Prelude.{List, Option, Some, false, true, ℕ, ◌∷◌, ◌≡◌, ◌⊎◌}
 use Rattle.orc_heap.specs.Allowed.{AllowedLater}
 use Rattle.orc_heap.specs.Journals.{event_by, run_heap}
 use Rattle.orc_heap.specs.declared.events.Act.TheVariants.{Look, Move}

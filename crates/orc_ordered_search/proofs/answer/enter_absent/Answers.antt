@@ -1,8 +1,8 @@
 -- One load, and then all nodes are let go.
-use Rattle.std.proofs.Common.{None, ap, subst, sym, ◌∙◌}
+use Rattle.std.proofs.Common.{None, ap, ◌∙◌}
 use Rattle.orc_heap.specs.Seats.{Seat}
 use Rattle.orc_heap.specs.declared.events.Place.{Place}
-use Rattle.std.specs.Prelude.{Some, [], ℕ, ◌∷◌, ◌≡◌}
+use Rattle.std.specs.Prelude.{Some, ℕ}
 use Rattle.orc_ordered_search.specs.Reading.{ordering_of, reading_by}
 use Rattle.orc_ordered_search.specs.Searches.{FindsAbsent, InHand, left_place}
 use Rattle.orc_ordered_search.proofs.Answering.{absent_allowed, left_is, left_link}
