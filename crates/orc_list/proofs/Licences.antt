@@ -1,22 +1,16 @@
 -- From the clauses of a call to what the trait of shared sets asks, and what two passes learn from each other.
-use Rattle.std.proofs.Common.{Bool, Err, List, Ok, Result, [], ap, arith, length, refl, sym, ℕ, ◌∙◌, ◌≡◌, ◌≢◌, ◌⊎◌}
+use Rattle.std.proofs.Common.{Bool, Err, List, Ok, Result, arith, length, refl, ℕ, ◌≡◌, ◌≢◌}
 use Rattle.std.specs.Prelude.{IfErr}
 use mathlib.Core.List.{IsPrefix}
 use Rattle.orc_fault.specs.declared.Again.{Again as AgainFault}
 use Rattle.orc_fault.specs.declared.Spent.{Spent as SpentRow}
-use Rattle.orc_heap.proofs.OwnEntries.{own_of_events}
 use Rattle.orc_heap.proofs.Steps.{part_bounds}
-use Rattle.orc_heap.specs.Allowed.{AllAllowed, events_by}
 use Rattle.orc_heap.specs.Heap.{HeapNumbers}
-use Rattle.orc_heap.specs.Seats.{Seat}
 use Rattle.orc_heap.specs.declared.events.Event.{Event}
-use Rattle.orc_history.specs.Journals.{LearnsEntries, Within, own_of}
+use Rattle.orc_history.specs.Journals.{Within}
 use Rattle.orc_history.specs.Parts.{InPart, WithinPart, part_begin}
-use Rattle.orc_history.specs.SetHistory.{agent_of_set_entry}
 use Rattle.orc_history.specs.declared.set.ListRefused.{ListRefused}
 use Rattle.orc_history.specs.declared.set.ListRefused.TheVariants.{Again, NoNode, Spent}
-use Rattle.orc_chain_rule.proofs.OwnEntries.{entries_own}
-use Rattle.orc_chain_rule.specs.ChainDiscipline.{ChainMay, entries_in, entries_of}
 use Rattle.orc_chain_rule.specs.declared.chain.ChainNote.{ChainNote}
 use Rattle.orc_list.specs.Causes.{Cause, UsesTurns}
 

@@ -17,7 +17,7 @@ use Rattle.orc_heap.specs.Journals.{points_to, run_heap}
 use Rattle.orc_heap.specs.Moves.{AllOwn, from_own, gives_in, moves_in}
 use Rattle.orc_heap.specs.OwnEvents.{Puts}
 use Rattle.orc_heap.specs.Seats.{Seat, heap_of}
-use Rattle.orc_heap.specs.Slots.{Hold, id_in}
+use Rattle.orc_heap.specs.Slots.{Hold}
 use Rattle.orc_heap.specs.declared.events.Act.TheVariants.{Miss, Move}
 use Rattle.orc_heap.specs.declared.events.Event.{Event}
 use Rattle.orc_heap.specs.declared.events.Link.{Link}
@@ -35,17 +35,15 @@ use Rattle.orc_ordered_chains.proofs.Acts.{move_moves}
 use Rattle.orc_chain_rule.specs.Laws.Kinds.{key_linked, key_one}
 use Rattle.orc_ordered_search.specs.Searches.{AllGone, Quiet, left_place, node_of, run_head}
 use Rattle.orc_list.specs.Inserts.{SeesAbsent}
-use Rattle.orc_list.specs.Searches.{FindsPresent, InHand, list_reading}
+use Rattle.orc_list.specs.Searches.{FindsPresent, list_reading}
 use Rattle.orc_ordered_search.specs.Ways.{IsFew}
-use Rattle.orc_ordered_search.specs.Searches.{first_or, place_at, target_at}
 use Rattle.orc_list.specs.Stops.{MarkStops}
 use Rattle.orc_list.specs.Turns.{LeavesOff, Made, StopsBefore, TakesOut}
 use Rattle.orc_ordered_search.specs.Turns.{HasManyLinks, Marks, TakesNode}
 use Rattle.orc_ordered_search.proofs.Removing.{marked_at, marked_link, run_from}
-use Rattle.orc_ordered_search.proofs.Held.{in_hand_on}
-use Rattle.orc_list.proofs.Making.{made_after, made_on, over_on}
+use Rattle.orc_list.proofs.Making.{made_after, made_on}
 use Rattle.orc_ordered_search.proofs.Making.{missed}
-use Rattle.orc_ordered_search.proofs.Seen.{loads-append, present_few, sees_left, sees_run_left}
+use Rattle.orc_ordered_search.proofs.Seen.{present_few, sees_left, sees_run_left}
 use Rattle.orc_ordered_search.proofs.Stepping.{run_snoc}
 use Rattle.orc_list.proofs.Ordered.{list_ordering}
 use Rattle.orc_list.proofs.Tiring.{takes_right}

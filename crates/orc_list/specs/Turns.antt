@@ -2,8 +2,8 @@
 use Rattle.std.specs.List.{Contains}
 use Rattle.std.specs.Prelude.{Bool, List, None, Option, Some, [], false, length, true, ℕ, ◌*◌, ◌++◌, ◌+◌, ◌∷◌, ◌≡◌, ◌≤◌, ◌⊎◌}
 use Rattle.orc_heap.specs.Allowed.{HasLink}
-use Rattle.orc_heap.specs.Calls.{Misses, event_of, links_made}
-use Rattle.orc_heap.specs.Heap.{Heap, HeapNumbers, link_to}
+use Rattle.orc_heap.specs.Calls.{links_made}
+use Rattle.orc_heap.specs.Heap.{Heap, HeapNumbers}
 use Rattle.orc_heap.specs.Moves.{AllOwn, from_own, gives_in, moves_in}
 use Rattle.orc_heap.specs.OwnEvents.{Puts}
 use Rattle.orc_heap.specs.Seats.{Seat, heap_of}
@@ -13,14 +13,12 @@ use Rattle.orc_heap.specs.declared.events.Link.{Link}
 use Rattle.orc_heap.specs.declared.events.Place.{Place}
 use Rattle.orc_heap.specs.declared.events.Place.TheVariants.{Next}
 use Rattle.orc_history.specs.declared.set.SetEntry.{SetEntry}
-use Rattle.orc_history.specs.declared.set.SetEntry.TheVariants.{Added, Asked, Removed}
+use Rattle.orc_history.specs.declared.set.SetEntry.TheVariants.{Asked, Removed}
 use Rattle.orc_chain_rule.specs.declared.chain.ChainNote.{ChainNote}
-use Rattle.orc_chain_rule.specs.declared.chain.ChainNote.TheVariants.{Entry, Unlink}
-use Rattle.orc_ordered_chains.specs.Chains.{link_over}
+use Rattle.orc_chain_rule.specs.declared.chain.ChainNote.TheVariants.{Entry}
 use Rattle.orc_chain_rule.specs.ChainDiscipline.{IsOnNoChain, entries_of}
 use Rattle.orc_ordered_search.specs.Ways.{AreLoads, CoversLooks, Sees}
 use Rattle.orc_ordered_search.specs.Searches.{SeesRun}
-use Rattle.orc_ordered_search.specs.Turns.{Marks as MarksNoted}
 
 -- of the events there are at most so many in each turn: two for each node at whose link one of them looked, and four; and so many
 -- more in all
