@@ -1,4 +1,5 @@
 //! The fields of a record.
+
 ghost use Rattle.std.specs.Prelude.{◌≡◌, ◌≢◌, ◌↔◌, All, IsTrue, IsUtf8, true, false};
 ghost use Rattle.csv.specs.Records.{fields_of};
 ghost use Rattle.orc_jobs.specs.RecordFiles.{field};
