@@ -23,7 +23,7 @@ import time
 TOP = os.path.dirname(os.path.dirname(os.path.abspath(__file__)))
 PARTS = ('src', 'specs', 'proofs')
 FAILED = 70
-# rt, as it is run where nobody edits sources meanwhile.
+# rt, run so that it sums up a crate's sources once for each sum over those above it.
 RT = [sys.executable, f'{TOP}/crates/run_rt.py', shutil.which('rt') or 'rt']
 # How long proofs take, as measured: seconds for each byte of code, whatever the bytes of its proofs, where each crate counts some bytes
 # more than it has. What is measured here counts beside it, as much as its bytes are to those of the last number.
