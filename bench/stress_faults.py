@@ -52,8 +52,8 @@ FAULTS = (
      '        Ok(true) => InsertTurn::Answered(key % 16 != 1),'),
     ('a remove answers true where another removed the key', '--container set --mix 34/33/33 --keys 2 --roots 1 --calls 2000',
      'orc_list/src/remove.rt',
-     '    if !mark_node(links, p, key, &node, &next) {\n        let_all_go::<Key, L>(links, p, left, first, Some(node), next);\n        return false;',
-     '    if !mark_node(links, p, key, &node, &next) {\n        let_all_go::<Key, L>(links, p, left, first, Some(node), next);\n        return true;'),
+     '            if take_out::<Key, L>(links, p, root, key, left, first, node, next) {\n                Some(true)\n            } else {\n                None\n',
+     '            if take_out::<Key, L>(links, p, root, key, left, first, node, next) {\n                Some(true)\n            } else {\n                Some(true)\n'),
     ('a key is put under another bucket', '--container set --mix 34/33/33 --keys 64 --roots 4',
      'orc_set/src/set.rt',
      '        self.list.insert(p, root_of(key, self.roots), key, turns)',
@@ -64,8 +64,9 @@ FAULTS = (
      '        Ok(true) => InsertTurn::Answered(passed % 4 != 1, passed),'),
     ('a dummy is told as a key', '--container split --mix 34/33/33 --keys 64',
      'orc_split_set/src/answer.rt',
-     '    match search(links, p, place_of(key, 1), left) {',
-     '    match search(links, p, place_of(key, u64::from(key > 3)), left) {'),
+     '    match search_for(links, p, NewNode::Key(key), left) {',
+     '    let wanted = if key > 3 {\n        NewNode::Key(key)\n    } else {\n        NewNode::Dummy(key as u32)\n    };\n'
+     '    match search_for(links, p, wanted, left) {'),
     ('a read mixes two versions', '--container cell --calls 1000',
      'orc_cell/src/read.rt',
      '    let right = read_part(links, p, &At::Side(pair));\n    if confirm(links, p, &Want::Node(pair, false), left, right) {\n',
@@ -81,13 +82,13 @@ FAULTS = (
      '    if left != u64::MAX {\n'),
     ('a publish undoes another', '--container cell --mix 34/33/33',
      'orc_cell/src/publish.rt',
-     '    if swing_pair(links, p, &Want::Node(old, false), pair, parts, (x, y)) {\n'
+     '    if swing_pair(links, p, &Want::Node(old, false), pair, left, right, (x, y)) {\n'
      '        PublishTurn::Published(x, y)\n    } else {\n        PublishTurn::Over\n    }\n',
-     '    if swing_pair(links, p, &Want::Node(old, false), pair, parts, (x, y)) {\n'
+     '    if swing_pair(links, p, &Want::Node(old, false), pair, left, right, (x, y)) {\n'
      '        return PublishTurn::Published(x, y);\n    }\n'
      '    match links.look(p, &At::Root(PAIR), 5) {\n'
      '        Looked::Stable(_, Some(now)) => {\n'
-     '            let done = swing_pair(links, p, &Want::Node(&now, false), pair, parts, (x, y));\n'
+     '            let done = swing_pair(links, p, &Want::Node(&now, false), pair, left, right, (x, y));\n'
      '            links.release(p, now);\n'
      '            if done {\n                PublishTurn::Published(x, y)\n            } else {\n                PublishTurn::Over\n            }\n'
      '        }\n'
