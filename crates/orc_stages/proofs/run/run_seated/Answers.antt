@@ -44,8 +44,17 @@ returns-clause-back g c =
 
 pub returns-clause-many : goal.returns-clause-many
 returns-clause-many g c =
-    omega (arith, c.learn_from_team-2.new.workers.ok.0, c.learn_from_team-2.ensures.len, c.move_left.ensures.len, c.learn_from_team.ensures.len,
-    c.run_workers-workers.ensures.len, c.requires.room.0, c.requires.count, c.requires.queues.0)
+    omega (
+      arith,
+      c.learn_from_team-2.new.workers.ok.0,
+      c.learn_from_team-2.ensures.len,
+      c.move_left.ensures.len,
+      c.learn_from_team.ensures.len,
+      c.run_workers-workers.ensures.len,
+      c.requires.room.0,
+      c.requires.count,
+      c.requires.queues.0,
+    )
 
 pub returns-clause-few : goal.returns-clause-few
 returns-clause-few g c =

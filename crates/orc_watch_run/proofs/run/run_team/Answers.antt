@@ -42,8 +42,16 @@ returns-clause-back g c =
 
 pub returns-clause-many : goal.returns-clause-many
 returns-clause-many g c =
-    omega (arith, c.learn_from_team-2.new.others.ok.0, c.learn_from_team-2.ensures.len, c.learn_from_team.ensures.len, c.run_workers-team.ensures.len,
-    c.requires.room.0, c.args.waiting.ok.0, c.requires.count)
+    omega (
+      arith,
+      c.learn_from_team-2.new.others.ok.0,
+      c.learn_from_team-2.ensures.len,
+      c.learn_from_team.ensures.len,
+      c.run_workers-team.ensures.len,
+      c.requires.room.0,
+      c.args.waiting.ok.0,
+      c.requires.count,
+    )
 
 pub returns-clause-few : goal.returns-clause-few
 returns-clause-few g c =
