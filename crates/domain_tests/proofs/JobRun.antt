@@ -122,9 +122,9 @@ took_licensed b s same is seen holds =
     (took_allowed n 0 0 1 6 0 es (holds_as b small s before_took same seen holds) refl left link has))
 
 -- a pass of a board for one agent steps right after what it had seen
-pub sole_next : (b : Bounds) (q : Request) (note : Option FifoNote) (s t : MachineView FifoNote) (n : ℕ) → b ≡ small → s.agent ≡ 0 → Makes b q note s n t
-    → AgentsBelow (λ (x : Step FifoNote). x.agent) b.agents t.journal → t.journal ≡ s.journal ++ step_of 0 q note ∷ []
-sole_next b q note s t n same is made below =
+pub sole_next : {N : Type 0} (b : Bounds) (q : Request) (note : Option N) (s t : MachineView N) (n : ℕ) → b ≡ small → s.agent ≡ 0 → Makes b q note s n t
+    → AgentsBelow (λ (x : Step N). x.agent) b.agents t.journal → t.journal ≡ s.journal ++ step_of 0 q note ∷ []
+sole_next {N} b q note s t n same is made below =
     let one : b.agents ≡ 1 = ap (λ (c : Bounds). c.agents) same in
     let all : TookInAll b s = λ a lt. inl (let zero : a ≡ 0 = omega (arith, one, lt) in zero ∙ sym is) in
     steps_next b q note s t n made all below ∙ ap (λ a. s.journal ++ step_of a q note ∷ []) is
@@ -157,7 +157,7 @@ dummy_allowed b same = subst (λ c. DummyAllowed FifoMay (numbers_of c) 0 Begin)
 }
 
 -- what the machine allows, the record of the pass allows
-pub played_may : (b : Bounds) (s : MachineView FifoNote) (m : Machine) (op : Op) → m ≡ run_of b s.journal → s.agent ≡ 0
+pub played_may : {N : Type 0} (b : Bounds) (s : MachineView N) (m : Machine) (op : Op) → m ≡ run_of b s.journal → s.agent ≡ 0
     → record_at (run_of b s.journal) s.agent ≡ s.record_is → is_enroll op ≡ false → is_allowed m 0 op ≡ true → MayDo b s op
 played_may b s m op is agent mine kind can =
     let bounds : m.bounds ≡ b = ap (λ (z : Machine). z.bounds) is ∙ bounds_run b s.journal in
@@ -165,8 +165,8 @@ played_may b s m op is agent mine kind can =
     (λ i. may (sym bounds i) 0 (agent i) op (sym own i)) ∙ (permission m.bounds 0 (word_in m Enrolled) 0 op (record_at m 0) kind ∙ can)
 
 -- the machine goes on with the pass
-pub played_on : (b : Bounds) (q : Request) (note : Option FifoNote) (s t : MachineView FifoNote) (n : ℕ) (m k : Machine) → b ≡ small → s.agent ≡ 0
-    → Makes b q note s n t → AgentsBelow (λ (x : Step FifoNote). x.agent) b.agents t.journal → m ≡ run_of b s.journal → k ≡ step m 0 q.op
+pub played_on : {N : Type 0} (b : Bounds) (q : Request) (note : Option N) (s t : MachineView N) (n : ℕ) (m k : Machine) → b ≡ small → s.agent ≡ 0
+    → Makes b q note s n t → AgentsBelow (λ (x : Step N). x.agent) b.agents t.journal → m ≡ run_of b s.journal → k ≡ step m 0 q.op
     → k ≡ run_of b t.journal
 played_on b q note s t n m k same is made below before next =
     next ∙ (ap (λ z. step z 0 q.op) before ∙ (sym (run_plain-append (new_machine b) s.journal (step_of 0 q note ∷ []))

@@ -31,12 +31,12 @@ abbrev pub small : Bounds
 small = record { rows = 2; roots = 2; agents = 1; limit = 8; links = 1 }
 
 -- these ops of agent 0
-abbrev pub own_steps : List Op → List (Step FifoNote)
+abbrev pub own_steps : {N : Type 0} → List Op → List (Step N)
 own_steps [] = []
 own_steps (op ∷ ops) = does 0 op None ∷ own_steps ops
 
 -- an exchange of a link by agent 0
-abbrev pub exchanged : Word → RowLink → RowLink → FifoNote → Step FifoNote
+abbrev pub exchanged : {N : Type 0} → Word → RowLink → RowLink → N → Step N
 exchanged place from to note = step_of 0 (asks (LinkCas place from to)) (Some note)
 
 -- the link to no row

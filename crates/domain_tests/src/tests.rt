@@ -8,5 +8,6 @@ mod nodes;
 mod plain;
 mod plain_board;
 mod reclaiming;
+mod rests;
 mod steps;
 mod words;

@@ -11,14 +11,19 @@ ghost use Rattle.orc_machine_board.specs.Rules.{does, run_of};
 ghost use Rattle.orc_machine_board.specs.Views.{board_bounds, board_numbers, shows};
 ghost use Rattle.orc_words.specs.Bounds.{bounds_of};
 
-use super::steps::{Queue, QueuePass, follow, make_one, make_plain, may_make};
+use super::steps::{exchange, follow, make_one, make_ones, step, steps};
 use orc_core::{CounterUse, Op, State, allowed};
-use orc_fifo_rule::FifoNote;
-use orc_heap::Seed;
+use orc_fifo_rule::{Fifo, FifoNote};
+use orc_heap::{Discipline, Seed};
 use orc_history::QueueEntry;
+use orc_machine_board::{MachineBoard, MachineBoardPass};
 use orc_words::{RowLink, Shape, Word};
 use std::alloc::Global;
 use std::test::Fail;
+
+type Queue = MachineBoard<Fifo>;
+
+type QueuePass = MachineBoardPass<Fifo>;
 
 const NULL: RowLink = RowLink {
     to: None,
@@ -120,56 +125,6 @@ const HOLD_NEXT: Op = Op::LinkLoad {
     place: Word::Next(0),
     slot: Some(2),
 };
-
-// Makes a step that changes no link, where the machine allows it.
-fn step(board: &Queue, p: &mut QueuePass, state: &mut State, op: Op) -> Option<u64>
-    requires played { IsPlayed board.now p.old state.old }
-    ensures played { IsPlayed board.now p.new state.new }
-    ensures journal { IfSome result (λ _. (shows p.new).journal ≡ (shows p.old).journal ++ does 0 op None ∷ []) }
-{
-    let made = make_plain(board, p, state, op);
-    board.seen_by(p);
-    made
-}
-
-// Makes these steps, up to one that the machine doesn't allow, and tells whether it allows all.
-fn steps(board: &Queue, p: &mut QueuePass, state: &mut State, ops: &[Op]) -> bool
-    requires played { IsPlayed board.now p.old state.old }
-    ensures played { IsPlayed board.now p.new state.new }
-    ensures journal { result ≡ true → (shows p.new).journal ≡ (shows p.old).journal ++ own_steps ops.now }
-{
-    for op in ops {
-        if step(board, p, state, *op).is_none() {
-            return false;
-        }
-    }
-    true
-}
-
-// Exchanges a link, where the machine allows it, and tells whether it does.
-fn exchange(
-    board: &Queue,
-    p: &mut QueuePass,
-    state: &mut State,
-    place: Word,
-    from: RowLink,
-    to: RowLink,
-    note: FifoNote,
-) -> bool
-    requires played { IsPlayed board.now p.old state.old }
-    requires licensed { MoveAllowed (FifoMay (board_numbers board.now)) (board_bounds board.now) (shows p.old) place from to (Some note) }
-    ensures played { IsPlayed board.now p.new state.new }
-    ensures journal { result ≡ true → (shows p.new).journal ≡ (shows p.old).journal ++ exchanged place from to note ∷ [] }
-{
-    let op = Op::LinkCas { place, from, to };
-    if !may_make(board, p, state, &op) {
-        return false;
-    }
-    board.link_cas(p, place, from, to, Some(note));
-    board.seen_by(p);
-    follow(state, &op);
-    true
-}
 
 // Takes row 1 out for job 6, and holds row 0, as root 1 shows it.
 fn give(board: &Queue, p: &mut QueuePass, state: &mut State) -> bool
@@ -283,20 +238,12 @@ fn take(board: &Queue, p: &mut QueuePass, state: &mut State) -> Option<u64>
     Some(job)
 }
 
-// Makes these steps, and tells whether the machine allows all.
-fn make_ones(board: &Queue, p: &mut QueuePass, state: &mut State, ops: &[Op]) -> bool
-    requires played { IsPlayed board.now p.old state.old }
-    ensures played { IsPlayed board.now p.new state.new }
-{
-    let mut all = true;
-    for op in ops {
-        all &= make_one(board, p, state, *op).is_some();
-    }
-    all
-}
-
 // Counts the links that changed, and retires row 0.
-fn retire(board: &Queue, p: &mut QueuePass, state: &mut State) -> bool
+fn retire<D: Discipline>(
+    board: &MachineBoard<D>,
+    p: &mut MachineBoardPass<D>,
+    state: &mut State,
+) -> bool
     requires played { IsPlayed board.now p.old state.old }
     ensures played { IsPlayed board.now p.new state.new }
 {
@@ -321,7 +268,11 @@ fn retire(board: &Queue, p: &mut QueuePass, state: &mut State) -> bool
 }
 
 // Scans for row 0, takes its link out, and frees it.
-fn free(board: &Queue, p: &mut QueuePass, state: &mut State) -> bool
+fn free<D: Discipline>(
+    board: &MachineBoard<D>,
+    p: &mut MachineBoardPass<D>,
+    state: &mut State,
+) -> bool
     requires played { IsPlayed board.now p.old state.old }
     ensures played { IsPlayed board.now p.new state.new }
 {

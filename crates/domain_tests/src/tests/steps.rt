@@ -1,22 +1,25 @@
 //! Steps of the one agent of a board of twenty kinds, each where a machine that makes the same steps allows it.
 
-ghost use Rattle.std.specs.Prelude.{◌≡◌, IfSome, None, true};
-ghost use Rattle.domain_tests.specs.JobRun.{IsPlayed};
+ghost use Rattle.std.specs.Prelude.{◌≡◌, ◌++◌, ◌∷◌, [], IfSome, None, Some, true};
+ghost use Rattle.domain_tests.specs.JobRun.{IsPlayed, exchanged, own_steps};
 ghost use Rattle.orc_core.specs.Machine.{LeavesRoom, is_allowed, step};
 ghost use Rattle.orc_machine_board.specs.Kinds.{MakesPlain, MayDo};
-ghost use Rattle.orc_machine_board.specs.Rules.{is_enroll};
-ghost use Rattle.orc_machine_board.specs.Views.{Belongs, board_bounds, shows};
+ghost use Rattle.orc_machine_board.specs.Licences.{MoveAllowed};
+ghost use Rattle.orc_machine_board.specs.Rules.{does, is_enroll};
+ghost use Rattle.orc_machine_board.specs.Views.{Belongs, board_bounds, board_numbers, shows};
 
 use orc_core::{Op, State, allowed, apply};
-use orc_fifo_rule::Fifo;
+use orc_heap::Discipline;
 use orc_machine_board::{MachineBoard, MachineBoardPass};
-
-pub type Queue = MachineBoard<Fifo>;
-
-pub type QueuePass = MachineBoardPass<Fifo>;
+use orc_words::{RowLink, Word};
 
 // Tests whether the machine allows the op, and has room for what it leaves.
-pub fn may_make(board: &Queue, p: &QueuePass, state: &State, op: &Op) -> bool
+pub fn may_make<D: Discipline>(
+    board: &MachineBoard<D>,
+    p: &MachineBoardPass<D>,
+    state: &State,
+    op: &Op,
+) -> bool
     requires played { IsPlayed board.now p.now state.now }
     ensures may { result ≡ true → MayDo (board_bounds board.now) (shows p.now) op.now }
     ensures allowed { result ≡ true → is_allowed state.now 0 op.now ≡ true }
@@ -53,7 +56,11 @@ pub fn follow(state: &mut State, op: &Op)
 }
 
 // Makes an allowed step on the board, if its kind changes no link.
-fn make_allowed(board: &Queue, p: &mut QueuePass, op: Op) -> Option<u64>
+fn make_allowed<D: Discipline>(
+    board: &MachineBoard<D>,
+    p: &mut MachineBoardPass<D>,
+    op: Op,
+) -> Option<u64>
     requires belongs { Belongs board.now p.old }
     requires allowed { MayDo (board_bounds board.now) (shows p.old) op }
     ensures belongs { Belongs board.now p.new }
@@ -86,7 +93,12 @@ fn make_allowed(board: &Queue, p: &mut QueuePass, op: Op) -> Option<u64>
 }
 
 // Makes a step that changes no link, where the machine allows it.
-pub fn make_plain(board: &Queue, p: &mut QueuePass, state: &mut State, op: Op) -> Option<u64>
+pub fn make_plain<D: Discipline>(
+    board: &MachineBoard<D>,
+    p: &mut MachineBoardPass<D>,
+    state: &mut State,
+    op: Op,
+) -> Option<u64>
     requires played { IsPlayed board.now p.old state.old }
     ensures played { IsPlayed board.now p.new state.new }
     ensures made { IfSome result (λ n. MakesPlain (board_bounds board.now) op (shows p.old) n (shows p.new)) }
@@ -101,7 +113,12 @@ pub fn make_plain(board: &Queue, p: &mut QueuePass, state: &mut State, op: Op) -
 }
 
 // Makes a step that exchanges no link, where the machine allows it; of a row that isn't fresh, it takes the link out.
-pub fn make_one(board: &Queue, p: &mut QueuePass, state: &mut State, op: Op) -> Option<u64>
+pub fn make_one<D: Discipline>(
+    board: &MachineBoard<D>,
+    p: &mut MachineBoardPass<D>,
+    state: &mut State,
+    op: Op,
+) -> Option<u64>
     requires played { IsPlayed board.now p.old state.old }
     ensures played { IsPlayed board.now p.new state.new }
 {
@@ -115,4 +132,81 @@ pub fn make_one(board: &Queue, p: &mut QueuePass, state: &mut State, op: Op) -> 
         return Some(old);
     }
     make_plain(board, p, state, op)
+}
+
+// Makes a step that changes no link, where the machine allows it.
+pub fn step<D: Discipline>(
+    board: &MachineBoard<D>,
+    p: &mut MachineBoardPass<D>,
+    state: &mut State,
+    op: Op,
+) -> Option<u64>
+    requires played { IsPlayed board.now p.old state.old }
+    ensures played { IsPlayed board.now p.new state.new }
+    ensures journal { IfSome result (λ _. (shows p.new).journal ≡ (shows p.old).journal ++ does 0 op None ∷ []) }
+{
+    let made = make_plain(board, p, state, op);
+    board.seen_by(p);
+    made
+}
+
+// Makes these steps, up to one that the machine doesn't allow, and tells whether it allows all.
+pub fn steps<D: Discipline>(
+    board: &MachineBoard<D>,
+    p: &mut MachineBoardPass<D>,
+    state: &mut State,
+    ops: &[Op],
+) -> bool
+    requires played { IsPlayed board.now p.old state.old }
+    ensures played { IsPlayed board.now p.new state.new }
+    ensures journal { result ≡ true → (shows p.new).journal ≡ (shows p.old).journal ++ own_steps ops.now }
+{
+    for op in ops {
+        if step(board, p, state, *op).is_none() {
+            return false;
+        }
+    }
+    true
+}
+
+// Exchanges a link, where the machine allows it, and tells whether it does.
+pub fn exchange<D: Discipline>(
+    board: &MachineBoard<D>,
+    p: &mut MachineBoardPass<D>,
+    state: &mut State,
+    place: Word,
+    from: RowLink,
+    to: RowLink,
+    note: D::Note,
+) -> bool
+    requires played { IsPlayed board.now p.old state.old }
+    requires licensed { MoveAllowed (D.may (board_numbers board.now)) (board_bounds board.now) (shows p.old) place from to (Some note) }
+    ensures played { IsPlayed board.now p.new state.new }
+    ensures journal { result ≡ true → (shows p.new).journal ≡ (shows p.old).journal ++ exchanged place from to note ∷ [] }
+{
+    let op = Op::LinkCas { place, from, to };
+    if !may_make(board, p, state, &op) {
+        return false;
+    }
+    board.link_cas(p, place, from, to, Some(note));
+    board.seen_by(p);
+    follow(state, &op);
+    true
+}
+
+// Makes these steps, and tells whether the machine allows all.
+pub fn make_ones<D: Discipline>(
+    board: &MachineBoard<D>,
+    p: &mut MachineBoardPass<D>,
+    state: &mut State,
+    ops: &[Op],
+) -> bool
+    requires played { IsPlayed board.now p.old state.old }
+    ensures played { IsPlayed board.now p.new state.new }
+{
+    let mut all = true;
+    for op in ops {
+        all &= make_one(board, p, state, *op).is_some();
+    }
+    all
 }

@@ -6,7 +6,7 @@ use Rattle.orc_machine_board.specs.Views.{board_bounds, shows}
 use Rattle.domain_tests.proofs.tests.steps.make_one.Goals as goal
 
 pub returns-in-LinkStore : goal.returns-in-LinkStore
-returns-in-LinkStore c =
+returns-in-LinkStore g c =
     let old = c.requires.played.sole in
     let made = c.link_store-old.ensures.makes in
     record {

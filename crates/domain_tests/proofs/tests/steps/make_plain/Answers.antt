@@ -5,7 +5,7 @@ use Rattle.orc_machine_board.specs.Views.{board_bounds, shows}
 use Rattle.domain_tests.proofs.tests.steps.make_plain.Goals as goal
 
 pub returns-clause-played : goal.returns-clause-played
-returns-clause-played c =
+returns-clause-played g c =
     let old = c.requires.played.sole in
     let made = c.in_ok-made.ensures.made in
     record {

@@ -1,5 +1,0 @@
-use Rattle.domain_tests.specs.JobRun.{IsPlayed}
-use Rattle.domain_tests.proofs.tests.job.make_ones.Given as goal
-
-abbrev pub invariant-loop-op : goal.invariant-loop-op
-invariant-loop-op l = IsPlayed l.board l.p l.state
