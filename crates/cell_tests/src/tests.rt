@@ -4,4 +4,5 @@
 mod calls;
 mod plain;
 mod reclaiming;
+mod rests;
 mod threads;
