@@ -1,57 +1,19 @@
 //! That posters and takers work beside each other, which no contract says: gates that hold one until another has come.
 
+use super::super::gates::{TwoMeet, came};
 use super::teams::{posts, report_of};
 use orc_board::Gate;
 use std::sync::atomic::{AtomicU64, Ordering};
 use std::test::Fail;
-
-// For how many looks a worker is held at most.
-const LOOKS: u64 = 1 << 30;
-
-// Waits until the flag is up, and answers whether it came up in time.
-fn came(flag: &AtomicU64) -> bool {
-    for _ in 0..LOOKS {
-        if flag.load(Ordering::SeqCst) == 1 {
-            return true;
-        }
-    }
-    false
-}
-
-// Holds each of posters 1 and 2 before its first line until the other has come there, and counts who saw the other come.
-#[derive(Drop)]
-struct PostersMeet {
-    first: AtomicU64,
-    second: AtomicU64,
-    met: AtomicU64,
-}
-
-impl Gate for PostersMeet {
-    fn before(&self, worker: u32, call: u64) {
-        let (own, other) = match (worker, call) {
-            (1, 0) => (&self.first, &self.second),
-            (2, 0) => (&self.second, &self.first),
-            _ => return,
-        };
-        own.store(1, Ordering::SeqCst);
-        if came(other) {
-            self.met.fetch_add(1, Ordering::SeqCst);
-        }
-    }
-}
 
 #[test]
 fn two_posters_each_see_the_other_come(rt: HostRuntime) -> Result<(), Fail> {
     let alloc = rt.alloc();
     let words = ["--posters", "2", "--takers", "0"];
     let input = posts(alloc, 6)?;
-    let gate = PostersMeet {
-        first: AtomicU64::new(0),
-        second: AtomicU64::new(0),
-        met: AtomicU64::new(0),
-    };
+    let gate = TwoMeet::new();
     let _report = report_of(&rt, alloc, words.as_slice(), input.as_bytes(), &gate)?;
-    assert_eq!(rt; gate.met.load(Ordering::SeqCst), 2);
+    assert_eq!(rt; gate.met(), 2);
     Ok(())
 }
 
