@@ -7,11 +7,12 @@ use crate::laps::{Lap, lap_of_calls, lap_of_workers};
 use crate::options::Options;
 use orc_board::OpenGate;
 use orc_chain_rule::Chain;
-use orc_containers::{new_queue, new_set};
+use orc_containers::{Domain, new_queue, new_set};
 use orc_fifo_rule::Fifo;
-use orc_history::{LearnQueue, SharedQueue};
+use orc_history::LearnQueue;
 use orc_jobs::Lines;
 use orc_plain_domain::PlainDomain;
+use orc_queue::Queue;
 use orc_run::{SetChoice, run_lines};
 use std::alloc::Global;
 use std::io;
@@ -22,8 +23,12 @@ use std::time::Clock;
 // How many rows each domain has.
 const ROWS: u32 = 65_535;
 
-// A lap by workers over these queues and a set over a plain domain.
-fn workers_beside_a_set<R: Threads + Wait + Clock + Sync, Q: LearnQueue + Sync>(
+// A lap by workers over these queues and a set over a domain of this type.
+fn workers_beside_a_set<
+    R: Threads + Wait + Clock + Sync,
+    Q: LearnQueue + Sync,
+    C: Domain<Rule = Chain> + Sync + Drop,
+>(
     rt: &R,
     alloc: Global,
     lines: &Lines,
@@ -37,6 +42,7 @@ fn workers_beside_a_set<R: Threads + Wait + Clock + Sync, Q: LearnQueue + Sync>(
 ) -> io::Result<Option<Lap>>
 where
     Q::Pass: Send,
+    C::Pass: Send,
     requires good { AreGood lines.now }
     requires posters { (1 ≤ posters) × (posters ≤ 8) × (takers ≤ 7) }
     requires queue_usable { All (λ p. Q.usable queue.now p) queue_passes.items }
@@ -52,7 +58,7 @@ where
     requires first { (Q.first queue.now ≡ 0) × (Q.first rush.now ≡ 0) }
 {
     let agents = 1 + posters + takers;
-    let Ok((set, set_passes)) = new_set::<PlainDomain<Chain>>(alloc, ROWS, agents, buckets) else {
+    let Ok((set, set_passes)) = new_set::<C>(alloc, ROWS, agents, buckets) else {
         return Ok(None);
     };
     lap_of_workers(
@@ -70,8 +76,12 @@ where
     )
 }
 
-// A lap by workers over plain domains.
-fn workers_on_plain<R: Threads + Wait + Clock + Sync>(
+// A lap by workers over queues and a set over domains of these types.
+fn workers_over<
+    R: Threads + Wait + Clock + Sync,
+    F: Domain<Rule = Fifo> + Sync + Drop,
+    C: Domain<Rule = Chain> + Sync + Drop,
+>(
     rt: &R,
     alloc: Global,
     lines: &Lines,
@@ -79,17 +89,20 @@ fn workers_on_plain<R: Threads + Wait + Clock + Sync>(
     posters: u32,
     takers: u32,
 ) -> io::Result<Option<Lap>>
+where
+    F::Pass: Send,
+    C::Pass: Send,
     requires good { AreGood lines.now }
     requires posters { (1 ≤ posters) × (posters ≤ 8) × (takers ≤ 7) }
 {
     let agents = 1 + posters + takers;
-    let Ok((queue, queue_passes)) = new_queue::<PlainDomain<Fifo>>(alloc, ROWS, agents) else {
+    let Ok((queue, queue_passes)) = new_queue::<F>(alloc, ROWS, agents) else {
         return Ok(None);
     };
-    let Ok((rush, rush_passes)) = new_queue::<PlainDomain<Fifo>>(alloc, ROWS, agents) else {
+    let Ok((rush, rush_passes)) = new_queue::<F>(alloc, ROWS, agents) else {
         return Ok(None);
     };
-    workers_beside_a_set(
+    workers_beside_a_set::<R, Queue<F>, C>(
         rt,
         alloc,
         lines,
@@ -103,23 +116,38 @@ fn workers_on_plain<R: Threads + Wait + Clock + Sync>(
     )
 }
 
-// A lap by bare calls of this queue and a set over a plain domain.
-fn calls_beside_a_set<R: Threads + Clock + Sync, Q: SharedQueue + Drop + Sync>(
+// A lap by workers over plain domains.
+fn workers_on_plain<R: Threads + Wait + Clock + Sync>(
     rt: &R,
     alloc: Global,
-    posts: u32,
+    lines: &Lines,
     buckets: u32,
-    threads: u32,
-    queue: Q,
-    queue_passes: Vec<Q::Pass>,
+    posters: u32,
+    takers: u32,
 ) -> io::Result<Option<Lap>>
-where
-    Q::Pass: Send,
-    requires threads { (1 ≤ threads) × (threads ≤ 8) }
-    requires queue { All (λ p. Q.usable queue p) queue_passes.items }
+    requires good { AreGood lines.now }
+    requires posters { (1 ≤ posters) × (posters ≤ 8) × (takers ≤ 7) }
 {
-    let made = new_set::<PlainDomain<Chain>>(alloc, ROWS, 1 + threads, buckets);
-    let Ok((set, set_passes)) = made else {
+    workers_over::<R, PlainDomain<Fifo>, PlainDomain<Chain>>(
+        rt, alloc, lines, buckets, posters, takers,
+    )
+}
+
+// A lap by bare calls of a queue and a set over domains of these types.
+fn calls_over<
+    R: Threads + Clock + Sync,
+    F: Domain<Rule = Fifo> + Sync + Drop,
+    C: Domain<Rule = Chain> + Sync + Drop,
+>(rt: &R, alloc: Global, posts: u32, buckets: u32, threads: u32) -> io::Result<Option<Lap>>
+where
+    F::Pass: Send,
+    C::Pass: Send,
+    requires threads { (1 ≤ threads) × (threads ≤ 8) }
+{
+    let Ok((queue, queue_passes)) = new_queue::<F>(alloc, ROWS, 1 + threads) else {
+        return Ok(None);
+    };
+    let Ok((set, set_passes)) = new_set::<C>(alloc, ROWS, 1 + threads, buckets) else {
         return Ok(None);
     };
     lap_of_calls(rt, posts, threads, (queue, set, queue_passes, set_passes))
@@ -135,10 +163,7 @@ fn calls_on_plain<R: Threads + Clock + Sync>(
 ) -> io::Result<Option<Lap>>
     requires threads { (1 ≤ threads) × (threads ≤ 8) }
 {
-    let Ok((queue, passes)) = new_queue::<PlainDomain<Fifo>>(alloc, ROWS, 1 + threads) else {
-        return Ok(None);
-    };
-    calls_beside_a_set(rt, alloc, posts, buckets, threads, queue, passes)
+    calls_over::<R, PlainDomain<Fifo>, PlainDomain<Chain>>(rt, alloc, posts, buckets, threads)
 }
 
 // How many jobs a run over reclaiming domains takes, which makes them and brings them to rest.
