@@ -17,7 +17,7 @@ use std::alloc::Global;
 use std::thread::Threads;
 use std::time::{Clock, Instant};
 
-// Drives what the settings name. A list is a set of one bucket.
+// Drives what the settings name.
 pub(crate) fn run<R: Threads + Clock + Sync>(
     rt: &R,
     alloc: Global,
@@ -33,25 +33,11 @@ pub(crate) fn run<R: Threads + Clock + Sync>(
         (Kind::Queue, Domain::Reclaiming) => run_queue::<R, OrcDomain<Fifo>>(
             rt, alloc, settings, instant,
         ),
-        (Kind::List, Domain::Plain) => run_set::<R, PlainDomain<Chain>>(
-            rt, alloc, settings, 1, instant,
+        (Kind::List | Kind::Set, Domain::Plain) => run_set::<R, PlainDomain<Chain>>(
+            rt, alloc, settings, instant,
         ),
-        (Kind::List, Domain::Reclaiming) => run_set::<R, OrcDomain<Chain>>(
-            rt, alloc, settings, 1, instant,
-        ),
-        (Kind::Set, Domain::Plain) => run_set::<R, PlainDomain<Chain>>(
-            rt,
-            alloc,
-            settings,
-            settings.roots,
-            instant,
-        ),
-        (Kind::Set, Domain::Reclaiming) => run_set::<R, OrcDomain<Chain>>(
-            rt,
-            alloc,
-            settings,
-            settings.roots,
-            instant,
+        (Kind::List | Kind::Set, Domain::Reclaiming) => run_set::<R, OrcDomain<Chain>>(
+            rt, alloc, settings, instant,
         ),
         (Kind::Split, Domain::Plain) => run_split::<R, PlainDomain<Split>>(
             rt, alloc, settings, instant,

@@ -14,7 +14,7 @@ use orc_fifo_rule::Fifo;
 use orc_pairs_rule::Pairs;
 use orc_queue::Queue;
 use orc_split_rule::Split;
-use orc_stress::{Counts, Driven, Settings};
+use orc_stress::{Counts, Driven, Kind, Settings};
 use std::alloc::Global;
 use std::thread::Threads;
 use std::time::{Clock, Instant};
@@ -44,12 +44,11 @@ where
     Ok(drive_to_rest(rt, alloc, &settings.plan, instant, queue, passes)?)
 }
 
-// Drives a set of so many buckets over a domain of this type.
+// Drives a set over a domain of this type. A list is a set of one bucket.
 pub(crate) fn run_set<R: Threads + Clock + Sync, L: Domain<Rule = Chain> + Sync + Drop>(
     rt: &R,
     alloc: Global,
     settings: &Settings,
-    buckets: u32,
     instant: Instant,
 ) -> Result<(Driven, Counts), Unmade>
 where
@@ -57,6 +56,10 @@ where
     L::Rest: Send,
     ensures calls { IfOk result (λ r. calls_of r.0.tally.answers ≡ settings.now.plan.threads * settings.now.plan.load.calls) }
 {
+    let buckets = match settings.container {
+        Kind::List => 1,
+        _ => settings.roots,
+    };
     let (made, passes) = new_set::<L>(alloc, settings.rows, settings.agents, buckets)?;
     let set = Rooted::new(made, settings);
     Ok(drive_to_rest(rt, alloc, &settings.plan, instant, set, passes)?)
