@@ -1,6 +1,6 @@
 //! What is run, and what was worked out by hand.
 
-ghost use Rattle.std.specs.Prelude.{◌≤◌, IfOk, length};
+ghost use Rattle.std.specs.Prelude.{IfOk};
 ghost use Rattle.orc_jobs.specs.GoodLines.{AreGood};
 
 use orc_fault::NoMemory;
@@ -18,9 +18,11 @@ mod runs;
 
 // The lines of a job file.
 fn lines_of(alloc: Global, bytes: &[u8]) -> Result<Lines, NoMemory>
-    requires { length bytes.now ≤ MOST_BYTES }
     ensures { IfOk result AreGood }
 {
+    if bytes.len() > MOST_BYTES {
+        return Err(NoMemory);
+    }
     match read_jobs(alloc, bytes) {
         Ok(lines) => Ok(lines),
         Err(_) => Err(NoMemory),

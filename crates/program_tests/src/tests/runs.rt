@@ -1,15 +1,17 @@
 //! Runs on threads, whose replies are read back.
 
-ghost use Rattle.std.specs.Prelude.{IfOk};
+ghost use Rattle.std.specs.Prelude.{◌≤◌, IfOk};
 ghost use Rattle.orc_jobs.specs.GoodLines.{AreGood};
 
 use super::lines_of;
-use orc_board::{OpenGate, PostReply, PostWord, TakeReply, TakeWord};
+use orc_board::{OpenGate, PostReply, PostWord, Replies, TakeReply, TakeWord};
 use orc_fault::NoMemory;
-use orc_jobs::{Lines, MOST_BYTES};
-use orc_run::{SetChoice, run_lines};
+use orc_jobs::Lines;
+use orc_run::{Finished, SetChoice, run_lines};
 use std::alloc::Global;
+use std::sync::Wait;
 use std::test::Fail;
+use std::thread::Threads;
 
 const FIVE_LINES: &[u8] =
     b"post,7,bytes,hello\npost,9,sum,1 2 3\ndrop,9\npost,7,words,a b\ndrop,8\n";
@@ -26,11 +28,7 @@ fn rounds_of(alloc: Global, rounds: u32) -> Result<Lines, NoMemory>
         text.push_str("post,1,bytes,x\npost,2,bytes,x\npost,3,bytes,x\npost,4,bytes,x\n")?;
         text.push_str("drop,1\ndrop,2\ndrop,3\ndrop,4\n")?;
     }
-    let bytes = text.as_bytes();
-    if bytes.len() > MOST_BYTES {
-        return Err(NoMemory);
-    }
-    lines_of(alloc, bytes)
+    lines_of(alloc, text.as_bytes())
 }
 
 // Whether the claims are of the positions from 0 on, so many, each once.
@@ -57,19 +55,46 @@ fn accepted(posts: &[PostReply]) -> usize {
         .count()
 }
 
+// What a run left: the replies; and of the queue's rows and of the set's how many were given, how many freed, and how many are linked.
+#[derive(Drop)]
+struct Ran {
+    replies: Replies,
+    queue: (u64, u64, u32),
+    set: (u64, u64, u32),
+}
+
+// Runs lines over eight rows and a set of so many lists. All tests call here, so that the call's contract is looked at in one proof.
+fn run<R: Threads + Wait + Sync>(
+    rt: &R,
+    alloc: Global,
+    lines: &Lines,
+    posters: u32,
+    takers: u32,
+    buckets: u32,
+) -> Result<Ran, NoMemory>
+    requires good { AreGood lines.now }
+    requires posters { (1 ≤ posters) × (posters ≤ 8) }
+    requires takers { takers ≤ 7 }
+    requires buckets { (1 ≤ buckets) × (buckets ≤ 256) }
+{
+    let choice = SetChoice::Lists(buckets);
+    let Finished {
+        queue,
+        rush: _,
+        set,
+        replies,
+    } = run_lines(rt, alloc, lines, posters, takers, 8, choice, &OpenGate)?;
+    Ok(Ran {
+        replies,
+        queue: (queue.given(), queue.reused(), queue.linked()),
+        set: (set.given(), set.reused(), set.linked()),
+    })
+}
+
 #[test]
 fn a_drop_closes_an_open_id(rt: HostRuntime) -> Result<(), Fail> {
     let lines = lines_of(rt.alloc(), FIVE_LINES)?;
-    let finished = run_lines(
-        &rt,
-        rt.alloc(),
-        &lines,
-        1,
-        0,
-        8,
-        SetChoice::Lists(1),
-        &OpenGate,
-    )?;
+    let ran = run(&rt, rt.alloc(), &lines, 1, 0, 1)?;
     let words = [
         PostWord::Posted(0),
         PostWord::Posted(1),
@@ -77,14 +102,14 @@ fn a_drop_closes_an_open_id(rt: HostRuntime) -> Result<(), Fail> {
         PostWord::Busy,
         PostWord::Unknown,
     ];
-    assert_eq!(rt; finished.replies.posts.len(), 5);
+    assert_eq!(rt; ran.replies.posts.len(), 5);
     for (line, what) in (0..).zip(words) {
         let reply = PostReply {
             poster: 1,
             line,
             what,
         };
-        assert!(rt; finished.replies.posts.items().contains(&reply));
+        assert!(rt; ran.replies.posts.items().contains(&reply));
     }
     let done = TakeReply {
         taker: 0,
@@ -100,75 +125,31 @@ fn a_drop_closes_an_open_id(rt: HostRuntime) -> Result<(), Fail> {
         rush: false,
         what: TakeWord::Void,
     };
-    assert_eq!(rt; finished.replies.takes.items(), [done, void].as_slice());
-    let queue = (
-        finished.queue.given(),
-        finished.queue.reused(),
-        finished.queue.linked(),
-    );
-    let set = (
-        finished.set.given(),
-        finished.set.reused(),
-        finished.set.linked(),
-    );
-    assert_eq!(rt; queue, (3, 2, 1));
-    assert_eq!(rt; set, (2, 2, 0));
+    assert_eq!(rt; ran.replies.takes.items(), [done, void].as_slice());
+    assert_eq!(rt; ran.queue, (3, 2, 1));
+    assert_eq!(rt; ran.set, (2, 2, 0));
     Ok(())
 }
 
 #[test]
 fn a_small_board_refuses_what_has_no_row(rt: HostRuntime) -> Result<(), Fail> {
     let lines = lines_of(rt.alloc(), NINE_POSTS)?;
-    let finished = run_lines(
-        &rt,
-        rt.alloc(),
-        &lines,
-        1,
-        0,
-        8,
-        SetChoice::Lists(256),
-        &OpenGate,
-    )?;
-    assert_eq!(rt; accepted(finished.replies.posts.items()), 7);
-    let queue = (
-        finished.queue.given(),
-        finished.queue.reused(),
-        finished.queue.linked(),
-    );
-    let set = (
-        finished.set.given(),
-        finished.set.reused(),
-        finished.set.linked(),
-    );
-    assert_eq!(rt; queue, (8, 7, 1));
-    assert_eq!(rt; set, (9, 9, 0));
+    let ran = run(&rt, rt.alloc(), &lines, 1, 0, 256)?;
+    assert_eq!(rt; accepted(ran.replies.posts.items()), 7);
+    assert_eq!(rt; ran.queue, (8, 7, 1));
+    assert_eq!(rt; ran.set, (9, 9, 0));
     Ok(())
 }
 
 #[test]
 fn eight_rows_serve_ten_thousand_posts_and_drops(rt: HostRuntime) -> Result<(), Fail> {
     let lines = rounds_of(rt.alloc(), 1250)?;
-    let finished = run_lines(
-        &rt,
-        rt.alloc(),
-        &lines,
-        4,
-        3,
-        8,
-        SetChoice::Lists(16),
-        &OpenGate,
-    )?;
-    let posts = finished.replies.posts.items();
-    let takes = finished.replies.takes.items();
+    let ran = run(&rt, rt.alloc(), &lines, 4, 3, 16)?;
+    let posts = ran.replies.posts.items();
+    let takes = ran.replies.takes.items();
     assert_eq!(rt; posts.len(), 10000);
     assert!(rt; each_claimed_once(rt.alloc(), takes, accepted(posts))?);
-    assert!(rt;
-        finished
-            .queue
-            .reused()
-            .saturating_add(finished.set.reused())
-            >= 1000
-    );
-    assert_eq!(rt; finished.queue.linked(), 1);
+    assert!(rt; ran.queue.1.saturating_add(ran.set.1) >= 1000);
+    assert_eq!(rt; ran.queue.2, 1);
     Ok(())
 }
