@@ -15,6 +15,8 @@ mod jobs;
 mod options;
 mod report;
 mod runs;
+mod stages;
+mod watch;
 
 // The lines of a job file.
 fn lines_of(alloc: Global, bytes: &[u8]) -> Result<Lines, NoMemory>

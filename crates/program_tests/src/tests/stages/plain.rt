@@ -1,7 +1,8 @@
 //! Rows of a pipeline over plain queues, one agent after another on this thread.
 ghost use Rattle.orc_jobs.specs.GoodLines.{AreGood};
 
-use super::{lines_of, moved, posted};
+use super::super::lines_of;
+use super::{moved, posted};
 use orc_board::{OpenGate, PostList, PostReply, PostWord};
 use orc_fault::NoMemory;
 use orc_history::PlainQueue;

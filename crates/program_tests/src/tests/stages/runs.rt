@@ -1,7 +1,8 @@
 //! Whole runs on threads, over reclaiming domains.
 ghost use Rattle.std.specs.Prelude.{◌≤◌};
 
-use super::{lines_of, moved, posted};
+use super::super::lines_of;
+use super::{moved, posted};
 use orc_board::{Gate, OpenGate, PostList, PostReply, PostWord};
 use orc_fault::NoMemory;
 use orc_stages::{OutList, StageList, StageReply};

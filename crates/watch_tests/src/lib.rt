@@ -1,5 +1,0 @@
-//! Watch files and their text.
-#![tactic(auto)]
-
-#[cfg(test)]
-mod tests;

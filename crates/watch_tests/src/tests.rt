@@ -1,4 +1,0 @@
-//! Lines are read and refused as they must be, and replies are told as text.
-
-mod reading;
-mod telling;
