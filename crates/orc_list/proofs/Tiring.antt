@@ -1,5 +1,5 @@
 -- One turn after another, for a call that keeps no node.
-use Rattle.std.proofs.Common.{Bool, List, None, Ok, Option, Some, [], arith, false, inl, inr, refl, subst, true, ℕ, ◌++◌, ◌+◌, ◌∙◌, ◌∷◌, ◌≤◌, ◌⊎◌}
+use Rattle.std.proofs.Common.{Bool, List, Ok, Some, [], arith, false, inl, inr, refl, subst, true, ℕ, ◌++◌, ◌+◌, ◌∙◌, ◌∷◌, ◌≤◌, ◌⊎◌}
 use Rattle.orc_heap.proofs.Pieces.{own_part_right}
 use Rattle.orc_heap.specs.Heap.{Heap, HeapNumbers}
 use Rattle.orc_heap.specs.Seats.{Seat, heap_of}
@@ -47,12 +47,6 @@ asks_answer key turns most s t u answer w a low = (
 pub either_wider : {A Worn More B : Type 0} → (Worn → More) → A ⊎ (Worn × B) → A ⊎ (More × B)
 either_wider wider (inl a) = inl a
 either_wider wider (inr w) = inr (wider w.0, w.1)
-
-pub turn_wider : (n : HeapNumbers) (key turns : ℕ) (Worn More : Type 0) (s t : Seat ChainNote) (result : Option Bool) → (Worn → More)
-    → RemovesTurn n key Worn turns s result t → RemovesTurn n key More turns s result t
-turn_wider n key turns Worn More s t None wider r = r
-turn_wider n key turns Worn More s t (Some false) wider r = r
-turn_wider n key turns Worn More s t (Some true) wider r = record { answers = r.answers; off = λ alone. either_wider wider (r.off alone) }
 
 pub takes_right : (es fs : List (Event ChainNote)) (key id : ℕ) → TakesKey fs key id → TakesKey (es ++ fs) key id
 takes_right [] fs key id k = k

@@ -5,7 +5,7 @@ use Rattle.orc_heap.specs.Seats.{Seat}
 use Rattle.orc_heap.specs.Slots.{Hold, Slots}
 use Rattle.orc_heap.specs.declared.events.Place.TheVariants.{Root}
 use Rattle.orc_ordered_search.specs.Reading.{Manner, Reading, reading_by}
-use Rattle.orc_ordered_search.specs.Searches.{FindsAbsent as FindsRankAbsent, FindsMoved as FindsRankMoved, FindsPresent as FindsRankPresent, InHand as HasInHand, NextFollows as NextRankFollows}
+use Rattle.orc_ordered_search.specs.Searches.{FindsAbsent as FindsRankAbsent, FindsMoved as FindsRankMoved, FindsPresent as FindsRankPresent, InHand as HasInHand}
 use Rattle.orc_ordered_search.specs.Ways.{IsFew}
 use Rattle.orc_ordered_search.specs.declared.walk.Searched.{Searched}
 use Rattle.orc_ordered_search.specs.declared.walk.Searched.TheVariants.{Absent, Over, Present}
@@ -18,10 +18,6 @@ list_manner n = record { order = chain_order n.roots; entries_in = entries_in; c
 
 abbrev pub list_reading : HeapNumbers → Reading ChainNote
 list_reading n = reading_by n list_manner
-
--- the node that a link names has a key that may follow the link's node
-abbrev pub NextFollows : HeapNumbers → ℕ → Option ℕ → Seat ChainNote → Type 0
-NextFollows n id next t = NextRankFollows (list_reading n) id next t
 
 -- the key is absent between the left place and the right node, which showed an unmarked link in this search
 abbrev pub FindsAbsent : HeapNumbers → ℕ → ℕ → Option Hold → Option Hold → Option Hold → Seat ChainNote → Seat ChainNote → Type 0

@@ -1,6 +1,6 @@
 //! Answers whether a key is present.
 
-ghost use Rattle.std.specs.Prelude.{◌≡◌, ◌<◌, ◌%◌, ◌≢◌, Ok, Err};
+ghost use Rattle.std.specs.Prelude.{◌≡◌, ◌<◌, ◌%◌, Ok, Err};
 ghost use mathlib.Core.List.{IsPrefix};
 ghost use Rattle.orc_list.specs.Answers.{AsksTurns};
 ghost use Rattle.orc_ordered_search.specs.Searches.{HasRoom};

@@ -1,4 +1,4 @@
--- From the clauses of a call to what the trait of shared sets asks, and what two passes learn from each other.
+-- From the clauses of a call to what the trait of shared sets asks.
 use Rattle.std.proofs.Common.{Bool, Err, List, Ok, Result, arith, length, refl, ℕ, ◌≡◌, ◌≢◌}
 use Rattle.std.specs.Prelude.{IfErr}
 use mathlib.Core.List.{IsPrefix}

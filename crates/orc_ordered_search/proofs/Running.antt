@@ -1,5 +1,5 @@
 -- A search runs over unmarked nodes with lower keys.
-use Rattle.std.proofs.Common.{Bool, List, None, Option, Some, [], ap, append-nil, arith, false, refl, subst, suc, sym, zero, ℕ, ◌++◌, ◌+◌, ◌<◌, ◌∙◌, ◌∷◌, ◌≡◌, ◌≢◌, ◌≤◌}
+use Rattle.std.proofs.Common.{Bool, List, None, Option, Some, [], ap, arith, false, refl, subst, suc, sym, zero, ℕ, ◌++◌, ◌+◌, ◌<◌, ◌∙◌, ◌∷◌, ◌≡◌, ◌≢◌, ◌≤◌}
 use Rattle.std.specs.List.{slice_get, slice_set}
 use Rattle.orc_heap.proofs.Hands.{hand_held, hands_done, hands_drop, hands_none, hands_swap, hands_take, holds_of}
 use Rattle.orc_heap.proofs.Pieces.{linked_not_fresh}
@@ -19,7 +19,7 @@ use Rattle.orc_heap.specs.declared.holds.Looked.TheVariants.{Moved, Stable}
 use Rattle.orc_heap.specs.declared.holds.LookedOn.TheVariants.{Moved as MovedOff, On, Stays}
 use Rattle.orc_ordered_chains.proofs.Acts.{rank_linked}
 use Rattle.orc_ordered_search.specs.Reading.{Ordering}
-use Rattle.orc_ordered_search.specs.Searches.{FindsMoved, HasRoom, LetsGo, LooksBy, Passed, Walks, count_on, slot_in}
+use Rattle.orc_ordered_search.specs.Searches.{FindsMoved, HasRoom, LooksBy, Passed, Walks, count_on, slot_in}
 use Rattle.orc_ordered_search.specs.Ways.{IsFew}
 use Rattle.orc_ordered_search.proofs.Held.{FreshIs, goes_fresh, goes_hands, left_linked, release_goes}
 use Rattle.orc_ordered_search.proofs.Quiets.{behind_on, key_puts, moved_on, silent_two}
@@ -41,10 +41,6 @@ hands_again s t u hs h now id next k same is =
     hands_take s gone u hs now next (hands_drop s t gone hs h id k refl) (subst (λ (i : ℕ). IsApart i hs) (sym same) k.held.0.2)
     (subst (λ (i : ℕ). slice_get s i ≡ Some None) (sym same) k.held.0.1)
     (subst (λ (i : ℕ). u ≡ slice_set gone i node) (sym same) (is ∙ sym (set_twice t h.slot None node)))
-
--- where nothing is in hand, nothing is let go
-pub goes_nothing : {N : Type 0} (s : Seat N) → LetsGo None s s
-goes_nothing s = record { slots = refl; fresh = refl; puts = record { part = []; is = sym (append-nil s.seen); agent = refl; own_is = refl } }
 
 module _ {N : Type 0} (ord : Ordering N) (start : Place) (wanted : ℕ) where
   -- by what the look found

@@ -210,10 +210,3 @@ start_few {N} ord start wanted slot left s t u v b looks all g fresh all_v =
     start_linked (Some h) is =
         chain_place_linked ord.reading.order (heap_of ord.reading.numbers t) (Next b.left_id)
         (subst (λ (z : Place). IsChainPlace ord.reading.order (heap_of ord.reading.numbers t) z) is b.begins)
-
-pub start_moved : {N : Type 0} (ord : Ordering N) (start : Place) (wanted slot : ℕ) (left : Option Hold) (s t u v : Seat N)
-    → (b : Begins ord.reading start wanted left s t)
-    → Looks start slot t Moved u → AllAllowed ord.may [] u.seen → LetsGo left u v → FreshIs ord u → AllAllowed ord.may [] v.seen
-    → FindsMoved ord.reading s v
-start_moved {N} ord start wanted slot left s t u v b looks all g fresh all_v =
-    (start_few ord start wanted slot left s t u v b looks all g fresh all_v).0

@@ -141,7 +141,3 @@ stops_few {N} ord start wanted left first at s t u w g all =
       },
       w.few,
     )
-
-pub stops_moved : {N : Type 0} (ord : Ordering N) (start : Place) (wanted : ℕ) (left first : Option Hold) (at : Hold) (s t u : Seat N)
-    → Stops ord.reading start wanted left first at s t → AllGone s.slots t u → AllAllowed ord.may [] u.seen → FindsMoved ord.reading s u
-stops_moved {N} ord start wanted left first at s t u w g all = (stops_few ord start wanted left first at s t u w g all).0

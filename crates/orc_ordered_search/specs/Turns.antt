@@ -107,7 +107,7 @@ module _ {N : Type 0} where
       TakesNode noted unlinking (left_place (r.order.root wanted) left f.left_id) (run_head first f.first_id f.id) f.id (node_of next f.next_id) IsWorn s.slots t u
   TakesOut r noted unlinking start wanted passed left first node next IsWorn s t f false u = (a : Tires r 1 s u) × IsFew 3 a.own
 
-  -- one event at most, which enters nothing and gives no node; the pass holds what it held
+  -- events that enter nothing and give no node; the pass holds what it held
   pub record Tries (r : Reading N) (s t : Seat N) : Type 0 where
     pub own : List (Event N)
     pub puts : Puts s own t

@@ -20,4 +20,4 @@ pub use remove::{mark_node, take_out};
 pub use search::search_chain;
 pub use set_rank::SetRank;
 pub use turn::InsertTurn;
-pub use walk::{Searched, Stepped, Walk};
+pub use walk::Searched;

@@ -1,5 +1,5 @@
--- The Moves of a call are allowed where they stand.
-use Rattle.std.proofs.Common.{List, None, Option, Some, [], ap, false, refl, subst, sym, true, ℕ, ◌∙◌, ◌∷◌, ◌≡◌, ◌≢◌}
+-- A new node may be linked where it belongs.
+use Rattle.std.proofs.Common.{List, None, Option, Some, [], ap, false, refl, subst, sym, ℕ, ◌∙◌, ◌∷◌, ◌≡◌, ◌≢◌}
 use Rattle.std.specs.List.{slice_get}
 use Rattle.orc_heap.proofs.Hands.{holds_of}
 use Rattle.orc_heap.specs.Allowed.{AllAllowed, AllowedLater}
@@ -13,19 +13,15 @@ use Rattle.orc_heap.specs.declared.events.Act.TheVariants.{Aim, Move}
 use Rattle.orc_heap.specs.declared.events.Event.{Event}
 use Rattle.orc_heap.specs.declared.events.Link.{Link}
 use Rattle.orc_heap.specs.declared.events.Place.{Place}
-use Rattle.orc_heap.specs.declared.events.Place.TheVariants.{Next}
-use Rattle.orc_history.specs.declared.set.SetEntry.TheVariants.{Removed}
-use Rattle.orc_ordered_chains.specs.Chains.{FollowsOn, IsAbove, IsChainPlace, IsRun, link_over}
+use Rattle.orc_ordered_chains.specs.Chains.{FollowsOn, IsAbove, IsRun}
 use Rattle.orc_ordered_search.specs.Inserts.{HoldsNode}
-use Rattle.orc_ordered_search.specs.Searches.{NextFollows}
 use Rattle.orc_ordered_search.proofs.Linking.{aimed}
 use Rattle.orc_ordered_search.proofs.Quiets.{above_puts, below_puts, run_puts}
-use Rattle.orc_split_rule.proofs.Coming.{added_allowed, bucket_allowed, removed_allowed, unlink_allowed}
-use Rattle.orc_split_rule.specs.SplitDiscipline.{HasKey, SplitHolds, SplitMay, entries_in}
+use Rattle.orc_split_rule.proofs.Coming.{added_allowed, bucket_allowed}
+use Rattle.orc_split_rule.specs.SplitDiscipline.{SplitHolds, SplitMay, entries_in}
 use Rattle.orc_split_rule.specs.SplitOrder.{split_order}
 use Rattle.orc_split_rule.specs.Watches.{LeavesOut, node_to_link}
 use Rattle.orc_split_rule.specs.declared.split.SplitNote.{SplitNote}
-use Rattle.orc_split_rule.specs.declared.split.SplitNote.TheVariants.{Entry, Unlink}
 use Rattle.orc_split_set.specs.NewNodes.{IsPossible, entries_for, kind_of, note_for, place_for, value_of}
 use Rattle.orc_split_set.specs.SplitSearches.{split_reading}
 use Rattle.orc_split_set.specs.declared.node.NewNode.{NewNode}

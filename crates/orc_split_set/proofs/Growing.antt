@@ -390,9 +390,3 @@ turn_worn (TurnSpent other) why e = ap (λ (x : SpentRow). TurnSpent x) (spent_s
 pub grows_none : (n : HeapNumbers) (turn : InsertTurn) (s : Seat SplitNote) → (IsCrowded turn → ⊥) → s.fresh ≡ None → GrowsAfter n turn s Done s
 grows_none n turn s not fresh =
     record { doubles = record { own = []; call = nothing n s fresh; tells = λ crowded. absurd (not crowded) }; none = λ is. refl }
-
--- or one did
-pub grows_one : (n : HeapNumbers) (turn : InsertTurn) (s t : Seat SplitNote) (result : Rooted) → IsCrowded turn → Doubles n (Unit {0}) s result t
-    → GrowsAfter n turn s result t
-grows_one n turn s t result crowded k =
-    record { doubles = record { own = k.own; call = k.call; tells = λ is. k.tells tt }; none = λ not. absurd (not crowded) }

@@ -1,12 +1,12 @@
 -- How few loads a pass makes that saw only its own events.
 use mathlib.Core.List.{IsPrefix}
-use Rattle.std.proofs.Common.{Bool, List, None, Option, Some, [], false, true, append-nil, append_assoc, ap, arith, inl, inr, length, length-append, subst, suc, sym, zero, refl, ℕ, ◌%◌, ◌*◌, ◌+◌, ◌-◌, ◌++◌, ◌/◌, ◌<◌, ◌^◌, ◌∙◌, ◌∷◌, ◌≡◌, ◌≤◌}
+use Rattle.std.proofs.Common.{List, None, Option, Some, [], append-nil, append_assoc, ap, arith, inl, inr, length, length-append, subst, suc, sym, zero, refl, ℕ, ◌%◌, ◌*◌, ◌+◌, ◌-◌, ◌++◌, ◌/◌, ◌<◌, ◌^◌, ◌∙◌, ◌∷◌, ◌≡◌, ◌≤◌}
 use Rattle.std.proofs.Math.Nat.{mod-eq_of_lt}
 use Rattle.std.proofs.Math.Pow.{mod-mod-pow}
 use Rattle.std.proofs.lemmas.List.{append_cancel_left}
 use Rattle.orc_heap.proofs.Moments.{look_found}
 use Rattle.orc_heap.specs.Allowed.{AllAllowed}
-use Rattle.orc_heap.specs.Calls.{Looks, Tests, event_of}
+use Rattle.orc_heap.specs.Calls.{Looks, event_of}
 use Rattle.orc_heap.specs.Heap.{Heap, HeapNumbers}
 use Rattle.orc_heap.specs.Journals.{run_heap}
 use Rattle.orc_heap.specs.OwnEvents.{Puts}
@@ -17,9 +17,6 @@ use Rattle.orc_heap.specs.declared.events.Event.{Event}
 use Rattle.orc_heap.specs.declared.events.Link.{Link}
 use Rattle.orc_heap.specs.declared.events.Place.{Place}
 use Rattle.orc_heap.specs.declared.events.Place.TheVariants.{Next, Root}
-use Rattle.orc_heap.specs.declared.holds.At.{At}
-use Rattle.orc_heap.specs.declared.holds.Want.{Want}
-use Rattle.orc_heap.proofs.Pieces.{puts_released}
 use Rattle.orc_heap.proofs.SingleActs.{some_same}
 use Rattle.orc_ordered_chains.proofs.Acts.{rank_one}
 use Rattle.orc_ordered_chains.proofs.Paths.{leads_one}

@@ -7,8 +7,6 @@ use Rattle.orc_heap.specs.Seats.{Seat, heap_of}
 use Rattle.orc_heap.specs.Slots.{Hold}
 use Rattle.orc_heap.specs.declared.events.Event.{Event}
 use Rattle.orc_heap.specs.declared.events.Place.{Place}
-use Rattle.orc_history.specs.declared.set.SetEntry.{SetEntry}
-use Rattle.orc_history.specs.declared.set.SetEntry.TheVariants.{Added, Asked, Removed}
 use Rattle.orc_ordered_search.specs.Reading.{Manner, Reading, reading_by}
 use Rattle.orc_ordered_search.specs.Searches.{Begins, FindsMoved, Quiet}
 use Rattle.orc_ordered_search.specs.Turns.{Tires}

@@ -1,6 +1,6 @@
 //! Answers whether a key is present.
 
-ghost use Rattle.std.specs.Prelude.{◌≡◌, ◌<◌, ◌≤◌, ◌≢◌, ◌+◌, ◌*◌, ◌-◌, ℕ, Ok, Err, List, Option};
+ghost use Rattle.std.specs.Prelude.{◌≡◌, ◌<◌, ◌≤◌, ◌+◌, ◌*◌, ◌-◌, ℕ, Ok, Err, List, Option};
 ghost use mathlib.Core.List.{IsPrefix};
 ghost use Rattle.orc_heap.specs.Seats.{Seat, heap_of};
 ghost use Rattle.orc_heap.specs.declared.events.Place.{Place};

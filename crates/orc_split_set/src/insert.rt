@@ -4,7 +4,7 @@ ghost use Rattle.std.specs.Prelude.{Bool, ◌≡◌, ◌≢◌, ◌<◌, ◌≤�
 ghost use mathlib.Core.List.{IsPrefix};
 ghost use Rattle.orc_fault.specs.declared.Spent.{Spent};
 ghost use Rattle.orc_heap.specs.Seats.{HoldsTarget, IsIdle, Seat, heap_of, target_in};
-ghost use Rattle.orc_heap.specs.Slots.{Hold, Slots};
+ghost use Rattle.orc_heap.specs.Slots.{Slots};
 ghost use Rattle.orc_heap.specs.declared.events.Place.{Place};
 ghost use Rattle.orc_history.specs.Journals.{Within};
 ghost use Rattle.orc_history.specs.declared.set.SetEntry.{SetEntry};

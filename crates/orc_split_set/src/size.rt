@@ -1,6 +1,6 @@
 //! How many buckets there are.
 
-ghost use Rattle.std.specs.Prelude.{◌≡◌, ◌≤◌, ◌<◌, ◌^◌};
+ghost use Rattle.std.specs.Prelude.{◌≡◌, ◌≤◌};
 ghost use mathlib.Core.List.{IsPrefix};
 ghost use Rattle.orc_ordered_search.specs.Searches.{HasRoom};
 ghost use Rattle.orc_split_rule.specs.SplitDiscipline.{greatest};

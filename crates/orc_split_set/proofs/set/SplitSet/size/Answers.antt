@@ -1,5 +1,5 @@
 -- What the call did, and the settling after it.
-use Rattle.std.proofs.Common.{Bool, arith, subst, sym, ℕ}
+use Rattle.std.proofs.Common.{Bool, arith}
 use Rattle.orc_heap.proofs.Pieces.{goes_on}
 use Rattle.orc_heap.proofs.InJournal.{settling_alone}
 use Rattle.orc_history.specs.declared.set.SetEntry.{SetEntry}

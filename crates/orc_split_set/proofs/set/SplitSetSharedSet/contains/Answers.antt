@@ -1,5 +1,5 @@
 -- What the call did, and the settling after it.
-use Rattle.std.proofs.Common.{Bool, Ok, Result, arith, subst, sym, ℕ, ◌∙◌, ◌≡◌, ◌≢◌}
+use Rattle.std.proofs.Common.{Bool, Ok, Result, arith, subst, ℕ, ◌∙◌, ◌≡◌, ◌≢◌}
 use Rattle.std.specs.Prelude.{IsErr}
 use Rattle.orc_fault.specs.declared.Again.{Again as AgainFault}
 use Rattle.orc_heap.proofs.Pieces.{goes_on}
