@@ -1,25 +1,27 @@
 -- From what a call did to its clauses on journals.
-use Rattle.std.proofs.Common.{Bool, Err, List, Ok, Result, [], ap, append-nil, append_assoc, arith, cond, drop, false, length, refl, subst, sym, take, true, ℕ, ◌*◌, ◌++◌, ◌+◌, ◌<◌, ◌==◌, ◌∙◌, ◌∷◌, ◌≡◌, ◌≤◌}
+use Rattle.std.proofs.Common.{Bool, Err, List, Ok, Result, [], ap, append_assoc, arith, cond, drop, false, length, refl, subst, sym, take, true, ℕ, ◌*◌, ◌++◌, ◌+◌, ◌==◌, ◌∙◌, ◌∷◌, ◌≡◌, ◌≤◌}
 use Rattle.std.proofs.lemmas.List.Elements.{filter-append}
 use Rattle.std.proofs.Math.Seq.{drop-append_seam, take-length}
 use Rattle.std.specs.List.{list_all}
-use Rattle.std.specs.Prelude.{IfErr, IfOk}
+use Rattle.std.specs.Prelude.{IsErr}
 use mathlib.Core.List.{IsPrefix}
-use Rattle.orc_heap.proofs.InJournal.{CallSeen, adds_entries, own_after, seen_new, seen_part}
+use Rattle.orc_heap.proofs.InJournal.{CallSeen, seen_part}
 use Rattle.orc_heap.proofs.OwnEntries.{noted-append, own_of_events}
-use Rattle.orc_heap.proofs.OwnParts.{from_own-others, moves_from_own, own_from, quiet_not_alone}
+use Rattle.orc_heap.proofs.OwnParts.{from_own-others, moves_from_own}
 use Rattle.orc_heap.proofs.Stays.{allowed-left, allowed-right}
-use Rattle.orc_heap.proofs.Steps.{PartEvents, part_bounds}
+use Rattle.orc_heap.proofs.Steps.{PartEvents}
 use Rattle.orc_heap.specs.Allowed.{AllAllowed, events_by}
 use Rattle.orc_heap.specs.Heap.{HeapNumbers}
 use Rattle.orc_heap.specs.Journals.{run_heap}
-use Rattle.orc_heap.specs.Moves.{AllOwn, from_own, gives_in, moves_in}
+use Rattle.orc_heap.specs.Moves.{from_own, gives_in, moves_in}
 use Rattle.orc_heap.specs.OwnEvents.{IsBelow, Puts}
 use Rattle.orc_heap.specs.Seats.{Seat}
 use Rattle.orc_heap.specs.declared.events.Event.{Event}
-use Rattle.orc_history.specs.Journals.{Adds, own_of}
-use Rattle.orc_history.specs.Parts.{InPart, IsAlone, part_begin}
+use Rattle.orc_history.specs.Journals.{own_of}
+use Rattle.orc_history.specs.Parts.{InPart, part_begin}
 use Rattle.orc_history.specs.SetHistory.{agent_of_set_entry}
+use Rattle.orc_history.specs.declared.set.ListRefused.{ListRefused}
+use Rattle.orc_history.specs.declared.set.ListRefused.TheVariants.{Again}
 use Rattle.orc_history.specs.declared.set.SetEntry.{SetEntry}
 use Rattle.orc_chain_rule.proofs.Later.{holds_later, nothing_yet}
 use Rattle.orc_chain_rule.proofs.OwnEntries.{entries_own}
@@ -28,31 +30,13 @@ use Rattle.orc_chain_rule.specs.ChainDiscipline.{ChainMay, entries_in, entries_o
 use Rattle.orc_chain_rule.specs.Counts.{AreLeftOver, adds_in, entries_of_others, removes_in}
 use Rattle.orc_chain_rule.specs.declared.chain.ChainNote.{ChainNote}
 use Rattle.orc_list.specs.Causes.{CostTurns, UsesTurns}
-use Rattle.orc_list.specs.Turns.{AreFew}
-use Rattle.orc_ordered_search.proofs.Parts.{others_append, others_split}
-use Rattle.orc_list.proofs.Settling.{Did}
-
--- the own events of a call
-pub own_drop : (s u : Seat ChainNote) (own : List (Event ChainNote)) → Puts s own u
-    → drop (length (events_by s.agent s.seen)) (events_by u.agent u.seen) ≡ own
-own_drop s u own p = ap (λ z. drop (length (events_by s.agent s.seen)) z) (own_after s u own p) ∙ drop-append_seam (events_by s.agent s.seen) own
-
-module _ {E IsAgain : Type 0} (most turns : ℕ) (entry : Bool → SetEntry) (s u : Seat ChainNote) (r : Result Bool E)
-    (d : Did {E = E} IsAgain most turns entry s r u) where
-  own_events : events_by u.agent u.seen ≡ events_by s.agent s.seen ++ d.own
-  own_events = own_after s u d.own d.made.puts
-
-  pub own_call : drop (length (events_by s.agent s.seen)) (events_by u.agent u.seen) ≡ d.own
-  own_call = own_drop s u d.own d.made.puts
-
-  pub did_give : gives_in (drop (length (events_by s.agent s.seen)) (events_by u.agent u.seen)) ≤ most
-  did_give = rw own_call (omega (arith, d.made.gives, d.at_most))
-
-  pub did_few : AreFew turns (3 * most) (drop (length (events_by s.agent s.seen)) (events_by u.agent u.seen))
-  did_few = subst (λ z. AreFew turns (3 * most) z) (sym own_call) (λ ids covers. omega (arith, d.made.few ids covers, d.at_most))
-
-  pub did_nothing : turns ≡ 0 → events_by u.agent u.seen ≡ events_by s.agent s.seen
-  did_nothing zero = own_events ∙ (ap (λ z. events_by s.agent s.seen ++ z) (d.no_turns zero).1 ∙ append-nil (events_by s.agent s.seen))
+use Rattle.orc_list.specs.Searches.{list_reading}
+use Rattle.orc_list.specs.Turns.{AreFew, MadeFew}
+use Rattle.orc_ordered_search.specs.Turns.{made_from}
+use Rattle.orc_ordered_search.proofs.Parts.{others_split}
+use Rattle.orc_ordered_search.proofs.Settling.{Did, entries_by}
+use Rattle.orc_ordered_search.proofs.Causes.{turns_used as uses_turns}
+use Rattle.orc_list.proofs.Ordered.{list_ordering}
 
 -- where none is the agent's own, all are others'
 all_others : (agent : ℕ) (es : List SetEntry) → own_of agent_of_set_entry agent es ≡ [] → entries_of_others agent es ≡ es
@@ -73,29 +57,6 @@ module _ {S : Type 0} (n : HeapNumbers) (agents : ℕ) (agent_of : S → ℕ) (e
   where
     abbrev seen : CallSeen ChainMay n agents agent_of events s u j m
     seen = record { adds = adds; grows = grows; is_s = is_s; is_t = is_u; all = all; below = below }
-
-    -- the entries
-    pub call_adds : (own : List (Event ChainNote)) (es : List SetEntry) → Puts s own u → entries_of own ≡ es
-        → Adds agent_of_set_entry (λ (a : ℕ). a < agents) s.agent (entries_of (events j)) es (entries_of (events m))
-    call_adds own es p entries_are = adds_entries seen entries_in agent_of_set_entry (entries_own n) own es p entries_are
-
-    module _ {E IsAgain : Type 0} (most turns : ℕ) (entry : Bool → SetEntry) where
-      pub did_enter : (r : Result Bool E) → Did {E = E} IsAgain most turns entry s r u
-          → IfOk r (λ answer. Adds agent_of_set_entry (λ (a : ℕ). a < agents) s.agent (entries_of (events j)) (entry answer ∷ []) (entries_of (events m)))
-      did_enter (Ok answer) d = call_adds d.own (entry answer ∷ []) d.made.puts (d.made.entries_are ∙ d.entries_are)
-      did_enter (Err e) d = tt
-
-      pub did_not_enter : (r : Result Bool E) → Did {E = E} IsAgain most turns entry s r u
-          → IfErr r (λ e. Adds agent_of_set_entry (λ (a : ℕ). a < agents) s.agent (entries_of (events j)) [] (entries_of (events m)))
-      did_not_enter (Ok answer) d = tt
-      did_not_enter (Err e) d = call_adds d.own [] d.made.puts (d.made.entries_are ∙ d.entries_are)
-
-    -- where the call was alone, so was its part of the events
-    pub part_alone : (own : List (Event ChainNote)) (p : Puts s own u) → IsAlone agent_of s.agent j m → AllOwn s.agent (from_own s.agent p.part)
-    part_alone own p alone =
-        let e = seen_part seen own p in
-        let same : from_own s.agent p.part ≡ from_own s.agent e.part = ap (λ z. from_own s.agent z) e.is ∙ from_own-others s.agent e.gap e.part e.others in
-        subst (λ z. AllOwn s.agent z) (sym same) (own_from s.agent e.part (e.alone alone))
 
     -- what others entered in its part, and what was left over when that began, cost the turns of a call that entered nothing
     part_cost : (turns : ℕ) (own : List (Event ChainNote)) (p : Puts s own u) → entries_of own ≡ [] → (e : PartEvents agent_of events adds s.agent j m p.part)
@@ -121,30 +82,38 @@ module _ {S : Type 0} (n : HeapNumbers) (agents : ℕ) (agent_of : S → ℕ) (e
         let holds = holds_later n [] seen (nothing_yet n) (allowed-left (ChainMay n) [] seen e.part may) in
         subst (λ z. turns ≤ adds_in z + 2 * removes_in z + length ids) (sym entered) (turns_bounded n seen e.part ids turns holds part_may left_over enough)
 
-    -- all turns were used
-    pub turns_used : {E IsAgain : Type 0} (most turns : ℕ) (entry : Bool → SetEntry) (r : Result Bool E) → Did {E = E} IsAgain most turns entry s r u
-        → IsAgain
+    -- all turns were used, and that cost others' work
+    pub turns_used : {E IsAgain : Type 0} (most turns : ℕ) (entry : Bool → SetEntry) (r : Result Bool E)
+        → Did {E = E} (list_reading n) IsAgain most turns entry s r u → (IsAgain → entries_by entry r ≡ []) → IsAgain
         → InPart agent_of s.agent j m (λ from to. UsesTurns n agent_of events s.agent turns m from to)
-    turns_used most turns entry r d again =
+    turns_used most turns entry r d none again =
         let p = d.made.puts in
-        let (no_entry, none, moved) = d.over again in
-        let new = seen_new seen d.own p in
+        let used = uses_turns (list_ordering n) agents agent_of events adds s u j m grows is_s is_u all below most turns entry r d again in
         let e = seen_part seen d.own p in
-        let bounds = part_bounds agent_of s.agent j m grows in
-        let whole : events (take (length m) m) ≡ (events j ++ e.gap) ++ e.part = ap events (take-length m) ∙
-        (new ∙ (ap (λ z. events j ++ z) e.is ∙ sym (append_assoc (events j) e.gap e.part))) in
         let same : from_own s.agent p.part ≡ from_own s.agent e.part = ap (λ z. from_own s.agent z) e.is ∙ from_own-others s.agent e.gap e.part e.others in
-        let own : events_by s.agent e.part ≡ d.own = ap (λ z. z ++ events_by s.agent e.part) (sym e.others) ∙
-        (sym (filter-append (λ x. x.agent == s.agent) e.gap e.part) ∙ (ap (λ z. events_by s.agent z) (sym e.is) ∙ p.own_is)) in
-        let quiet : moves_in (events_by s.agent e.part) ≡ 0 = ap (λ (z : List (Event ChainNote)). moves_in z) own ∙ none in
-        let enough : turns ≤ moves_in e.part = omega (arith, moved, ap (λ (z : List (Event ChainNote)). moves_in z) same, moves_from_own s.agent e.part) in
+        let enough : turns ≤ moves_in e.part = omega (
+          arith,
+          d.over again,
+          others_split s.agent (from_own s.agent p.part),
+          ap (λ (z : List (Event ChainNote)). moves_in z) same,
+          moves_from_own s.agent e.part,
+        ) in
         record {
-          in_order = bounds.1;
-          in_journal = omega arith;
-          moves = rw (e.begin_events, whole) (omega (arith, enough, quiet, others_split s.agent e.part, others_append s.agent (events j ++ e.gap) e.part));
-          not_alone = λ some alone.
-              let single : IsAlone agent_of s.agent j m = subst (λ z. list_all (λ (x : S). agent_of x == s.agent)
-              (drop (part_begin agent_of s.agent j m) z) ≡ true) (take-length m) alone in
-              quiet_not_alone s.agent p.part d.own p.own_is none (omega (arith, some, moved)) (part_alone d.own p single);
-          cost = part_cost turns d.own p (d.made.entries_are ∙ no_entry) e enough;
+          in_order = used.in_order;
+          in_journal = used.in_journal;
+          moves = used.moves;
+          not_alone = used.not_alone;
+          cost = part_cost turns d.own p (d.made.entries_are ∙ (d.entries_are ∙ none again)) e enough;
         }
+
+-- what answered with a refusal entered nothing
+pub none_of_err : {E : Type 0} (entry : Bool → SetEntry) (r : Result Bool E) → IsErr r → entries_by entry r ≡ []
+none_of_err entry (Ok answer) e = cc
+none_of_err entry (Err e) is = refl
+
+pub none_of_again : (entry : Bool → SetEntry) (r : Result Bool ListRefused) → r ≡ Err Again → entries_by entry r ≡ []
+none_of_again entry r is = ap (λ (x : Result Bool ListRefused). entries_by entry x) is
+
+-- how few events a call made
+pub did_few : (turns most : ℕ) (s u : Seat ChainNote) → MadeFew turns s u → gives_in (made_from s u) ≤ most → AreFew turns (3 * most) (made_from s u)
+did_few turns most s u few low = λ ids covers. omega (arith, few ids covers, low)

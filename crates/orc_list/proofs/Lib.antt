@@ -1,13 +1,10 @@
 pub mod Ordered
 pub mod Starting
 pub mod Making
-pub mod Answering
 pub mod Tiring
 pub mod Removing
 pub mod Passing
-pub mod Linking
 pub mod Adding
 pub mod Inserting
-pub mod Settling
 pub mod Causes
 pub mod Licences

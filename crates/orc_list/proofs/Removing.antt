@@ -2,7 +2,7 @@
 use Rattle.std.proofs.lemmas.List.{length-append}
 use Rattle.std.proofs.lemmas.List.Elements.{filter-append}
 use Rattle.std.specs.Prelude.{filter}
-use Rattle.std.proofs.Common.{Bool, List, None, Option, Some, [], ap, append_assoc, arith, false, inl, inr, refl, subst, sym, true, ℕ, ◌%◌, ◌++◌, ◌∙◌, ◌∷◌, ◌≡◌, ◌≢◌, ◌≤◌, length}
+use Rattle.std.proofs.Common.{Bool, List, None, Option, Some, [], ap, append_assoc, arith, false, inl, inr, refl, subst, sym, true, ℕ, ◌%◌, ◌++◌, ◌∙◌, ◌∷◌, ◌≡◌, ◌≢◌, ◌≤◌, length, ◌⊎◌}
 use Rattle.std.specs.List.{Contains}
 use Rattle.orc_heap.proofs.Calls.{Puts-trans, part_allowed}
 use Rattle.orc_heap.proofs.Moved.{moves_in-append}
@@ -14,7 +14,7 @@ use Rattle.orc_heap.specs.Allowed.{AllAllowed, HasLink, events_by}
 use Rattle.orc_heap.specs.Calls.{event_of, links_made}
 use Rattle.orc_heap.specs.Heap.{Heap, HeapNumbers, link_to, shown}
 use Rattle.orc_heap.specs.Journals.{points_to, run_heap}
-use Rattle.orc_heap.specs.Moves.{AllOwn, from_own, gives_in, moves_in}
+use Rattle.orc_heap.specs.Moves.{AllOwn, from_own, moves_in}
 use Rattle.orc_heap.specs.OwnEvents.{Puts}
 use Rattle.orc_heap.specs.Seats.{Seat, heap_of}
 use Rattle.orc_heap.specs.Slots.{Hold}
@@ -22,41 +22,39 @@ use Rattle.orc_heap.specs.declared.events.Act.TheVariants.{Miss, Move}
 use Rattle.orc_heap.specs.declared.events.Event.{Event}
 use Rattle.orc_heap.specs.declared.events.Link.{Link}
 use Rattle.orc_heap.specs.declared.events.Place.{Place}
-use Rattle.orc_heap.specs.declared.events.Place.TheVariants.{Next, Root}
+use Rattle.orc_heap.specs.declared.events.Place.TheVariants.{Next}
 use Rattle.orc_history.specs.declared.set.SetEntry.TheVariants.{Removed}
 use Rattle.orc_chain_rule.proofs.Later.{run_later}
 use Rattle.orc_chain_rule.proofs.Leaving.{unlinked_off}
 use Rattle.orc_chain_rule.specs.declared.chain.ChainNote.{ChainNote}
 use Rattle.orc_chain_rule.specs.declared.chain.ChainNote.TheVariants.{Entry, Unlink}
 use Rattle.orc_ordered_chains.specs.Chains.{IsRun, link_over}
-use Rattle.orc_chain_rule.specs.ChainDiscipline.{ChainHolds, ChainMay, FollowsOn, HasKey, IsOnNoChain, entries_of}
+use Rattle.orc_chain_rule.specs.ChainDiscipline.{ChainHolds, ChainMay, FollowsOn, HasKey, IsOnNoChain}
 use Rattle.orc_chain_rule.specs.Laws.Kept.{chain_keeps}
 use Rattle.orc_ordered_chains.proofs.Acts.{move_moves}
 use Rattle.orc_chain_rule.specs.Laws.Kinds.{key_linked, key_one}
-use Rattle.orc_ordered_search.specs.Searches.{AllGone, Quiet, left_place, node_of, run_head}
+use Rattle.orc_ordered_search.specs.Searches.{AllGone, FindsPresent, Quiet, left_place, node_of, run_head}
 use Rattle.orc_list.specs.Inserts.{SeesAbsent}
-use Rattle.orc_list.specs.Searches.{FindsPresent, list_reading}
-use Rattle.orc_ordered_search.specs.Ways.{IsFew}
+use Rattle.orc_list.specs.Searches.{list_reading}
 use Rattle.orc_list.specs.Stops.{MarkStops}
-use Rattle.orc_list.specs.Turns.{LeavesOff, Made, StopsBefore, TakesOut}
-use Rattle.orc_ordered_search.specs.Turns.{HasManyLinks, Marks, TakesNode}
+use Rattle.orc_list.specs.Turns.{LeavesOff, StopsBefore, TakesOff}
+use Rattle.orc_ordered_search.specs.Turns.{HasManyLinks, Marks, TakesNode, made_from}
 use Rattle.orc_ordered_search.proofs.Removing.{marked_at, marked_link, run_from}
-use Rattle.orc_list.proofs.Making.{made_after, made_on}
-use Rattle.orc_ordered_search.proofs.Making.{missed}
-use Rattle.orc_ordered_search.proofs.Seen.{present_few, sees_left, sees_run_left}
+use Rattle.orc_ordered_search.proofs.Making.{made_after, made_on, missed}
+use Rattle.orc_ordered_search.proofs.Seen.{sees_left, sees_run_left}
+use Rattle.orc_ordered_search.proofs.Since.{made_is}
 use Rattle.orc_ordered_search.proofs.Stepping.{run_snoc}
 use Rattle.orc_list.proofs.Ordered.{list_ordering}
 use Rattle.orc_list.proofs.Tiring.{takes_right}
 
 -- where the pass was alone, its own events are all that is new
-pub alone_exact : (s t y : Seat ChainNote) (own ys : List (Event ChainNote)) (q : Puts s own t) (p : Puts t ys y) (w : Puts s (own ++ ys) y) → 1 ≤ length
-    own
+alone_exact : (s t y : Seat ChainNote) (own ys zs : List (Event ChainNote)) (q : Puts s own t) (p : Puts t ys y) (w : Puts s zs y) → 1 ≤ length own
     → AllOwn s.agent (from_own s.agent w.part)
     → (AllOwn s.agent (from_own s.agent q.part)) × (p.part ≡ ys)
-alone_exact s t y own ys q p w some alone =
+alone_exact s t y own ys zs q p w some alone =
     let begun = from_own-begun s.agent q.part p.part (rw q.own_is some) in
     let whole : AllOwn s.agent (from_own s.agent q.part ++ p.part) = subst (λ z. AllOwn s.agent z)
-    (ap (λ z. from_own s.agent z) (new_is s t y own ys (own ++ ys) q p w) ∙ begun) alone in
+    (ap (λ z. from_own s.agent z) (new_is s t y own ys zs q p w) ∙ begun) alone in
     let last : events_by s.agent p.part ≡ ys = subst (λ (a : ℕ). events_by a p.part ≡ ys) q.agent p.own_is in (
       own_left s.agent (from_own s.agent q.part) p.part whole,
       sym (own_is_all s.agent p.part (own_right s.agent (from_own s.agent q.part) p.part whole)) ∙
@@ -90,16 +88,16 @@ links_stay es fs id many =
     let points : Event ChainNote → Bool = λ e. points_to e.act id in
     omega (arith, many, ap length (filter-append points es fs), length-append (filter points es) (filter points fs))
 
-left_apart : (n : HeapNumbers) (t : Seat ChainNote) (root key id : ℕ) (left : Option Hold) (left_id : ℕ)
+left_apart : (n : HeapNumbers) (t : Seat ChainNote) (key id : ℕ) (left : Option Hold) (left_id : ℕ)
     → FollowsOn n.roots (heap_of n t) (left_place (key % n.roots) left left_id) key → HasKey (heap_of n t) id key → left_place (key % n.roots) left left_id
     ≢ Next id
-left_apart n t root key id None left_id f own = λ e. cc
-left_apart n t root key id (Some h) left_id (low, mine, less, same) own = λ e.
+left_apart n t key id None left_id f own = λ e. cc
+left_apart n t key id (Some h) left_id (low, mine, less, same) own = λ e.
     let is : left_id ≡ id = cc in
     omega (arith, key_one (heap_of n t) id low key (subst (λ (z : ℕ). HasKey (heap_of n t) z low) is mine) own, less)
 
-module _ {n : HeapNumbers} {root key : ℕ} {left first : Option Hold} {node : Hold} {next : Option Hold} {s t : Seat ChainNote}
-    (f : FindsPresent n root key left first node next s t) where
+module _ {n : HeapNumbers} {start : Place} {key passed : ℕ} {left first : Option Hold} {node : Hold} {next : Option Hold} {s t : Seat ChainNote}
+    (f : FindsPresent (list_reading n) start key passed left first node next s t) where
   abbrev to : Option ℕ
   to = node_of next f.next_id
 
@@ -109,9 +107,6 @@ module _ {n : HeapNumbers} {root key : ℕ} {left first : Option Hold} {node : H
   abbrev place : Place
   place = left_place (key % n.roots) left f.left_id
 
-  few : IsFew 2 f.own
-  few = present_few (list_reading n) (Root root) key 0 left first node next s t f
-
   abbrev head : ℕ
   head = run_head first f.first_id f.id
 
@@ -119,29 +114,19 @@ module _ {n : HeapNumbers} {root key : ℕ} {left first : Option Hold} {node : H
   over = f.behind.leads.over ++ f.id ∷ []
 
   from_head : f.behind.leads.from ≡ link_to (run_head first f.first_id f.id)
-  from_head = (run_from (list_ordering n) (Root root) key 0 left first node next s t f).from_is
+  from_head = (run_from (list_ordering n) start key passed left first node next s t f).from_is
 
   abbrev mark : Event ChainNote
   mark = event_of t (Move (Next f.id) (link_over (node_of next f.next_id)) (record { to = node_of next f.next_id; mark = true }))
       (Some (Entry (Removed t.agent key true)))
-
-  -- the turn's own events, from the mark on
-  took : (ys : List (Event ChainNote)) (v y : Seat ChainNote) → Puts t (mark ∷ ys) v → Puts v [] y → entries_of ys ≡ [] → gives_in ys ≡ 0 → length ys ≤ 1
-      → Made 0 1 s (f.own ++ mark ∷ ys) (Removed s.agent key true ∷ []) y
-  took ys v y p g none no_give short =
-      let q = f.behind.quiet in
-      let entries : entries_of (mark ∷ ys) ≡ Removed s.agent key true ∷ [] = ap (λ (a : ℕ). Removed a key true ∷ entries_of ys) q.puts.agent ∙ ap
-      (λ z. Removed s.agent key true ∷ z) none in
-      made_on 0 1 s v y (f.own ++ mark ∷ ys) (Removed s.agent key true ∷ []) (made_after n 0 s t v f.own (mark ∷ ys) (Removed s.agent key true ∷ []) q few
-      p entries (omega (arith, no_give)) (omega (arith, short))) g
 
   -- a remove that stops there
   pub mark_stops : (done : Bool) (u y : Seat ChainNote) → Marks (Entry (Removed t.agent key true)) f.id (node_of next f.next_id) t done u → AllGone s.slots u y
       → AllAllowed (ChainMay n) [] u.seen → MarkStops n key s done y
   mark_stops true u y m g all =
       let q = f.behind.quiet in
-      let made = made_on 0 1 s u y (f.own ++ mark ∷ []) (Removed s.agent key true ∷ []) (made_after n 0 s t u f.own (mark ∷ []) (Removed s.agent key true ∷ [])
-      q few m.puts (ap (λ (a : ℕ). Removed a key true ∷ []) q.puts.agent) refl (omega arith)) g.puts in
+      let made = made_on (list_reading n) 0 s u y (f.own ++ mark ∷ []) (Removed s.agent key true ∷ []) (made_after (list_reading n) 0 s t u f.own (mark ∷ [])
+      (Removed s.agent key true ∷ []) q m.puts (ap (λ (a : ℕ). Removed a key true ∷ []) q.puts.agent) refl) g.puts in
       record {
         own = f.own ++ mark ∷ [];
         puts = made.puts;
@@ -160,8 +145,8 @@ module _ {n : HeapNumbers} {root key : ℕ} {left first : Option Hold} {node : H
       let q = f.behind.quiet in
       let from : Link = link_over to in
       let miss : Event ChainNote = event_of t (Miss (Next f.id) (link_over to) m.puts.found) None in
-      let tried = made_after n 0 s t u f.own (miss ∷ []) [] q few m.puts.puts refl refl (omega arith) in
-      let made = made_on 0 1 s u y (f.own ++ miss ∷ []) [] tried g.puts in
+      let tried = made_after (list_reading n) 0 s t u f.own (miss ∷ []) [] q m.puts.puts refl refl in
+      let made = made_on (list_reading n) 0 s u y (f.own ++ miss ∷ []) [] tried g.puts in
       let moved = missed (list_ordering n) s t u f.own _ (Next f.id) from q.puts q.some f.still (key_linked (heap_of n t) f.id key f.is_of.has_key) m.puts all tried.puts in
       let still : moves_in (f.own ++ miss ∷ []) ≡ 0 = omega (arith, moves_in-append f.own (miss ∷ []), q.no_move) in
       record {
@@ -181,12 +166,12 @@ module _ {n : HeapNumbers} {root key : ℕ} {left first : Option Hold} {node : H
     all : AllAllowed (ChainMay n) t.seen (mark ∷ ys)
     shows : shown (run_heap n (t.seen ++ mark ∷ [])) place ≡ Some f.behind.leads.from
 
-  alone_at : (ys : List (Event ChainNote)) (y : Seat ChainNote) → Puts t (mark ∷ ys) y → (w : Puts s (f.own ++ mark ∷ ys) y)
+  alone_at : (ys zs : List (Event ChainNote)) (y : Seat ChainNote) → Puts t (mark ∷ ys) y → (w : Puts s zs y)
       → AllOwn s.agent (from_own s.agent w.part) → AllAllowed (ChainMay n) [] y.seen → Alone ys y
-  alone_at ys y p w alone all_y =
+  alone_at ys zs y p w alone all_y =
       let q = f.behind.quiet in
       let l = f.behind.leads in
-      let (first_alone, exact) = alone_exact s t y f.own (mark ∷ ys) q.puts p w q.some alone in
+      let (first_alone, exact) = alone_exact s t y f.own (mark ∷ ys) zs q.puts p w q.some alone in
       let all : AllAllowed (ChainMay n) t.seen (mark ∷ ys) = subst (λ z. AllAllowed (ChainMay n) t.seen z) exact
       (part_allowed (ChainMay n) t y (mark ∷ ys) p all_y) in
       record {
@@ -195,7 +180,7 @@ module _ {n : HeapNumbers} {root key : ℕ} {left first : Option Hold} {node : H
         shows = elim l.still [
           | inl shows ↦
               let m = move_moves t.agent (Next f.id) (link_over to) marked (heap_of n t) all.0.fits in
-              rw (run_heap-snoc n t.seen mark) (m.others place (left_apart n t root key f.id left f.left_id l.below f.is_of.has_key) ∙ shows)
+              rw (run_heap-snoc n t.seen mark) (m.others place (left_apart n t key f.id left f.left_id l.below f.is_of.has_key) ∙ shows)
           | inr moved ↦ absurd (quiet_not_alone s.agent q.puts.part f.own q.puts.own_is q.no_move moved first_alone)
         ];
       }
@@ -243,45 +228,32 @@ module _ {n : HeapNumbers} {root key : ℕ} {left first : Option Hold} {node : H
     many = subst (λ (z : List (Event ChainNote)). 32 ≤ links_made z many.0) (sym q.is) (links_stay v.seen q.part many.0 many.2);
   }
 
-  pub removes_done : (Worn : Type 0) (y : Seat ChainNote)
+  pub removes_off : (Worn : Type 0) (y : Seat ChainNote)
       → TakesNode (Entry (Removed t.agent key true)) Unlink (left_place (key % n.roots) left f.left_id) (run_head first f.first_id f.id) f.id
-      (node_of next f.next_id) Worn s.slots t y → ChainHolds n t.seen → AllAllowed (ChainMay n) [] y.seen → TakesOut n key Worn 1 s y
-  removes_done Worn y k holds all_y =
+      (node_of next f.next_id) Worn s.slots t y → ChainHolds n t.seen → AllAllowed (ChainMay n) [] y.seen → TakesOff n key Worn s y
+  removes_off Worn y k holds all_y = λ w alone.
+      let q = f.behind.quiet in
       let u = k.marked in
       let v = k.tried in
       let m = k.marks in
       let g = k.gone in
+      let off : List (Event ChainNote) → Type 0 = λ z. LeavesOff key z (heap_of n y) ⊎ (Worn × StopsBefore key z (heap_of n y) y.seen) in
       elim k.tries.either [
         | inl swung ↦ elim swung [
           | inl p ↦
               let e : Event ChainNote = event_of u (Move place (link_to head) (link_over to)) (Some Unlink) in
-              let whole = Puts-trans t u v (mark ∷ []) (e ∷ []) m.puts p in
-              let made = took (e ∷ []) v y whole g.puts refl refl (omega arith) in
-              record {
-                answers = record { own = f.own ++ mark ∷ e ∷ []; made = made; slots = g.slots_are; fresh = fresh };
-                off = λ alone. inl (leaves (e ∷ []) (heap_of n y) (off_chain u.agent y holds (alone_at (e ∷ []) y
-                    (puts_released t v y (mark ∷ e ∷ []) whole g.puts) made.puts alone all_y)));
-              }
+              let since = puts_released t v y (mark ∷ e ∷ []) (Puts-trans t u v (mark ∷ []) (e ∷ []) m.puts p) g.puts in
+              subst off (sym (made_is s y (f.own ++ mark ∷ e ∷ []) (Puts-trans s t y f.own (mark ∷ e ∷ []) q.puts since)))
+              (inl (leaves (e ∷ []) (heap_of n y) (off_chain u.agent y holds (alone_at (e ∷ []) (made_from s y) y since w alone all_y))))
           | inr miss ↦
               let e : Event ChainNote = event_of u (Miss place (link_to head) miss.found) None in
-              let whole = Puts-trans t u v (mark ∷ []) (e ∷ []) m.puts miss.puts in
-              let made = took (e ∷ []) v y whole g.puts refl refl (omega arith) in
-              record {
-                answers = record { own = f.own ++ mark ∷ e ∷ []; made = made; slots = g.slots_are; fresh = fresh };
-                off = λ alone.
-                    let a = alone_at (e ∷ []) y (puts_released t v y (mark ∷ e ∷ []) whole g.puts) made.puts alone all_y in
-                    let found : miss.found ≡ f.behind.leads.from = some_same (sym a.all.1.0.fits.0 ∙ a.shows) in
-                    absurd (miss.other (found ∙ from_head));
-              }
+              let since = puts_released t v y (mark ∷ e ∷ []) (Puts-trans t u v (mark ∷ []) (e ∷ []) m.puts miss.puts) g.puts in
+              let a = alone_at (e ∷ []) (made_from s y) y since w alone all_y in
+              let found : miss.found ≡ f.behind.leads.from = some_same (sym a.all.1.0.fits.0 ∙ a.shows) in
+              absurd (miss.other (found ∙ from_head))
         ]
         | inr worn ↦
-            let whole = Puts-trans t u v (mark ∷ []) [] m.puts worn.2 in
-            let made = took [] v y whole g.puts refl refl (omega arith) in
-            record {
-              answers = record { own = f.own ++ mark ∷ []; made = made; slots = g.slots_are; fresh = fresh };
-              off = λ alone. inr (worn.0, stops v y (puts_released t v y (mark ∷ []) whole g.puts) g.puts worn.1 all_y);
-            }
+            let since = puts_released t v y (mark ∷ []) (puts_released t u v (mark ∷ []) m.puts worn.2) g.puts in
+            subst off (sym (made_is s y (f.own ++ mark ∷ []) (Puts-trans s t y f.own (mark ∷ []) q.puts since)))
+            (inr (worn.0, stops v y since g.puts worn.1 all_y))
       ]
-    where
-      fresh : y.fresh ≡ s.fresh
-      fresh = k.gone.fresh ∙ (k.tries.fresh ∙ (k.marks.fresh ∙ f.behind.quiet.fresh))

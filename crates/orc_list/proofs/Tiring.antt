@@ -1,48 +1,19 @@
--- One turn after another, for a call that keeps no node.
-use Rattle.std.proofs.Common.{Bool, List, Ok, Some, [], arith, false, inl, inr, refl, subst, true, ℕ, ◌++◌, ◌+◌, ◌∙◌, ◌∷◌, ◌≤◌, ◌⊎◌}
-use Rattle.orc_heap.proofs.Pieces.{own_part_right}
+-- What a later turn of a remove left is what all turns left.
+use Rattle.std.proofs.Common.{List, Some, [], ap, append-nil, inl, inr, length, subst, sym, ℕ, ◌++◌, ◌∙◌, ◌∷◌, ◌≡◌, ◌≤◌, ◌⊎◌}
+use Rattle.orc_heap.proofs.OwnParts.{from_own-begun, own_is_all, own_right}
+use Rattle.orc_heap.proofs.Pieces.{new_is, own_part_left, own_part_right}
+use Rattle.orc_heap.specs.Allowed.{events_by}
 use Rattle.orc_heap.specs.Heap.{Heap, HeapNumbers}
+use Rattle.orc_heap.specs.Journals.{run_heap}
+use Rattle.orc_heap.specs.Moves.{AllOwn, from_own}
+use Rattle.orc_heap.specs.OwnEvents.{Puts}
 use Rattle.orc_heap.specs.Seats.{Seat, heap_of}
-use Rattle.orc_history.specs.declared.set.SetEntry.{SetEntry}
-use Rattle.orc_history.specs.declared.set.SetEntry.TheVariants.{Asked, Removed}
-use Rattle.orc_chain_rule.specs.declared.chain.ChainNote.{ChainNote}
-use Rattle.orc_list.specs.Answers.{AsksTurns, RemovesTurns}
-use Rattle.orc_list.specs.Turns.{Answers, AsksTurn, LeavesOff, Made, RemovesTurn, StopsBefore, TakesKey, Tires}
-use Rattle.orc_list.proofs.Making.{made_most, made_next, over_next, over_none}
-use Rattle.orc_ordered_search.proofs.Seen.{loads-append, sees_right, sees_run_right}
 use Rattle.orc_heap.specs.declared.events.Event.{Event}
-
-pub tires_none : (s : Seat ChainNote) → Tires 0 s s
-tires_none s = record { own = []; over = over_none s; loads = tt; slots = refl; fresh = refl }
-
-pub tires_next : (turns : ℕ) (s t u : Seat ChainNote) → Tires turns s t → Tires 1 t u → Tires (turns + 1) s u
-tires_next turns s t u w f = record {
-  own = w.own ++ f.own;
-  over = over_next 0 0 turns s t u w.own f.own w.over f.over;
-  loads = loads-append w.own f.own
-      w.loads f.loads;
-  slots = f.slots ∙ w.slots;
-  fresh = f.fresh ∙ w.fresh;
-}
-
-pub tires_answer : (turns most : ℕ) (s t u : Seat ChainNote) (entry : SetEntry) → Tires turns s t → Answers 1 t entry u → turns + 1 ≤ most
-    → Answers most s entry u
-tires_answer turns most s t u entry w a low = record {
-  own = w.own ++ a.own;
-  made = made_most 0 (turns + 1) most s u (w.own ++ a.own) (entry ∷ []) (made_next 0 0 turns s t u w.own a.own (entry ∷ []) w.over a.made) low;
-  slots = a.slots ∙ w.slots;
-  fresh = a.fresh ∙ w.fresh;
-}
-
-pub asks_answer : (key turns most : ℕ) (s t u : Seat ChainNote) (answer : Bool) → Tires turns s t → AsksTurn key t (Some answer) u → turns + 1 ≤ most
-    → AsksTurns key most s (Ok answer) u
-asks_answer key turns most s t u answer w a low = (
-  (λ e. omega (arith, e, low)),
-  tires_answer turns most s t u (Asked s.agent key answer) w
-      (subst (λ (x : ℕ). Answers 1 t (Asked x key answer) u) w.over.made.puts.agent a) low,
-)
-
--- a turn of a remove, and what was worn in a longer stretch
+use Rattle.orc_chain_rule.specs.declared.chain.ChainNote.{ChainNote}
+use Rattle.orc_ordered_search.specs.Turns.{made_from}
+use Rattle.orc_list.specs.Turns.{LeavesOff, StopsBefore, TakesKey, TakesOff}
+use Rattle.orc_ordered_search.proofs.Seen.{sees_right, sees_run_right}
+use Rattle.orc_ordered_search.proofs.Since.{made_is, made_still, made_trans}
 
 pub either_wider : {A Worn More B : Type 0} → (Worn → More) → A ⊎ (Worn × B) → A ⊎ (More × B)
 either_wider wider (inl a) = inl a
@@ -75,25 +46,36 @@ off_right : (key : ℕ) (es fs : List (Event ChainNote)) (h : Heap) (seen : List
 off_right key es fs h seen Worn (inl l) = inl (leaves_right key es fs h l)
 off_right key es fs h seen Worn (inr w) = inr (w.0, stops_right key es fs h seen w.1)
 
-pub removes_answer : (n : HeapNumbers) (key turns most : ℕ) (Worn More : Type 0) (s t u : Seat ChainNote) (answer : Bool) → (Worn → More) → Tires turns s t
-    → RemovesTurn n key Worn 1 t (Some answer) u → turns + 1 ≤ most
-    → RemovesTurns n key More most s (Ok answer) u
-removes_answer n key turns most Worn More s t u false wider w a low = (
-  (λ e. omega (arith, e, low)),
-  tires_answer turns most s t u (Removed s.agent key false) w
-      (subst (λ (x : ℕ). Answers 1 t (Removed x key false) u) w.over.made.puts.agent a) low,
-)
-removes_answer n key turns most Worn More s t u true wider w a low =
-    let own = w.own ++ a.answers.own in
-    let agent = w.over.made.puts.agent in
-    let last : Made 0 1 t a.answers.own (Removed s.agent key true ∷ []) u = subst (λ (x : ℕ). Made 0 1 t a.answers.own (Removed x key true ∷ []) u) agent
-    a.answers.made in
-    let made = made_most 0 (turns + 1) most s u own (Removed s.agent key true ∷ []) (made_next 0 0 turns s t u w.own a.answers.own
-    (Removed s.agent key true ∷ []) w.over last) low in (
-      (λ e. omega (arith, e, low)),
-      record {
-        answers = record { own = own; made = made; slots = a.answers.slots ∙ w.slots; fresh = a.answers.fresh ∙ w.fresh };
-        off = λ alone. off_right key w.own a.answers.own (heap_of n u) u.seen More
-            (either_wider wider (a.off (own_part_right s t u w.own a.answers.own own w.over.made.puts a.answers.made.puts made.puts alone)));
-      },
-    )
+pub takes_next : (n : HeapNumbers) (key : ℕ) (Worn More : Type 0) (s t u : Seat ChainNote) (own ys : List (Event ChainNote)) → Puts s own t → Puts t ys u
+    → (Worn → More) → TakesOff n key Worn t u → TakesOff n key More s u
+takes_next n key Worn More s t u own ys p q wider off = λ w alone.
+    let es = made_from s t in
+    let fs = made_from t u in
+    let v : Puts t fs u = subst (λ z. Puts t z u) (sym (made_is t u ys q)) q in
+    let last = off v (own_part_right s t u own fs (made_from s u) p v w alone) in
+    subst (λ z. LeavesOff key z (heap_of n u) ⊎ (More × StopsBefore key z (heap_of n u) u.seen)) (sym (made_trans s t u own ys p q))
+    (off_right key es fs (heap_of n u) u.seen More (either_wider wider last))
+
+pub takes_wider : (n : HeapNumbers) (key : ℕ) (Worn More : Type 0) (s t : Seat ChainNote) → (Worn → More) → TakesOff n key Worn s t → TakesOff n key More s t
+takes_wider n key Worn More s t wider off = λ w alone. either_wider wider (off w alone)
+
+-- where the call was alone, nothing stands behind what it did
+nothing_new : (s t u : Seat ChainNote) (own zs : List (Event ChainNote)) → 1 ≤ length own → (p : Puts s own t) (q : Puts t [] u) (w : Puts s zs u)
+    → AllOwn s.agent (from_own s.agent w.part) → u.seen ≡ t.seen
+nothing_new s t u own zs some p q w alone =
+    let begun : 1 ≤ length (events_by s.agent p.part) = rw p.own_is some in
+    let split : from_own s.agent w.part ≡ from_own s.agent p.part ++ q.part = ap (λ z. from_own s.agent z) (new_is s t u own [] zs p q w)
+    ∙ from_own-begun s.agent p.part q.part begun in
+    let all : AllOwn s.agent q.part = own_right s.agent (from_own s.agent p.part) q.part (subst (λ z. AllOwn s.agent z) split alone) in
+    let none : q.part ≡ [] = sym (own_is_all s.agent q.part all) ∙ (ap (λ (x : ℕ). events_by x q.part) (sym p.agent) ∙ q.own_is) in
+    q.is ∙ (ap (λ z. t.seen ++ z) none ∙ append-nil t.seen)
+
+pub takes_settled : (n : HeapNumbers) (key : ℕ) (Worn : Type 0) (s t u : Seat ChainNote) (own : List (Event ChainNote)) → 1 ≤ length own → Puts s own t
+    → Puts t [] u → TakesOff n key Worn s t → TakesOff n key Worn s u
+takes_settled n key Worn s t u own some p q off = λ w alone.
+    let es = made_from s t in
+    let v : Puts s es t = subst (λ z. Puts s z t) (sym (made_is s t own p)) p in
+    let seen = nothing_new s t u own (made_from s u) some p q w alone in
+    let here = off v (own_part_left s t u es [] (made_from s u) v q w alone) in
+    subst (λ z. LeavesOff key z (heap_of n u) ⊎ (Worn × StopsBefore key z (heap_of n u) u.seen)) (sym (made_still s t u own p q))
+    (subst (λ z. LeavesOff key es (run_heap n z) ⊎ (Worn × StopsBefore key es (run_heap n z) z)) (sym seen) here)

@@ -1,6 +1,5 @@
 pub mod Searches
 pub mod Turns
-pub mod Answers
 pub mod Causes
 pub mod Inserts
 pub mod Stops

@@ -1,6 +1,6 @@
 -- What the turns of a call do. After Harris 2001.
 use Rattle.std.specs.List.{Contains}
-use Rattle.std.specs.Prelude.{Bool, List, None, Option, Some, [], false, length, true, ℕ, ◌*◌, ◌++◌, ◌+◌, ◌∷◌, ◌≡◌, ◌≤◌, ◌⊎◌}
+use Rattle.std.specs.Prelude.{List, Some, [], false, length, true, ℕ, ◌*◌, ◌++◌, ◌+◌, ◌∷◌, ◌≡◌, ◌≤◌, ◌⊎◌}
 use Rattle.orc_heap.specs.Allowed.{HasLink}
 use Rattle.orc_heap.specs.Calls.{links_made}
 use Rattle.orc_heap.specs.Heap.{Heap, HeapNumbers}
@@ -12,56 +12,22 @@ use Rattle.orc_heap.specs.declared.events.Event.{Event}
 use Rattle.orc_heap.specs.declared.events.Link.{Link}
 use Rattle.orc_heap.specs.declared.events.Place.{Place}
 use Rattle.orc_heap.specs.declared.events.Place.TheVariants.{Next}
-use Rattle.orc_history.specs.declared.set.SetEntry.{SetEntry}
-use Rattle.orc_history.specs.declared.set.SetEntry.TheVariants.{Asked, Removed}
+use Rattle.orc_history.specs.declared.set.SetEntry.TheVariants.{Removed}
 use Rattle.orc_chain_rule.specs.declared.chain.ChainNote.{ChainNote}
 use Rattle.orc_chain_rule.specs.declared.chain.ChainNote.TheVariants.{Entry}
-use Rattle.orc_chain_rule.specs.ChainDiscipline.{IsOnNoChain, entries_of}
-use Rattle.orc_ordered_search.specs.Ways.{AreLoads, CoversLooks, Sees}
+use Rattle.orc_chain_rule.specs.ChainDiscipline.{IsOnNoChain}
+use Rattle.orc_ordered_search.specs.Ways.{CoversLooks, Sees}
 use Rattle.orc_ordered_search.specs.Searches.{SeesRun}
+use Rattle.orc_ordered_search.specs.Turns.{made_from}
 
 -- of the events there are at most so many in each turn: two for each node at whose link one of them looked, and four; and so many
 -- more in all
 abbrev pub AreFew : ℕ → ℕ → List (Event ChainNote) → Type 0
 AreFew turns more es = (ids : List ℕ) → CoversLooks ids es → length es ≤ turns * (2 * length ids + 4) + more
 
--- what the pass did in so many turns: its own events enter these entries, give so many nodes, and are few
-pub record Made (given turns : ℕ) (s : Seat ChainNote) (own : List (Event ChainNote)) (entries : List SetEntry) (t : Seat ChainNote) : Type 0 where
-  pub puts : Puts s own t
-  pub entries_are : entries_of own ≡ entries
-  pub gives : gives_in own ≡ given
-  pub few : AreFew turns (3 * given) own
-
--- so many turns that are over: the pass moved nothing, and as many Moves of others stand after its first event
-pub record AreOver (given turns : ℕ) (s : Seat ChainNote) (own : List (Event ChainNote)) (t : Seat ChainNote) : Type 0 where
-  pub made : Made given turns s own [] t
-  pub no_move : moves_in own ≡ 0
-  pub moved : turns ≤ moves_in (from_own s.agent made.puts.part)
-
--- the same, by loads alone, and the pass holds what it held
-pub record Tires (turns : ℕ) (s t : Seat ChainNote) : Type 0 where
-  pub own : List (Event ChainNote)
-  pub over : AreOver 0 turns s own t
-  pub loads : AreLoads own
-  pub slots : t.slots ≡ s.slots
-  pub fresh : t.fresh ≡ s.fresh
-
--- turns of which the last answered with this entry, and the pass holds what it held
-pub record Answers (turns : ℕ) (s : Seat ChainNote) (entry : SetEntry) (t : Seat ChainNote) : Type 0 where
-  pub own : List (Event ChainNote)
-  pub made : Made 0 turns s own (entry ∷ []) t
-  pub slots : t.slots ≡ s.slots
-  pub fresh : t.fresh ≡ s.fresh
-
--- the entry was entered, or a link moved meanwhile
-abbrev pub Enters : SetEntry → Seat ChainNote → Bool → Seat ChainNote → Type 0
-Enters entry s true t = Answers 1 s entry t
-Enters entry s false t = Tires 1 s t
-
--- a turn of a question
-abbrev pub AsksTurn : ℕ → Seat ChainNote → Option Bool → Seat ChainNote → Type 0
-AsksTurn key s None t = Tires 1 s t
-AsksTurn key s (Some answer) t = Answers 1 s (Asked s.agent key answer) t
+-- such are the events that a pass made in so many turns from one seat to another, and three more for each node that was given
+abbrev pub MadeFew : ℕ → Seat ChainNote → Seat ChainNote → Type 0
+MadeFew turns s t = AreFew turns (3 * gives_in (made_from s t)) (made_from s t)
 
 -- one of these events takes the key out at this node: it marks the node's link
 abbrev pub TakesKey : List (Event ChainNote) → ℕ → ℕ → Type 0
@@ -90,18 +56,11 @@ pub record StopsBefore (key : ℕ) (es : List (Event ChainNote)) (h : Heap) (see
   pub leads : HasLink h id (record { to = Some next; mark = true })
   pub many : 32 ≤ links_made seen next
 
--- the key was taken out; and if no other agent stepped, then its node and the run before it are off the chain, unless something was
--- worn, and the node behind them has many links
-pub record TakesOut (n : HeapNumbers) (key : ℕ) (IsWorn : Type 0) (turns : ℕ) (s t : Seat ChainNote) : Type 0 where
-  pub answers : Answers turns s (Removed s.agent key true) t
-  pub off : AllOwn s.agent (from_own s.agent answers.made.puts.part)
-      → LeavesOff key answers.own (heap_of n t) ⊎ (IsWorn × StopsBefore key answers.own (heap_of n t) t.seen)
-
--- a turn of a remove
-abbrev pub RemovesTurn : HeapNumbers → ℕ → Type 0 → ℕ → Seat ChainNote → Option Bool → Seat ChainNote → Type 0
-RemovesTurn n key IsWorn turns s None t = Tires turns s t
-RemovesTurn n key IsWorn turns s (Some false) t = Answers turns s (Removed s.agent key false) t
-RemovesTurn n key IsWorn turns s (Some true) t = TakesOut n key IsWorn turns s t
+-- what the pass made from one seat to another took the key out; if no other agent stepped, then its node and the run before it are off the
+-- chain, unless something was worn, and the node behind them has many links
+abbrev pub TakesOff : HeapNumbers → ℕ → Type 0 → Seat ChainNote → Seat ChainNote → Type 0
+TakesOff n key IsWorn s t = (w : Puts s (made_from s t) t) → AllOwn s.agent (from_own s.agent w.part)
+    → LeavesOff key (made_from s t) (heap_of n t) ⊎ (IsWorn × StopsBefore key (made_from s t) (heap_of n t) t.seen)
 
 -- among the events is one Move, which takes the key out at a node
 abbrev pub MarksAlone : ℕ → List (Event ChainNote) → Type 0

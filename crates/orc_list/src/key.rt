@@ -1,7 +1,7 @@
 //! Keys as ranks.
 
 ghost use Rattle.orc_chain_rule.specs.declared.chain.ChainNote.{ChainNote};
-ghost use Rattle.orc_list.specs.Laws.Entries.{list_allows_absence, list_allows_mark, list_allows_presence, list_allows_unlink, list_enters, list_enters_none};
+ghost use Rattle.orc_list.specs.Laws.Entries.{list_allows_absence, list_allows_add, list_allows_aim, list_allows_mark, list_allows_presence, list_allows_unlink, list_enters, list_enters_none};
 ghost use Rattle.orc_list.specs.Laws.Ordered.{list_ordered};
 ghost use Rattle.orc_list.specs.Searches.{list_manner};
 ghost use Rattle.std.specs.Prelude.{false};
@@ -49,6 +49,8 @@ impl SetRank for Key {
 
     ghost unlinking = { ChainNote.Unlink };
 
+    ghost key_kind = { 0 };
+
     #[inline(always)]
     fn note(entry: SetEntry) -> ChainNote {
         ChainNote::Entry(entry)
@@ -59,15 +61,24 @@ impl SetRank for Key {
         ChainNote::Unlink
     }
 
+    #[inline(always)]
+    fn kind_of_keys() -> u64 {
+        0
+    }
+
     ghost enters = { list_enters };
 
     ghost enters_none = { list_enters_none };
+
+    ghost allows_aim = { list_allows_aim };
 
     ghost allows_absence = { list_allows_absence };
 
     ghost allows_presence = { list_allows_presence };
 
     ghost allows_mark = { list_allows_mark };
+
+    ghost allows_add = { list_allows_add };
 
     ghost allows_unlink = { list_allows_unlink };
 }

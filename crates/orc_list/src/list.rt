@@ -9,13 +9,14 @@ ghost use Rattle.orc_history.specs.declared.set.SetEntry.{SetEntry};
 ghost use Rattle.orc_list.specs.ListCalls.{CostsOthers, Enters, EntersNone, FindsAbsent, FindsWorn, GivesAtMost, IsRootOf, LacksRow};
 ghost use Rattle.orc_list.specs.ListCalls.{LeavesMarked, LeavesOffChain, LeavesRunOffChain, LooksAlone, MakesFew, StopsBeforeWorn, UsesAllTurns};
 
-use crate::answer::ask_turns;
+use crate::answer::call_turns;
 use crate::insert::insert_key;
-use crate::remove::{remove_turns, stop_a_remove};
+use crate::remove::stop_a_remove;
 use orc_chain_rule::Chain;
 use orc_fault::{Again, Spent};
 use orc_heap::Links;
 use orc_history::ListRefused;
+use orc_ordered_search::Call;
 
 /// Sorted lists over a domain of links, one chain of nodes at each root. A key stands on the chain of the root that is
 /// its remainder by the number of roots. No call takes memory or waits.
@@ -125,7 +126,7 @@ impl<L: Links<Rule = Chain>> List<L> {
             → LeavesOffChain L.Links self.now.links key p.old p.new ⊎ StopsBeforeWorn L.Links self.now.links key p.old p.new }
         ensures settled { IsCallAlone L.Links self.now.links p.old p.new → L.backlog p.new ≡ 0 }
     {
-        let answer = remove_turns(&self.links, p, root, key, turns);
+        let answer = call_turns(&self.links, p, root, key, Call::Remove, turns);
         self.links.settle(p);
         answer
     }
@@ -155,7 +156,7 @@ impl<L: Links<Rule = Chain>> List<L> {
         ensures tries { MakesFew L.Links self.now.links turns 0 p.old p.new }
         ensures settled { IsCallAlone L.Links self.now.links p.old p.new → L.backlog p.new ≡ 0 }
     {
-        let answer = ask_turns(&self.links, p, root, key, turns);
+        let answer = call_turns(&self.links, p, root, key, Call::Ask, turns);
         self.links.settle(p);
         answer
     }

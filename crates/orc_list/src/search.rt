@@ -2,8 +2,10 @@
 
 ghost use Rattle.std.specs.Prelude.{◌≡◌, ◌<◌, ◌%◌};
 ghost use mathlib.Core.List.{IsPrefix};
-ghost use Rattle.orc_list.specs.Searches.{Finds};
+ghost use Rattle.orc_heap.specs.declared.events.Place.{Place};
+ghost use Rattle.orc_list.specs.Searches.{list_reading};
 ghost use Rattle.orc_ordered_search.specs.Searches.{HasRoom};
+ghost use Rattle.orc_ordered_search.specs.Steps.{Finds};
 
 use crate::key::Key;
 use orc_chain_rule::Chain;
@@ -22,7 +24,7 @@ pub(crate) fn search<L: Links<Rule = Chain>>(
     requires room { HasRoom (L.seat links.now p.old).slots }
     ensures pass { L.belongs links.now p.new }
     ensures later { IsPrefix (L.journal p.old) (L.journal p.new) }
-    ensures found { Finds (L.numbers links.now) root wanted (L.seat links.now p.old) result (L.seat links.now p.new) }
+    ensures found { Finds (list_reading (L.numbers links.now)) (Place.Root root) wanted (L.seat links.now p.old) result (L.seat links.now p.new) }
 {
     search_chain(links, p, root, Key(wanted), None)
 }

@@ -1,5 +1,5 @@
 -- A node is linked where a search found that its rank belongs.
-use Rattle.std.proofs.Common.{Bool, Err, List, None, Ok, Option, Result, Some, [], ap, arith, false, inl, length-append, length-set, refl, subst, sym, true, ℕ, ◌++◌, ◌==◌, ◌∙◌, ◌∷◌, ◌≡◌, ◌≢◌}
+use Rattle.std.proofs.Common.{Bool, Err, List, None, Ok, Option, Result, Some, [], ap, append-nil, arith, false, inl, length, length-append, length-set, refl, subst, sym, true, ℕ, ◌*◌, ◌++◌, ◌+◌, ◌==◌, ◌∙◌, ◌∷◌, ◌≡◌, ◌≢◌, ◌≤◌}
 use Rattle.std.proofs.lemmas.Bool.{eqb-false, eqb-true}
 use Rattle.std.specs.List.{slice_get, slice_set}
 use Rattle.orc_fault.specs.declared.Spent.{Spent as SpentRow}
@@ -7,31 +7,36 @@ use Rattle.orc_heap.proofs.Calls.{Puts-trans}
 use Rattle.orc_heap.proofs.Hands.{free_in}
 use Rattle.orc_heap.proofs.Moved.{gives_in-append, moves_in-append}
 use Rattle.orc_heap.proofs.OwnEntries.{noted-append}
+use Rattle.orc_heap.proofs.Pieces.{puts_released}
 use Rattle.orc_heap.proofs.Slots.{get-set_other, get-set_same}
 use Rattle.orc_heap.proofs.Stays.{allowed-left}
 use Rattle.orc_heap.specs.Allowed.{AllAllowed}
-use Rattle.orc_heap.specs.Calls.{Gives, Misses, event_of}
+use Rattle.orc_heap.specs.Calls.{Gives, event_of}
 use Rattle.orc_heap.specs.Hands.{AreHeld, Hand, Hands, HoldsId, IsApart, IsApartOf, IsHeldApart, hand}
+use Rattle.orc_heap.specs.Heap.{link_to}
 use Rattle.orc_heap.specs.Journals.{noted_entries}
 use Rattle.orc_heap.specs.Moves.{gives_in, moves_in}
 use Rattle.orc_heap.specs.OwnEvents.{Only, Puts}
 use Rattle.orc_heap.specs.Seats.{Seat, heap_of}
 use Rattle.orc_heap.specs.Slots.{Hold, IsFree, SlotNode, Slots}
-use Rattle.orc_heap.specs.declared.events.Act.TheVariants.{Aim, Fill, Give, Miss}
+use Rattle.orc_heap.specs.declared.events.Act.TheVariants.{Aim, Fill, Give, Miss, Move}
 use Rattle.orc_heap.specs.declared.events.Event.{Event}
-use Rattle.orc_heap.specs.declared.events.Link.{Link}
 use Rattle.orc_heap.specs.declared.events.Place.{Place}
 use Rattle.orc_history.specs.declared.set.SetEntry.{SetEntry}
-use Rattle.orc_ordered_chains.specs.Chains.{FollowsOn, IsAbove, IsRun, link_over}
-use Rattle.orc_ordered_search.specs.Inserts.{AddEnds, AddOver, AddsAt, AddsNode, InsertEnds, KeepsNode, LinkMissed, LinkRefused, LinksNode, LinksTo, node_to_link}
+use Rattle.orc_ordered_chains.specs.Chains.{link_over}
+use Rattle.orc_ordered_search.specs.Entries.{node_to_link}
+use Rattle.orc_ordered_search.specs.Inserts.{AddEnds, AddOver, AddsAt, AddsNode, InsertEnds, KeepsNode, LinkMissed, LinkRefused, LinksAndGoes, LinksNode, LinksTo, SeesAbsent}
 use Rattle.orc_ordered_search.specs.Reading.{Ordering, Reading}
 use Rattle.orc_ordered_search.specs.Searches.{AllGone, FindsAbsent, HoldsIfAny, InHand, first_or, left_place, node_of, place_at, target_at}
-use Rattle.orc_ordered_search.specs.Turns.{Made}
+use Rattle.orc_ordered_search.specs.Turns.{Made, made_from}
+use Rattle.orc_ordered_search.specs.Ways.{IsFew}
 use Rattle.orc_ordered_search.proofs.Entering.{from_is, place_of_hand, target_is, target_of_hand}
 use Rattle.orc_ordered_search.proofs.Held.{absent_hand, first_held, first_linked, in_hand_on, left_linked, right_linked, second_held, third_held, three_hands}
 use Rattle.orc_ordered_search.proofs.Linking.{holds_on, loads_leave}
 use Rattle.orc_ordered_search.proofs.Making.{made_on, missed, one_over, over_on}
-use Rattle.orc_ordered_search.proofs.Quiets.{above_puts, below_puts, leads_puts, left_place_linked, shows_on, silent_three, silent_two}
+use Rattle.orc_ordered_search.proofs.Quiets.{above_puts, below_puts, leads_puts, left_place_linked, shows_on, silent_one, silent_three, silent_two}
+use Rattle.orc_ordered_search.proofs.Seen.{absent_few, ends_left, few_more}
+use Rattle.orc_ordered_search.proofs.Since.{few_made, made_is}
 
 -- slots that hold a node besides
 
@@ -110,20 +115,7 @@ module _ {N : Type 0} (ord : Ordering N) (start : Place) (wanted value kind : �
   adds_link = ap link_over (target_is slots t.slots first right a.first_id a.right_id (hand right a.right_id ∷ []) [] a.hands.held.1.0 a.hands.held.1.1.0)
       ∙ sym (from_is ord start wanted left first a.left_id a.first_id (node_of right a.right_id) s a.own t a.puts.part a.leads)
 
-  pub adds_below : FollowsOn ord.reading.order (heap_of ord.reading.numbers t) (place_at t.slots (ord.reading.order.root wanted) left) wanted
-  adds_below = subst (λ (p : Place). FollowsOn ord.reading.order (heap_of ord.reading.numbers t) p wanted) (sym adds_place) a.leads.below
-
-  pub adds_run : (over : List ℕ) × IsRun (heap_of ord.reading.numbers t) (link_over (target_at t.slots (first_or first right))) over (target_at t.slots right)
-  adds_run = (
-    a.leads.over,
-    subst (λ (o : Option ℕ). IsRun (heap_of ord.reading.numbers t) (link_over (target_at t.slots (first_or first right))) a.leads.over o) (sym adds_right)
-        (subst (λ (l : Link). IsRun (heap_of ord.reading.numbers t) l a.leads.over (node_of right a.right_id)) (sym adds_link) a.leads.run),
-  )
-
-  pub adds_above : IsAbove ord.reading.order (heap_of ord.reading.numbers t) (target_at t.slots right) wanted
-  adds_above = subst (λ (o : Option ℕ). IsAbove ord.reading.order (heap_of ord.reading.numbers t) o wanted) (sym adds_right) a.above
-
-  pub adds_hand : InHand ord.reading slots left first right None t
+  adds_hand : InHand ord.reading slots left first right None t
   adds_hand = record {
     left_id = a.left_id;
     first_id = a.first_id;
@@ -136,16 +128,25 @@ module _ {N : Type 0} (ord : Ordering N) (start : Place) (wanted value kind : �
     next_linked = tt;
   }
 
+  abbrev place : Place
+  place = left_place (ord.reading.order.root wanted) left a.left_id
+
   -- it was linked
-  pub adds_linked : (entries : List SetEntry) (u v : Seat N) → LinksNode ord.reading entries t u → AllGone slots u v
-      → AddEnds ord.reading given slots s entries None v
-  adds_linked entries u v l g = record {
-    own = a.own ++ l.own;
-    made = made_on ord.reading given s u v (a.own ++ l.own) entries
-        (made_since ord.reading given s t u a.own l.own entries a.puts a.no_entries a.gives l.puts l.entries_are l.no_give) g.puts;
-    slots_are = g.slots_are;
-    fresh_is = g.fresh ∙ l.fresh;
-  }
+  pub adds_linked : (noted : N) (u v : Seat N) → LinksNode ord.reading value kind noted a.id place a.leads.from (node_of right a.right_id) t u
+      → AllGone slots u v → AddEnds ord.reading given slots s (ord.reading.entries_in (Some noted)) None v
+  adds_linked noted u v l g =
+      let aim : List (Event N) = event_of t (Aim a.id (node_of right a.right_id)) None ∷ [] in
+      let move : List (Event N) = event_of l.mid (Move place a.leads.from (link_to a.id)) (Some noted) ∷ [] in
+      let entries = ord.reading.entries_in (Some noted) in
+      let none = silent_one ord t.agent (Aim a.id (node_of right a.right_id)) in
+      let made = made_since ord.reading given s t u a.own (aim ++ move) entries a.puts a.no_entries a.gives (Puts-trans t l.mid u aim move l.aims l.moves)
+      (noted-append ord.reading.entries_in aim move ∙ rw none (append-nil entries)) refl in
+      record {
+        own = a.own ++ (aim ++ move);
+        made = made_on ord.reading given s u v (a.own ++ (aim ++ move)) entries made g.puts;
+        slots_are = g.slots_are;
+        fresh_is = g.fresh ∙ l.fresh;
+      }
 
   -- a row was worn
   pub adds_refused : (u v : Seat N) → LinkRefused ord.reading t u → AllGone slots u v → AddEnds ord.reading given slots s [] (Some a.id) v
@@ -158,17 +159,12 @@ module _ {N : Type 0} (ord : Ordering N) (start : Place) (wanted value kind : �
   }
 
   -- the place showed another link
-  pub adds_missed : (u v : Seat N)
-      → LinkMissed ord.reading value kind node a.id (place_at t.slots (ord.reading.order.root wanted) left)
-      (link_over (target_at t.slots (first_or first right))) t u
-      → AllGone slots u v → ord.holds u.seen → AllAllowed ord.may [] u.seen → AllAllowed ord.may [] v.seen
-      → AddOver ord.reading value kind node a.id given slots s v
+  pub adds_missed : (u v : Seat N) → LinkMissed ord.reading value kind node a.id place a.leads.from t u → AllGone slots u v → ord.holds u.seen
+      → AllAllowed ord.may [] u.seen → AllAllowed ord.may [] v.seen → AddOver ord.reading value kind node a.id given slots s v
   adds_missed u v l g holds all_u all_v =
       let aim : Event N = event_of t (Aim a.id l.to) None in
-      let place = left_place (ord.reading.order.root wanted) left a.left_id in
       let from = a.leads.from in
-      let miss : Misses place from l.mid u = subst (λ (p : Place). Misses p from l.mid u) adds_place
-      (subst (λ (x : Link). Misses (place_at t.slots (ord.reading.order.root wanted) left) x l.mid u) adds_link l.misses) in
+      let miss = l.misses in
       let e : Event N = event_of l.mid (Miss place from miss.found) None in
       let ys : List (Event N) = aim ∷ e ∷ [] in
       let all_mid : AllAllowed ord.may [] l.mid.seen = allowed-left ord.may [] l.mid.seen miss.puts.part
@@ -189,23 +185,56 @@ module _ {N : Type 0} (ord : Ordering N) (start : Place) (wanted value kind : �
             (subst (λ (q : Slots). HoldsId q node a.id) (sym g.slots_are) a.kept) g.fresh;
       }
 
-  -- the nodes of the search are in hand on
-  pub links_hand : (entries : List SetEntry) (u : Seat N) (link : Link) (place : Place) (result : Result Bool SpentRow) → LinksTo ord.reading value kind entries node a.id place link t result u
-      → AllAllowed ord.may [] u.seen → InHand ord.reading slots left first right None u
-  links_hand entries u link place (Ok true) l all = in_hand_on ord slots left first right None t u l.own l.puts all l.slots adds_hand
-  links_hand entries u link place (Ok false) l all =
-      in_hand_on ord slots left first right None t u _ (Puts-trans t l.mid u _ _ l.aims l.misses.puts) all l.slots adds_hand
-  links_hand entries u link place (Err why) l all = in_hand_on ord slots left first right None t u l.own l.puts all l.slots adds_hand
+  -- two events at the most for the link, and the nodes of the search are in hand on
+  record Linked (u : Seat N) : Type 0 where
+    events : List (Event N)
+    put : Puts t events u
+    short : length events ≤ 2
+    same : u.slots ≡ t.slots
+
+  linked_by : (noted : N) (u : Seat N) (result : Result Bool SpentRow)
+      → LinksTo ord.reading value kind noted node a.id place a.leads.from (node_of right a.right_id) t result u → Linked u
+  linked_by noted u (Ok true) l =
+      let aim : Event N = event_of t (Aim a.id (node_of right a.right_id)) None in
+      let move : Event N = event_of l.mid (Move place a.leads.from (link_to a.id)) (Some noted) in
+      record { events = aim ∷ move ∷ []; put = Puts-trans t l.mid u (aim ∷ []) (move ∷ []) l.aims l.moves; short = omega arith; same = l.slots }
+  linked_by noted u (Ok false) l =
+      let aim : Event N = event_of t (Aim a.id l.to) None in
+      let miss : Event N = event_of l.mid (Miss place a.leads.from l.misses.found) None in
+      record { events = aim ∷ miss ∷ []; put = Puts-trans t l.mid u (aim ∷ []) (miss ∷ []) l.aims l.misses.puts; short = omega arith; same = l.slots }
+  linked_by noted u (Err why) l = record { events = l.own; put = l.puts; short = omega (arith, l.short); same = l.slots }
+
+  pub links_hand : (noted : N) (u : Seat N) (result : Result Bool SpentRow)
+      → LinksTo ord.reading value kind noted node a.id place a.leads.from (node_of right a.right_id) t result u → AllAllowed ord.may [] u.seen
+      → InHand ord.reading slots left first right None u
+  links_hand noted u result l all =
+      let k = linked_by noted u result l in
+      in_hand_on ord slots left first right None t u k.events k.put all k.same adds_hand
+
+  pub links_few : (noted : N) (u v : Seat N) (result : Result Bool SpentRow)
+      → LinksTo ord.reading value kind noted node a.id place a.leads.from (node_of right a.right_id) t result u → AllGone slots u v
+      → IsFew (4 + 3 * given) (made_from s v)
+  links_few noted u v result l g =
+      let k = linked_by noted u result l in
+      let p = puts_released s u v (a.own ++ k.events) (Puts-trans s t u a.own k.events a.puts k.put) g.puts in
+      few_made (4 + 3 * given) (4 + 3 * given) s v (a.own ++ k.events) p
+      (few_more (2 + 3 * given) (4 + 3 * given) a.own k.events a.few (omega (arith, k.short))) (omega arith)
 
   -- what came of it
-  pub links_on : (entries same : List SetEntry) (u v : Seat N) (result : Result Bool SpentRow) → entries ≡ same
-      → LinksTo ord.reading value kind entries node a.id (place_at t.slots (ord.reading.order.root wanted) left)
-      (link_over (target_at t.slots (first_or first right))) t result u
-      → AllGone slots u v → ord.holds u.seen → AllAllowed ord.may [] u.seen → AllAllowed ord.may [] v.seen
-      → AddsNode ord.reading value kind same node a.id given slots s result v
-  links_on entries same u v (Ok true) is l g holds all_u all_v = adds_linked same u v (subst (λ es. LinksNode ord.reading es t u) is l) g
-  links_on entries same u v (Ok false) is l g holds all_u all_v = adds_missed u v l g holds all_u all_v
-  links_on entries same u v (Err why) is l g holds all_u all_v = adds_refused u v l g
+  pub links_on : (noted : N) (u v : Seat N) (result : Result Bool SpentRow)
+      → LinksTo ord.reading value kind noted node a.id place a.leads.from (node_of right a.right_id) t result u → AllGone slots u v → ord.holds u.seen
+      → AllAllowed ord.may [] u.seen → AllAllowed ord.may [] v.seen
+      → AddsNode ord.reading value kind (ord.reading.entries_in (Some noted)) node a.id given slots s result v
+  links_on noted u v (Ok true) l g holds all_u all_v = adds_linked noted u v l g
+  links_on noted u v (Ok false) l g holds all_u all_v = adds_missed u v l g holds all_u all_v
+  links_on noted u v (Err why) l g holds all_u all_v = adds_refused u v l g
+
+  pub links_gone : (noted : N) (u v : Seat N) (result : Result Bool SpentRow)
+      → LinksTo ord.reading value kind noted node a.id place a.leads.from (node_of right a.right_id) t result u → AllGone slots u v → result ≡ Ok true
+      → LinksAndGoes ord.reading value kind noted a.id place a.leads.from (node_of right a.right_id) slots t v
+  links_gone noted u v (Ok true) l g is = record { linked = u; links = l; gone = g }
+  links_gone noted u v (Ok false) l g is = cc
+  links_gone noted u v (Err why) l g is = cc
 
 -- where the turn comes from: a node that was in hand, or a new one
 
@@ -229,6 +258,8 @@ absent_adds ord start wanted passed value kind left first right node slots s t k
       hands = f.hands;
       leads = f.behind.leads;
       above = f.above;
+      ends = f.ends;
+      few = absent_few ord.reading start wanted passed left first right s t f;
       id = k.id;
       kept = k.to_add.held;
       holds = holds_on ord value kind node k.id s t f.own k.to_add q.puts (loads_leave k.id f.own q.loads) holds all
@@ -241,6 +272,25 @@ pub absent_id : {N : Type 0} (ord : Ordering N) (start : Place) (wanted passed v
     → (absent_adds ord start wanted passed value kind left first right node slots s t k f holds all).id ≡ k.id
 unfolding absent_adds
 absent_id ord start wanted passed value kind left first right node slots s t k f holds all = refl
+
+-- what a search's Looks found stays so
+pub absent_sees : {N : Type 0} (ord : Ordering N) (start : Place) (wanted passed : ℕ) (left first right : Option Hold) (s t y : Seat N)
+    (f : FindsAbsent ord.reading start wanted passed left first right s t) → Puts t [] y → AllAllowed ord.may [] y.seen
+    → SeesAbsent ord.reading wanted f.own y
+absent_sees ord start wanted passed left first right s t y f p all =
+    let l = f.behind.leads in
+    let place = left_place (ord.reading.order.root wanted) left f.left_id in
+    record {
+      place = place;
+      from = l.from;
+      plain = l.plain;
+      below = below_puts ord t y [] p all place wanted l.below;
+      sees = l.sees;
+      over = l.over;
+      to = node_of right f.right_id;
+      sees_run = l.sees_run;
+      above = above_puts ord t y [] p all (node_of right f.right_id) wanted f.above;
+    }
 
 module _ {N : Type 0} (ord : Ordering N) (start : Place) (wanted passed value kind : ℕ) (left first right : Option Hold) (s t u : Seat N)
     (f : FindsAbsent ord.reading start wanted passed left first right s t) (one : IsFree s.slots 1) where
@@ -272,6 +322,8 @@ module _ {N : Type 0} (ord : Ordering N) (start : Place) (wanted passed value ki
         hands = subst (λ (z : Slots). Hands (slice_set s.slots 1 x) z hs) (sym g.slots) (hands_rebase s.slots t.slots hs 1 x f.hands f.apart one.empty);
         leads = leads_puts ord t u ys g.puts all start wanted left first f.left_id f.first_id (node_of right f.right_id) s f.own q.puts w q.some f.behind.leads;
         above = above_puts ord t u ys g.puts all (node_of right f.right_id) wanted f.above;
+        ends = ends_left f.own ys (node_of right f.right_id) f.ends;
+        few = few_more 2 5 f.own ys (absent_few ord.reading start wanted passed left first right s t f) (omega arith);
         id = g.id;
         kept = kept;
         holds = record {
@@ -299,6 +351,17 @@ module _ {N : Type 0} (ord : Ordering N) (start : Place) (wanted passed value ki
           count = refl;
           ends = record { id = 0; slots_are = g.slots_are; slot_is = tt; fresh = inl (g.fresh ∙ (only.fresh ∙ (q.fresh ∙ fresh))) };
         },
+      )
+
+  -- then its Looks found the rank absent
+  pub lacks_sees : (y : Seat N) → Only [] t u → AllGone s.slots u y → AllAllowed ord.may [] y.seen
+      → SeesAbsent ord.reading wanted (made_from s y) y × IsFew 2 (made_from s y)
+  lacks_sees y only g all_y =
+      let since = puts_released t u y [] only.puts g.puts in
+      let p = puts_released s t y f.own f.behind.quiet.puts since in (
+        subst (λ z. SeesAbsent ord.reading wanted z y) (sym (made_is s y f.own p))
+            (absent_sees ord start wanted passed left first right s t y f since all_y),
+        few_made 2 2 s y f.own p (absent_few ord.reading start wanted passed left first right s t f) (omega arith),
       )
 
   pub absent_hand_on : Only [] t u → AllAllowed ord.may [] u.seen → InHand ord.reading s.slots left first right None u

@@ -48,7 +48,7 @@ module _ {N S : Type 0} (ord : Ordering N) (agents : ℕ) (agent_of : S → ℕ)
     seen = record { adds = adds; grows = grows; is_s = is_s; is_t = is_u; all = all; below = below }
 
     -- the entries
-    call_adds : (own : List (Event N)) (es : List SetEntry) → Puts s own u → noted_entries ord.reading.entries_in own ≡ es
+    pub call_adds : (own : List (Event N)) (es : List SetEntry) → Puts s own u → noted_entries ord.reading.entries_in own ≡ es
         → Adds agent_of_set_entry (λ (a : ℕ). a < agents) s.agent (noted_entries ord.reading.entries_in (events j)) es (noted_entries ord.reading.entries_in (events m))
     call_adds own es p entries_are = adds_entries seen ord.reading.entries_in agent_of_set_entry (λ es e may. ord.owes.own es e may) own es p entries_are
 

@@ -9,6 +9,7 @@ pub mod Starting
 pub mod Ranking
 pub mod Alone
 pub mod Making
+pub mod Since
 pub mod Tiring
 pub mod Entering
 pub mod Answering
@@ -17,6 +18,8 @@ pub mod Removing
 pub mod Linking
 pub mod Adding
 pub mod Inserting
+pub mod Seeking
+pub mod Calling
 pub mod Parts
 pub mod Settling
 pub mod Causes

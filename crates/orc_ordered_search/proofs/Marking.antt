@@ -1,5 +1,5 @@
 -- A node is marked, and a place is led past a run of marked nodes.
-use Rattle.std.proofs.Common.{Bool, List, None, Ok, Err, Option, Result, Some, [], ap, append-nil, arith, false, inl, inr, length, length-append, refl, subst, sym, true, ℕ, ◌+◌, ◌++◌, ◌∙◌, ◌∷◌, ◌≡◌}
+use Rattle.std.proofs.Common.{Bool, List, None, Ok, Err, Option, Result, Some, [], ap, append-nil, arith, false, inl, inr, length, length-append, refl, subst, sym, true, ℕ, ◌+◌, ◌++◌, ◌∙◌, ◌∷◌, ◌≡◌, ◌≤◌}
 use Rattle.std.specs.Prelude.{IfErr, IfOk}
 use mathlib.Core.List.{IsPrefix}
 use Rattle.orc_fault.specs.declared.Spent.{Spent}
@@ -153,6 +153,17 @@ tried_of {N} ord s t place first to Worn unlinking silent w = elim w.either [
     }
   ]
   | inr worn ↦ record { own = []; puts = worn.2; no_entries = refl; no_give = refl; slots = w.slots; fresh = w.fresh }
+]
+
+-- and makes one event at the most
+pub tried_once : {N : Type 0} (s t : Seat N) (place : Place) (first : ℕ) (to : Option ℕ) (Worn : Type 0) (unlinking : N)
+    → TriesUnlink unlinking place first to Worn s t → (own : List (Event N)) × Puts s own t × (length own ≤ 1)
+tried_once s t place first to Worn unlinking w = elim w.either [
+  | inl swung ↦ elim swung [
+    | inl p ↦ (event_of s (Move place (link_to first) (link_over to)) (Some unlinking) ∷ [], p, omega arith)
+    | inr miss ↦ (event_of s (Miss place (link_to first) miss.found) None ∷ [], miss.puts, omega arith)
+  ]
+  | inr worn ↦ ([], worn.2, omega arith)
 ]
 
 pub tries_wider : {N : Type 0} (Worn More : Type 0) (unlinking : N) (place : Place) (first : ℕ) (to : Option ℕ) (s t : Seat N) → (Worn → More)

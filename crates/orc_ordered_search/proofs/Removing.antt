@@ -2,6 +2,7 @@
 use Rattle.std.proofs.Common.{Bool, List, None, Option, Some, [], ap, arith, false, refl, subst, sym, true, ℕ, ◌++◌, ◌∙◌, ◌∷◌, ◌≡◌}
 use Rattle.orc_heap.proofs.Calls.{Puts-stood, Puts-trans}
 use Rattle.orc_heap.proofs.Hands.{holds_of}
+use Rattle.orc_heap.proofs.Pieces.{puts_released}
 use Rattle.orc_heap.proofs.Runs.{run_heap-snoc}
 use Rattle.orc_heap.proofs.SingleActs.{has_link, some_same}
 use Rattle.orc_heap.specs.Acts.{Fits}
@@ -25,10 +26,11 @@ use Rattle.orc_ordered_chains.proofs.Later.{marked_later, rank_later}
 use Rattle.orc_ordered_chains.specs.Chains.{HasRank, IsChainPlace, IsRun, link_over}
 use Rattle.orc_ordered_search.specs.Reading.{Ordering}
 use Rattle.orc_ordered_search.specs.Searches.{AllGone, BeginsRun, FindsPresent, HoldsIfAny, InHand, NextFollows, first_or, left_place, node_of, place_at, run_head, target_at}
-use Rattle.orc_ordered_search.specs.Turns.{Answers, Marks, TakesNode, Tires, Tries, TriesUnlink}
+use Rattle.orc_ordered_search.specs.Turns.{Answers, Enters, Marks, TakesFound, TakesNode, TakesOut, Tires, Tries, TriesUnlink, made_from}
 use Rattle.orc_ordered_search.specs.Ways.{IsFew}
-use Rattle.orc_ordered_search.proofs.Marking.{tried_of}
-use Rattle.orc_ordered_search.proofs.Seen.{present_few}
+use Rattle.orc_ordered_search.proofs.Marking.{tried_of, tried_once}
+use Rattle.orc_ordered_search.proofs.Seen.{few_more, present_few}
+use Rattle.orc_ordered_search.proofs.Since.{few_made}
 use Rattle.orc_ordered_search.proofs.Entering.{from_is, head_of, missed_over, place_of_hand, target_is, target_of_hand}
 use Rattle.orc_ordered_search.proofs.Held.{first_held, fourth_held, in_hand_on, present_hand, second_held}
 use Rattle.orc_ordered_search.proofs.Making.{made_after, made_on}
@@ -248,3 +250,35 @@ module _ {N : Type 0} (ord : Ordering N) (start : Place) (wanted passed : ℕ) (
         slots = k.gone.slots_are;
         fresh = k.gone.fresh ∙ (tried.fresh ∙ (m.fresh ∙ f.behind.quiet.fresh));
       }
+
+  -- by the answer, it makes few events
+  took_few : (noted unlinking : N) (Worn : Type 0) (y : Seat N)
+      → TakesNode noted unlinking (left_place (ord.reading.order.root wanted) left f.left_id) (run_head first f.first_id f.id) f.id (node_of next f.next_id) Worn
+      s.slots t y → IsFew 4 (made_from s y)
+  took_few noted unlinking Worn y k =
+      let q = f.behind.quiet in
+      let to : Option ℕ = node_of next f.next_id in
+      let e : Event N = event_of t (Move (Next f.id) (link_over to) (record { to = to; mark = true })) (Some noted) in
+      let tried = tried_once k.marked k.tried _ _ to Worn unlinking k.tries in
+      let p = Puts-trans t k.marked k.tried (e ∷ []) tried.0 k.marks.puts tried.1 in
+      let w = puts_released s k.tried y (f.own ++ (e ∷ tried.0)) (Puts-trans s t k.tried f.own (e ∷ tried.0) q.puts p) k.gone.puts in
+      few_made 4 4 s y (f.own ++ (e ∷ tried.0)) w
+      (few_more 2 4 f.own (e ∷ tried.0) (present_few ord.reading start wanted passed left first node next s t f) (omega (arith, tried.2))) (omega arith)
+
+  pub takes_few : (noted unlinking : N) (Worn : Type 0) (done : Bool) (y : Seat N)
+      → TakesOut ord.reading noted unlinking start wanted passed left first node next Worn s t f done y → IsFew 4 (made_from s y)
+  takes_few noted unlinking Worn true y k = took_few noted unlinking Worn y k
+  takes_few noted unlinking Worn false y (k, few) = few_made 3 4 s y k.own k.over.made.puts few (omega arith)
+
+  pub takes_enters : (noted unlinking : N) (entry : SetEntry) (Worn : Type 0) (done : Bool) (y : Seat N) → ord.reading.entries_in (Some noted) ≡ entry ∷ []
+      → ord.reading.entries_in (Some unlinking) ≡ [] → TakesOut ord.reading noted unlinking start wanted passed left first node next Worn s t f done y
+      → Enters ord.reading entry s done y
+  takes_enters noted unlinking entry Worn true y enters silent k = removes_done noted unlinking entry Worn y enters silent k
+  takes_enters noted unlinking entry Worn false y enters silent k = k.0
+
+  pub takes_found : (noted unlinking : N) (Worn : Type 0) (done : Bool) (y : Seat N)
+      → TakesOut ord.reading noted unlinking start wanted passed left first node next Worn s t f done y → done ≡ true
+      → TakesFound ord.reading noted unlinking start wanted Worn s t y
+  takes_found noted unlinking Worn true y k is =
+      record { left = left; first = first; node = node; next = next; passed = passed; finds = f; takes = k }
+  takes_found noted unlinking Worn false y k is = cc

@@ -1,9 +1,10 @@
 -- What a call did, by its answer, up to the pass that has settled.
-use Rattle.std.proofs.Common.{Bool, Err, List, Ok, Result, [], arith, refl, ℕ, ◌∙◌, ◌∷◌, ◌≡◌, ◌≢◌, ◌≤◌}
+use Rattle.std.proofs.Common.{Bool, Err, List, Ok, Result, [], arith, length, refl, ℕ, ◌∙◌, ◌∷◌, ◌≡◌, ◌≢◌, ◌≤◌}
 use Rattle.std.specs.Prelude.{IsErr}
 use Rattle.orc_fault.specs.declared.Again.{Again as AgainFault}
+use Rattle.orc_heap.specs.Journals.{noted_entries}
 use Rattle.orc_heap.specs.Moves.{from_own}
-use Rattle.orc_heap.specs.OwnEvents.{Only}
+use Rattle.orc_heap.specs.OwnEvents.{Only, Puts}
 use Rattle.orc_heap.specs.Seats.{IsIdle, Seat}
 use Rattle.orc_heap.specs.declared.events.Event.{Event}
 use Rattle.orc_history.specs.declared.set.ListRefused.{ListRefused}
@@ -126,3 +127,27 @@ insert_keeps r entry turns s t (Err (Spent why)) l idle = (record { slots = l.2.
 
 pub idle_settled : {N : Type 0} (t u : Seat N) → IsIdle t → Only [] t u → IsIdle u
 idle_settled t u idle o = record { slots = o.slots ∙ idle.slots; fresh = o.fresh ∙ idle.fresh }
+
+-- what the turns of a call made
+
+pub answers_puts : {N : Type 0} (r : Reading N) (entry : Bool → SetEntry) (turns : ℕ) (s t : Seat N) (result : Result Bool AgainFault)
+    → AnswersTurns r entry turns s result t → (own : List (Event N)) × Puts s own t
+answers_puts r entry turns s t (Ok answer) l = (l.1.own, l.1.made.puts)
+answers_puts r entry turns s t (Err e) l = (l.own, l.over.made.puts)
+
+some_event : {N : Type 0} (r : Reading N) (own : List (Event N)) (entry : SetEntry) → noted_entries r.entries_in own ≡ entry ∷ [] → 1 ≤ length own
+some_event r [] entry e = cc
+some_event r (e ∷ es) entry is = omega arith
+
+pub answers_some : {N : Type 0} (r : Reading N) (entry : Bool → SetEntry) (turns : ℕ) (s t : Seat N) (result : Result Bool AgainFault)
+    (l : AnswersTurns r entry turns s result t) (answer : Bool) → result ≡ Ok answer → 1 ≤ length (answers_puts r entry turns s t result l).0
+unfolding answers_puts
+answers_some r entry turns s t (Ok given) l answer is = some_event r l.1.own (entry given) l.1.made.entries_are
+answers_some r entry turns s t (Err e) l answer is = cc
+
+pub insert_puts : {N : Type 0} (r : Reading N) (entry : Bool → SetEntry) (turns : ℕ) (s t : Seat N) (result : Result Bool ListRefused)
+    → InsertAnswers r entry turns s result t → (own : List (Event N)) × Puts s own t
+insert_puts r entry turns s t (Ok answer) l = (l.1, l.2.made.puts)
+insert_puts r entry turns s t (Err Again) l = (l.own, l.over.made.puts)
+insert_puts r entry turns s t (Err NoNode) l = (l.1, l.2.made.puts)
+insert_puts r entry turns s t (Err (Spent why)) l = (l.1, l.2.made.puts)

@@ -1,32 +1,40 @@
 -- What the turns of an insert do. After Harris 2001.
-use Rattle.std.specs.Prelude.{Bool, Err, List, None, Ok, Option, Result, Some, [], false, length, slice_get, slice_set, true, ℕ, ◌+◌, ◌∷◌, ◌≡◌, ◌≢◌, ◌≤◌, ◌⊎◌}
+use Rattle.std.specs.Prelude.{Bool, Err, List, None, Ok, Option, Result, Some, [], false, length, slice_get, slice_set, true, ℕ, ◌*◌, ◌+◌, ◌∷◌, ◌≡◌, ◌≢◌, ◌≤◌, ◌⊎◌}
+use Rattle.std.specs.Borrow.{Bor}
 use Rattle.orc_fault.specs.declared.Spent.{Spent as SpentRow}
 use Rattle.orc_heap.specs.Calls.{Misses, event_of}
 use Rattle.orc_heap.specs.Hands.{Hands, HoldsId, hand}
-use Rattle.orc_heap.specs.Heap.{Node, null}
+use Rattle.orc_heap.specs.Heap.{link_to}
 use Rattle.orc_heap.specs.Journals.{noted_entries}
 use Rattle.orc_heap.specs.Moves.{gives_in, moves_in}
 use Rattle.orc_heap.specs.OwnEvents.{Puts}
 use Rattle.orc_heap.specs.Seats.{Seat, heap_of}
 use Rattle.orc_heap.specs.Slots.{Hold, IsFree, Slots}
-use Rattle.orc_heap.specs.declared.events.Act.TheVariants.{Aim}
+use Rattle.orc_heap.specs.declared.events.Act.TheVariants.{Aim, Move}
 use Rattle.orc_heap.specs.declared.events.Event.{Event}
 use Rattle.orc_heap.specs.declared.events.Link.{Link}
 use Rattle.orc_heap.specs.declared.events.Place.{Place}
 use Rattle.orc_history.specs.declared.set.ListRefused.{ListRefused}
 use Rattle.orc_history.specs.declared.set.ListRefused.TheVariants.{Again, NoNode as RefusedNoNode, Spent as RefusedSpent}
 use Rattle.orc_history.specs.declared.set.SetEntry.{SetEntry}
-use Rattle.orc_ordered_chains.specs.Chains.{IsAbove, link_over}
+use Rattle.orc_ordered_chains.specs.Chains.{FollowsOn, IsAbove}
+use Rattle.orc_ordered_search.specs.Entries.{AllowsNode, node_to_link}
 use Rattle.orc_ordered_search.specs.Reading.{Reading}
-use Rattle.orc_ordered_search.specs.Searches.{HasRoom, LeadsOver, node_of}
+use Rattle.orc_ordered_search.specs.Searches.{AllGone, HasRoom, LeadsOver, SeesRun, left_place, node_of}
+use Rattle.orc_ordered_search.specs.Steps.{Finds}
 use Rattle.orc_ordered_search.specs.Turns.{AreOver, Made}
+use Rattle.orc_ordered_search.specs.Ways.{EndsRun, IsFew, Sees}
 use Rattle.orc_ordered_search.specs.declared.turn.InsertTurn.{InsertTurn}
 use Rattle.orc_ordered_search.specs.declared.turn.InsertTurn.TheVariants.{Answered, NoNode, Over, Spent}
+use Rattle.orc_ordered_search.specs.declared.walk.Searched.{Searched}
+use Rattle.orc_ordered_search.specs.declared.walk.Searched.TheVariants.{Absent}
 
--- a node that was given to the agent, to which nothing links, with these values, aimed at this target
-abbrev pub node_to_link : ℕ → ℕ → ℕ → Option ℕ → Node
-node_to_link agent value kind to =
-    record { giver = agent; first = Some value; second = Some kind; link = link_over to; side = null; named = false; linked = false }
+-- a reference to the node, if there is one
+abbrev pub Borrows : Option Hold → Option (Bor Hold) → Type 0
+Borrows None None = Unit {0}
+Borrows None (Some b) = ⊥
+Borrows (Some h) None = ⊥
+Borrows (Some h) (Some b) = b.now ≡ h
 
 -- how many nodes were given, where none is let go
 abbrev pub count_of : Option Hold → ℕ
@@ -81,6 +89,15 @@ module _ {N : Type 0} where
     pub slot_is : IsInFirst node
     pub fresh : (t.fresh ≡ None) ⊎ (t.fresh ≡ node_of node id)
 
+  -- a search ended so that began when the pass had in hand the node to add, if there was one
+  pub record Sought (r : Reading N) (wanted value kind : ℕ) (node : Option Hold) (found : Searched) (t : Seat N) : Type 0 where
+    pub start : Place
+    pub slots : Slots
+    pub begun : Seat N
+    pub room : HasRoomFor slots
+    pub keeps : KeepsNode r value kind node slots begun
+    pub finds : Finds r start wanted begun found t
+
   -- the pass has a node to link, and a search found where its rank belongs: so far it made only loads, and what gives the node
   pub record AddsAt (r : Reading N) (start : Place) (wanted value kind : ℕ) (left first right : Option Hold) (node : Hold) (given : ℕ) (slots : Slots)
       (s t : Seat N) : Type 0 where
@@ -96,18 +113,34 @@ module _ {N : Type 0} where
     pub hands : Hands slots t.slots (hand left left_id ∷ hand first first_id ∷ hand right right_id ∷ [])
     pub leads : LeadsOver r start wanted left first left_id first_id (node_of right right_id) s own t puts.part
     pub above : IsAbove r.order (heap_of r.numbers t) (node_of right right_id) wanted
+    pub ends : EndsRun own (node_of right right_id)
+    pub few : IsFew (2 + 3 * given) own
     pub id : ℕ
     pub kept : HoldsId slots node id
     pub holds : HoldsNode r value kind node id t
 
-  -- the node was aimed and linked, which enters these entries
-  pub record LinksNode (r : Reading N) (entries : List SetEntry) (s u : Seat N) : Type 0 where
-    pub own : List (Event N)
-    pub puts : Puts s own u
+  -- so it has, and a Move with this note may link the node there
+  pub record NodeToAdd (r : Reading N) (holds : List (Event N) → Type 0) (may : List (Event N) → Event N → Type 0) (root : ℕ) (noted : N)
+      (left first right : Option Hold) (node : Hold) (t : Seat N) : Type 0 where
+    pub start : Place
+    pub wanted : ℕ
+    pub value : ℕ
+    pub kind : ℕ
+    pub given : ℕ
+    pub slots : Slots
+    pub begun : Seat N
+    pub at : AddsAt r start wanted value kind left first right node given slots begun t
+    pub root_is : root ≡ r.order.root wanted
+    pub allowed : AllowsNode r holds may wanted value kind t.agent noted
+
+  -- the node was aimed at this target, and then the place was led from its link to the node, with this note
+  pub record LinksNode (r : Reading N) (value kind : ℕ) (noted : N) (id : ℕ) (place : Place) (from : Link) (to : Option ℕ) (s u : Seat N) : Type 0 where
+    pub mid : Seat N
+    pub aims : Puts s (event_of s (Aim id to) None ∷ []) mid
+    pub node : slice_get (heap_of r.numbers mid).nodes id ≡ Some (node_to_link mid.agent value kind to)
+    pub moves : Puts mid (event_of mid (Move place from (link_to id)) (Some noted) ∷ []) u
     pub slots : u.slots ≡ s.slots
     pub fresh : u.fresh ≡ None
-    pub entries_are : noted_entries r.entries_in own ≡ entries
-    pub no_give : gives_in own ≡ 0
 
   -- it was aimed, and then the place showed another link than this one
   pub record LinkMissed (r : Reading N) (value kind : ℕ) (h : Hold) (id : ℕ) (place : Place) (link : Link) (s u : Seat N) : Type 0 where
@@ -126,12 +159,46 @@ module _ {N : Type 0} where
     pub fresh : u.fresh ≡ s.fresh
     pub no_entries : noted_entries r.entries_in own ≡ []
     pub no_give : gives_in own ≡ 0
+    pub short : length own ≤ 1
 
   -- by the answer
-  abbrev pub LinksTo : Reading N → ℕ → ℕ → List SetEntry → Hold → ℕ → Place → Link → Seat N → Result Bool SpentRow → Seat N → Type 0
-  LinksTo r value kind entries h id place link s (Ok true) u = LinksNode r entries s u
-  LinksTo r value kind entries h id place link s (Ok false) u = LinkMissed r value kind h id place link s u
-  LinksTo r value kind entries h id place link s (Err why) u = LinkRefused r s u
+  abbrev pub LinksTo : Reading N → ℕ → ℕ → N → Hold → ℕ → Place → Link → Option ℕ → Seat N → Result Bool SpentRow → Seat N → Type 0
+  LinksTo r value kind noted h id place from to s (Ok true) u = LinksNode r value kind noted id place from to s u
+  LinksTo r value kind noted h id place from to s (Ok false) u = LinkMissed r value kind h id place from s u
+  LinksTo r value kind noted h id place from to s (Err why) u = LinkRefused r s u
+
+  -- the node was linked, and all that the search had in hand was let go
+  pub record LinksAndGoes (r : Reading N) (value kind : ℕ) (noted : N) (id : ℕ) (place : Place) (from : Link) (to : Option ℕ) (slots : Slots) (t u : Seat N) :
+      Type 0 where
+    pub linked : Seat N
+    pub links : LinksNode r value kind noted id place from to t linked
+    pub gone : AllGone slots linked u
+
+  -- the node was added where a search had found its rank absent, and counted so many nodes
+  pub record AddsFound (r : Reading N) (start : Place) (wanted value kind : ℕ) (noted : N) (found : Searched) (passed : ℕ) (s u : Seat N) : Type 0 where
+    pub left : Option Hold
+    pub first : Option Hold
+    pub right : Option Hold
+    pub found_is : found ≡ Absent left first right passed
+    pub node : Hold
+    pub given : ℕ
+    pub slots : Slots
+    pub t : Seat N
+    pub at : AddsAt r start wanted value kind left first right node given slots s t
+    pub adds : LinksAndGoes r value kind noted at.id (left_place (r.order.root wanted) left at.left_id) at.leads.from (node_of right at.right_id) slots t u
+
+  -- Looks among these events found the rank absent: an unmarked link of a place below it, and a run of marked nodes from there to null or to a
+  -- node above it
+  pub record SeesAbsent (r : Reading N) (wanted : ℕ) (es : List (Event N)) (t : Seat N) : Type 0 where
+    pub place : Place
+    pub from : Link
+    pub plain : from.mark ≡ false
+    pub below : FollowsOn r.order (heap_of r.numbers t) place wanted
+    pub sees : Sees es place from
+    pub over : List ℕ
+    pub to : Option ℕ
+    pub sees_run : SeesRun es from over to
+    pub above : IsAbove r.order (heap_of r.numbers t) to wanted
 
   -- so many turns that are over
   pub record InsertsOn (r : Reading N) (value kind turns : ℕ) (slots : Slots) (node kept : Option Hold) (s t : Seat N) : Type 0 where

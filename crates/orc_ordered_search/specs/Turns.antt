@@ -1,6 +1,7 @@
 -- What the turns of a call do. After Harris 2001.
-use Rattle.std.specs.Prelude.{Bool, Err, List, MatchBool, None, Ok, Option, Result, Some, [], false, true, ℕ, ◌∷◌, ◌≡◌, ◌≢◌, ◌≤◌, ◌⊎◌}
+use Rattle.std.specs.Prelude.{Bool, Err, List, MatchBool, None, Ok, Option, Result, Some, [], drop, false, length, true, ℕ, ◌∷◌, ◌≡◌, ◌≢◌, ◌≤◌, ◌⊎◌}
 use Rattle.orc_fault.specs.declared.Again.{Again as AgainFault}
+use Rattle.orc_heap.specs.Allowed.{events_by}
 use Rattle.orc_heap.specs.Calls.{Misses, event_of, links_made}
 use Rattle.orc_heap.specs.Heap.{link_to}
 use Rattle.orc_heap.specs.Journals.{noted_entries}
@@ -19,6 +20,10 @@ use Rattle.orc_ordered_search.specs.Searches.{AllGone, FindsPresent, left_place,
 use Rattle.orc_ordered_search.specs.Ways.{AreLoads, IsFew, IsLoad}
 
 module _ {N : Type 0} where
+  -- the events that a pass made from one seat to another
+  abbrev pub made_from : Seat N → Seat N → List (Event N)
+  made_from s t = drop (length (events_by s.agent s.seen)) (events_by t.agent t.seen)
+
   -- what the pass did: its own events enter these entries, and give so many nodes
   pub record Made (r : Reading N) (given : ℕ) (s : Seat N) (own : List (Event N)) (entries : List SetEntry) (t : Seat N) : Type 0 where
     pub puts : Puts s own t
@@ -106,6 +111,17 @@ module _ {N : Type 0} where
   TakesOut r noted unlinking start wanted passed left first node next IsWorn s t f true u =
       TakesNode noted unlinking (left_place (r.order.root wanted) left f.left_id) (run_head first f.first_id f.id) f.id (node_of next f.next_id) IsWorn s.slots t u
   TakesOut r noted unlinking start wanted passed left first node next IsWorn s t f false u = (a : Tires r 1 s u) × IsFew 3 a.own
+
+  -- a search found the node with the rank, which was taken out
+  pub record TakesFound (r : Reading N) (noted unlinking : N) (start : Place) (wanted : ℕ) (IsWorn : Type 0) (s t u : Seat N) : Type 0 where
+    pub left : Option Hold
+    pub first : Option Hold
+    pub node : Hold
+    pub next : Option Hold
+    pub passed : ℕ
+    pub finds : FindsPresent r start wanted passed left first node next s t
+    pub takes : TakesNode noted unlinking (left_place (r.order.root wanted) left finds.left_id) (run_head first finds.first_id finds.id) finds.id
+        (node_of next finds.next_id) IsWorn s.slots t u
 
   -- events that enter nothing and give no node; the pass holds what it held
   pub record Tries (r : Reading N) (s t : Seat N) : Type 0 where

@@ -3,7 +3,9 @@
 #![tactic(auto)]
 
 mod answer;
+mod call;
 mod in_hand;
+mod insert;
 mod rank;
 mod remove;
 mod search;
@@ -11,12 +13,11 @@ mod set_rank;
 mod turn;
 mod walk;
 
-pub use answer::{enter_absent, enter_present};
-pub use in_hand::{
-    keep_first, let_all_go, let_go, link_of, link_to, node_or, place_of, slot_of, spare_slot,
-};
+pub use call::{Call, answer_found};
+pub use in_hand::{let_all_go, let_go, link_to};
+pub use insert::{add_node, insert_found, turn_of};
 pub use rank::Rank;
-pub use remove::{mark_node, take_out};
+pub use remove::mark_node;
 pub use search::search_chain;
 pub use set_rank::SetRank;
 pub use turn::InsertTurn;

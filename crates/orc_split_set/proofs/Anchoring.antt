@@ -5,7 +5,6 @@ use Rattle.std.specs.Prelude.{IfErr, IfOk}
 use Rattle.orc_fault.specs.declared.Spent.{Spent}
 use Rattle.orc_heap.proofs.ByAnswer.{Swings-fresh, Swings-missed, Swings-moved}
 use Rattle.orc_heap.proofs.Calls.{Puts-stood, part_allowed}
-use Rattle.orc_heap.proofs.Hands.{holds_of}
 use Rattle.orc_heap.proofs.Pieces.{linked_not_fresh, missed_fresh, unless_other}
 use Rattle.orc_heap.proofs.Runs.{run_heap-snoc}
 use Rattle.orc_heap.proofs.SingleActs.{some_same}
@@ -17,9 +16,8 @@ use Rattle.orc_heap.specs.Heap.{Heap, HeapNumbers, link_to, null, shown}
 use Rattle.orc_heap.specs.Journals.{run_heap}
 use Rattle.orc_heap.specs.OwnEvents.{Only, Puts}
 use Rattle.orc_heap.specs.Seats.{Seat, heap_of, link_in, place_in}
-use Rattle.orc_heap.specs.Slots.{Hold, Slots, id_in}
 use Rattle.orc_heap.specs.declared.events.Act.{Act}
-use Rattle.orc_heap.specs.declared.events.Act.TheVariants.{Aim, Look, Miss, Move}
+use Rattle.orc_heap.specs.declared.events.Act.TheVariants.{Look, Miss, Move}
 use Rattle.orc_heap.specs.declared.events.Event.{Event}
 use Rattle.orc_heap.specs.declared.events.Link.{Link}
 use Rattle.orc_heap.specs.declared.events.Place.{Place}
@@ -29,23 +27,18 @@ use Rattle.orc_heap.specs.declared.holds.Want.{Want}
 use Rattle.orc_ordered_chains.proofs.Acts.{act_unmoved, chain_place_linked, move_links, move_moves}
 use Rattle.orc_ordered_chains.proofs.Paths.{leads_same, place_on_chain}
 use Rattle.orc_ordered_chains.specs.Chains.{IsChainPlace, LeadsTo, MayLink}
-use Rattle.orc_ordered_search.specs.Inserts.{HoldsNode, node_to_link}
+use Rattle.orc_ordered_search.specs.Entries.{node_to_link}
 use Rattle.orc_ordered_search.proofs.Held.{FreshIs}
-use Rattle.orc_ordered_search.proofs.Linking.{aimed}
 use Rattle.orc_ordered_search.proofs.Quiets.{silent_one}
 use Rattle.orc_split_rule.proofs.Later.{fresh_later, holds_later, values_later}
 use Rattle.orc_split_rule.specs.Laws.Kept.{split_keeps}
 use Rattle.orc_split_rule.specs.Laws.Kinds.{each_kind}
 use Rattle.orc_split_rule.specs.Laws.Values.{root_apart, value_linked, value_new}
-use Rattle.orc_split_rule.specs.SplitDiscipline.{HasValues, IsDummy, SplitHolds, SplitMay, greatest, set_after}
+use Rattle.orc_split_rule.specs.SplitDiscipline.{IsDummy, SplitHolds, SplitMay, greatest, set_after}
 use Rattle.orc_split_rule.specs.SplitOrder.{dummy_place, key_place, split_order}
 use Rattle.orc_split_rule.specs.declared.split.SplitNote.{SplitNote}
-use Rattle.orc_split_rule.specs.declared.split.SplitNote.TheVariants.{Anchor}
-use Rattle.orc_split_set.specs.NewNodes.{kind_of, note_for, value_of}
+use Rattle.orc_split_rule.specs.declared.split.SplitNote.TheVariants.{Anchor, Bucket}
 use Rattle.orc_split_set.specs.Rootings.{Anchors, IsRootSet}
-use Rattle.orc_split_set.specs.SplitSearches.{split_reading}
-use Rattle.orc_split_set.specs.declared.node.NewNode.{NewNode}
-use Rattle.orc_split_set.specs.declared.node.NewNode.TheVariants.{Dummy, Key}
 use Rattle.orc_split_set.proofs.Ordered.{split_ordering}
 
 -- where the root of a bucket names a node, it goes on to name it
@@ -172,47 +165,21 @@ module _ (n : HeapNumbers) (bucket : ℕ) (s t : Seat SplitNote) (id : ℕ) (low
         set = set_by_miss m.found (λ is. m.other (is ∙ sym from_is)) p;
       }
 
--- a node that was linked with its note has its values from then on
-pub node_stands : (n : HeapNumbers) (new : NewNode) (id : ℕ) (to : Option ℕ) (place : Place) (from : Link) (t u : Seat SplitNote)
-    → slice_get (heap_of n t).nodes id ≡ Some (node_to_link t.agent (value_of new) (kind_of new) to) → SplitHolds n t.seen
-    → Puts t (event_of t (Move place from (link_to id)) (Some (note_for t.agent new)) ∷ []) u → AllAllowed (SplitMay n) [] u.seen
-    → HasValues (heap_of n u) id (value_of new) (kind_of new)
-node_stands n new id to place from t u node holds p all =
-    let e : Event SplitNote = event_of t (Move place from (link_to id)) (Some (note_for t.agent new)) in
+-- a dummy that was linked has its values from then on
+pub dummy_stands : (n : HeapNumbers) (bucket id : ℕ) (to : Option ℕ) (place : Place) (from : Link) (t u : Seat SplitNote)
+    → slice_get (heap_of n t).nodes id ≡ Some (node_to_link t.agent bucket 0 to) → SplitHolds n t.seen
+    → Puts t (event_of t (Move place from (link_to id)) (Some Bucket) ∷ []) u → AllAllowed (SplitMay n) [] u.seen → IsDummy (heap_of n u) id bucket
+dummy_stands n bucket id to place from t u node holds p all =
+    let e : Event SplitNote = event_of t (Move place from (link_to id)) (Some Bucket) in
     let m = Puts-stood (SplitMay n) t u [] e [] p all in
     let es : List (Event SplitNote) = t.seen ++ m.before in
     let h : Heap = run_heap n es in
     let now = holds_later n t.seen m.before holds m.first in
-    let there = fresh_later n t.agent id (node_to_link t.agent (value_of new) (kind_of new) to) t.seen m.before holds node refl refl refl
+    let there = fresh_later n t.agent id (node_to_link t.agent bucket 0 to) t.seen m.before holds node refl refl refl
     (record { allowed = m.first; others = m.own_before }) in
-    let in_heap = move_links t.agent place from (link_to id) h id (node_to_link t.agent (value_of new) (kind_of new) to) m.here.fits
-    (chain_place_linked split_order h place (on es now new m.here)) refl there refl in
-    let values = value_new h (heap_after t.agent e.act h) id (node_to_link t.agent (value_of new) (kind_of new) to) (value_of new) (kind_of new) in_heap refl refl in
-    let next : HasValues (run_heap n (es ++ e ∷ [])) id (value_of new) (kind_of new) =
-    subst (λ (k : Heap). HasValues k id (value_of new) (kind_of new)) (sym (run_heap-snoc n es e)) values in
-    subst (λ z. HasValues (run_heap n z) id (value_of new) (kind_of new)) (sym m.is)
-    (values_later n (es ++ e ∷ []) m.later id (value_of new) (kind_of new) next m.last)
-  where
-    on : (es : List (Event SplitNote)) → SplitHolds n es → (new : NewNode)
-        → SplitMay n es (event_of t (Move place from (link_to id)) (Some (note_for t.agent new))) → IsChainPlace split_order (run_heap n es) place
-    on es now (Key key) may = place_on_chain split_order (run_heap n es) now.chains (key_place key) place may.may_act.1.links.on_chain
-    on es now (Dummy bucket) may =
-        place_on_chain split_order (run_heap n es) now.chains (dummy_place may.may_act.bucket) place may.may_act.links.on_chain
-
--- so has one that was aimed, and then linked
-pub links_stand : (n : HeapNumbers) (new : NewNode) (noted : SplitNote) (h : Hold) (id : ℕ) (to : Option ℕ) (s t u : Seat SplitNote) (at : At)
-    (from want : Want) (result : Result Bool Spent) → HoldsNode (split_reading n) (value_of new) (kind_of new) h id s
-    → Only (event_of s (Aim id to) None ∷ []) s t → noted ≡ note_for t.agent new → link_in t.slots want ≡ link_to (id_in t.slots h) → SplitHolds n s.seen
-    → SplitHolds n t.seen → AllAllowed (SplitMay n) [] t.seen → AllAllowed (SplitMay n) [] u.seen → to ≢ Some id → result ≡ Ok true
-    → IfOk result (λ done. Swings at from want (Some noted) t done u) → HasValues (heap_of n u) id (value_of new) (kind_of new)
-links_stand n new noted h id to s t u at from want result k o noted_is want_is holds_s holds_t all_t all_u apart is w =
-    let swung : Swings at from want (Some noted) t true u =
-    subst (λ (r : Result Bool Spent). IfOk r (λ done. Swings at from want (Some noted) t done u)) is w in
-    let id_is : id_in t.slots h ≡ id = ap (λ (z : Slots). id_in z h) o.slots ∙ (holds_of s.slots h id k.held).1 in
-    let node = aimed (split_ordering n) (value_of new) (kind_of new) h id to [] s t k o.puts tt holds_s all_t apart in
-    node_stands n new id to (place_in t.slots at) (link_in t.slots from) t u node holds_t
-    (subst (λ (e : Event SplitNote). Puts t (e ∷ []) u) (event_is id_is) (Swings-moved swung refl)) all_u
-  where
-    event_is : id_in t.slots h ≡ id → move_of t at from want (Some noted)
-        ≡ event_of t (Move (place_in t.slots at) (link_in t.slots from) (link_to id)) (Some (note_for t.agent new))
-    event_is id_is = rw (want_is, id_is, noted_is) refl
+    let on = place_on_chain split_order h now.chains (dummy_place m.here.may_act.bucket) place m.here.may_act.links.on_chain in
+    let in_heap = move_links t.agent place from (link_to id) h id (node_to_link t.agent bucket 0 to) m.here.fits
+    (chain_place_linked split_order h place on) refl there refl in
+    let values = value_new h (heap_after t.agent e.act h) id (node_to_link t.agent bucket 0 to) bucket 0 in_heap refl refl in
+    let next : IsDummy (run_heap n (es ++ e ∷ [])) id bucket = subst (λ (k : Heap). IsDummy k id bucket) (sym (run_heap-snoc n es e)) values in
+    subst (λ z. IsDummy (run_heap n z) id bucket) (sym m.is) (values_later n (es ++ e ∷ []) m.later id bucket 0 next m.last)

@@ -1,7 +1,6 @@
 -- What a call tells whose pass saw only its own events.
-use Rattle.std.proofs.Common.{Bool, Err, List, None, Ok, Option, Result, Some, [], ap, append-nil, append_assoc, arith, false, length, refl, subst, suc, sym, true, zero, ℕ, ◌++◌, ◌==◌, ◌∙◌, ◌∷◌, ◌≡◌, ◌≤◌}
+use Rattle.std.proofs.Common.{List, None, Option, Some, [], ap, append-nil, append_assoc, arith, length, refl, subst, suc, sym, true, zero, ℕ, ◌++◌, ◌==◌, ◌∙◌, ◌∷◌, ◌≡◌, ◌≤◌}
 use Rattle.std.specs.Prelude.{min}
-use Rattle.orc_fault.specs.declared.Spent.{Spent as SpentRow}
 use Rattle.orc_heap.proofs.Calls.{part_allowed}
 use Rattle.orc_heap.proofs.Moved.{shown_still}
 use Rattle.std.specs.List.{list_all}
@@ -23,11 +22,9 @@ use Rattle.orc_heap.specs.declared.events.Place.TheVariants.{Root}
 use Rattle.orc_history.specs.SetHistory.{keys_after}
 use Rattle.orc_ordered_search.proofs.Alone.{IsAlone, alone_shows, loads_same}
 use Rattle.orc_ordered_chains.specs.Chains.{IsAbove}
-use Rattle.orc_ordered_search.specs.Inserts.{turn_by}
 use Rattle.orc_ordered_search.specs.Searches.{FindsAbsent, FindsMoved, Quiet, ends_looks, node_of}
 use Rattle.orc_ordered_search.specs.Turns.{AreOver}
 use Rattle.orc_ordered_search.specs.Ways.{IsPast}
-use Rattle.orc_ordered_search.specs.declared.turn.InsertTurn.TheVariants.{Answered}
 use Rattle.orc_split_rule.proofs.Later.{may_fits}
 use Rattle.orc_split_rule.specs.SplitDiscipline.{SplitHolds, SplitMay, entries_of, greatest, set_after, size_by, size_of}
 use Rattle.orc_split_rule.specs.SplitOrder.{bucket_of, key_place, split_order}
@@ -159,8 +156,3 @@ turns_count n key many given turns s t u own o grows counts = λ sees.
     let grew = puts_grow s t own o.made.puts in
     let counted = counts (own_later s t u grew grows o.made.puts.agent sees) in
     subst (λ z. min (length (keys_before n key z)) 9 ≤ many) (own_no_turns n given turns s t own o (own_sooner s t u grew grows sees)) counted
-
-pub turn_passed : (passed : ℕ) (linked : Result Bool SpentRow) (answer : Bool) (many : ℕ) → turn_by passed linked ≡ Answered answer many → many ≡ passed
-turn_passed passed (Ok true) answer many e = cc
-turn_passed passed (Ok false) answer many e = cc
-turn_passed passed (Err why) answer many e = cc

@@ -1,6 +1,6 @@
 -- How few loads a pass makes that saw only its own events.
 use mathlib.Core.List.{IsPrefix}
-use Rattle.std.proofs.Common.{List, None, Option, Some, [], append-nil, append_assoc, ap, arith, inl, inr, length, length-append, subst, suc, sym, zero, refl, ℕ, ◌%◌, ◌*◌, ◌+◌, ◌-◌, ◌++◌, ◌/◌, ◌<◌, ◌^◌, ◌∙◌, ◌∷◌, ◌≡◌, ◌≤◌}
+use Rattle.std.proofs.Common.{List, None, Option, Some, [], append-nil, append_assoc, ap, arith, inl, inr, length, length-append, subst, suc, sym, zero, refl, ℕ, ◌%◌, ◌*◌, ◌+◌, ◌-◌, ◌++◌, ◌/◌, ◌<◌, ◌^◌, ◌∙◌, ◌∷◌, ◌≡◌, ◌≢◌, ◌≤◌}
 use Rattle.std.proofs.Math.Nat.{mod-eq_of_lt}
 use Rattle.std.proofs.Math.Pow.{mod-mod-pow}
 use Rattle.std.proofs.lemmas.List.{append_cancel_left}
@@ -31,6 +31,9 @@ use Rattle.orc_heap.specs.declared.holds.Seen.{Seen}
 use Rattle.orc_ordered_search.specs.Ways.{AreLoads}
 use Rattle.orc_ordered_search.proofs.Alone.{IsAlone, loads_same, search_few, search_few_in_all, walked}
 use Rattle.orc_ordered_search.proofs.Seen.{loads-append}
+use Rattle.orc_ordered_search.specs.Steps.{Finds}
+use Rattle.orc_ordered_search.specs.declared.walk.Searched.{Searched}
+use Rattle.orc_ordered_search.specs.declared.walk.Searched.TheVariants.{Absent, Over, Present}
 use Rattle.orc_split_rule.proofs.Later.{may_fits}
 use Rattle.orc_split_rule.specs.SplitDiscipline.{IsSize, SplitHolds, SplitMay, size_of}
 use Rattle.orc_split_rule.specs.SplitOrder.{bucket_of, key_place, split_order}
@@ -39,7 +42,7 @@ use Rattle.orc_split_rule.specs.declared.split.SplitNote.{SplitNote}
 use Rattle.orc_split_set.specs.Crowds.{SeesOwn}
 use Rattle.orc_split_set.specs.Looks.{HasStart, LoadsFew, MayEnd, ReachesIn, StartsAt, count_of, root_loads, search_loads}
 use Rattle.orc_split_set.specs.SplitSearches.{SizeRead, split_reading}
-use Rattle.orc_split_set.proofs.Crowding.{own_alone, own_heap, own_later, own_no_turns, own_part, own_read, own_shows, own_sooner, own_unmoved, puts_grow}
+use Rattle.orc_split_set.proofs.Crowding.{own_alone, own_heap, own_later, own_no_turns, own_not_moved, own_part, own_read, own_shows, own_sooner, own_unmoved, puts_grow}
 use Rattle.orc_split_set.proofs.Ordered.{split_ordering}
 
 -- what the pass put
@@ -229,6 +232,18 @@ module _ (n : HeapNumbers) (start : Place) (key : ℕ) (s t u : Seat SplitNote) 
   pub present_few : (passed : ℕ) (left first : Option Hold) (node : Hold) (next : Option Hold)
       → FindsPresent (split_reading n) start (key_place key) passed left first node next s t → LoadsFew (search_loads nodes to + 1) s u
   present_few passed left first node next f = searched passed 4 (Some f.id) f.own f.behind.quiet (omega arith) f.visits
+
+-- by what it found
+pub found_few : (n : HeapNumbers) (start : Place) (key : ℕ) (s t u : Seat SplitNote) → SplitHolds n t.seen → AllAllowed (SplitMay n) [] t.seen
+    → IsPrefix t.seen u.seen → (nodes : List ℕ) (to : Option ℕ) → IsPath (heap_of n s) start nodes to → MayEnd (heap_of n s) (key_place key) to
+    → (found : Searched) → Finds (split_reading n) start (key_place key) s found t → (found ≢ Over → LoadsOnce t u)
+    → LoadsFew (search_loads nodes to + 1) s u
+found_few n start key s t u holds all grows nodes to path ends Over f once = λ k.
+    absurd (own_not_moved n s t f.0 (own_sooner s t u (puts_grow s t f.0.own f.0.quiet.puts) grows k))
+found_few n start key s t u holds all grows nodes to path ends (Absent left first right passed) f once =
+    absent_few n start key s t u holds all grows (once_few t u (once (λ e. cc))) nodes to path ends passed left first right f
+found_few n start key s t u holds all grows nodes to path ends (Present left first node next passed) f once =
+    present_few n start key s t u holds all grows (once_few t u (once (λ e. cc))) nodes to path ends passed left first node next f
 
 -- a search that begins where the bucket does
 

@@ -1,45 +1,40 @@
 -- A bucket's dummy is linked, and the bucket's root stays null.
 use mathlib.Core.List.{IsPrefix}
-use Rattle.std.proofs.Common.{Bool, Err, List, None, Ok, Option, Result, Some, [], ap, append-nil, append_assoc, arith, false, inl, inr, length, refl, subst, sym, true, ℕ, ◌++◌, ◌<◌, ◌==◌, ◌∙◌, ◌∷◌, ◌≡◌, ◌≢◌, ◌≤◌, ◌⊎◌}
+use Rattle.std.proofs.Common.{Bool, Err, List, None, Ok, Option, Result, Some, [], ap, append-nil, append_assoc, arith, false, inl, inr, length, refl, subst, sym, true, ℕ, ◌++◌, ◌<◌, ◌==◌, ◌∙◌, ◌∷◌, ◌≡◌, ◌≤◌, ◌⊎◌}
 use Rattle.std.proofs.lemmas.List.{append_cancel_left, length-append}
 use Rattle.std.proofs.lemmas.List.Elements.{filter-append}
 use Rattle.std.specs.List.{slice_get}
-use Rattle.std.specs.Prelude.{IfOk}
 use Rattle.orc_fault.specs.declared.Spent.{Spent as SpentRow}
-use Rattle.orc_heap.proofs.ByAnswer.{Swings-moved}
-use Rattle.orc_heap.proofs.Hands.{holds_of}
 use Rattle.orc_heap.proofs.Moved.{shown_node}
 use Rattle.orc_heap.proofs.OwnParts.{from_own-begun, own_right}
 use Rattle.orc_heap.proofs.Pieces.{own_part_left}
 use Rattle.orc_heap.proofs.Runs.{run_heap-snoc}
 use Rattle.orc_heap.proofs.SingleActs.{some_same}
-use Rattle.orc_heap.proofs.Stays.{allowed-right}
+use Rattle.orc_heap.proofs.Stays.{allowed-left, allowed-right}
 use Rattle.orc_heap.specs.Acts.{heap_after}
 use Rattle.orc_heap.specs.Allowed.{AllAllowed, events_by}
-use Rattle.orc_heap.specs.Calls.{Swings, event_of, move_of}
+use Rattle.orc_heap.specs.Calls.{event_of}
 use Rattle.orc_heap.specs.Heap.{Heap, HeapNumbers, Node, link_to, shown}
 use Rattle.orc_heap.specs.Journals.{run_heap}
 use Rattle.orc_heap.specs.Moves.{AllOwn, from_own}
 use Rattle.orc_heap.specs.OwnEvents.{Only, Puts}
-use Rattle.orc_heap.specs.Seats.{Seat, heap_of, link_in, place_in}
+use Rattle.orc_heap.specs.Seats.{Seat, heap_of}
 use Rattle.orc_heap.specs.Slots.{Hold, Holds, Slots, id_in}
-use Rattle.orc_heap.specs.declared.events.Act.TheVariants.{Aim, Move}
+use Rattle.orc_heap.specs.declared.events.Act.TheVariants.{Move}
 use Rattle.orc_heap.specs.declared.events.Event.{Event}
 use Rattle.orc_heap.specs.declared.events.Link.{Link}
 use Rattle.orc_heap.specs.declared.events.Place.{Place}
 use Rattle.orc_heap.specs.declared.events.Place.TheVariants.{Root}
-use Rattle.orc_heap.specs.declared.holds.At.{At}
-use Rattle.orc_heap.specs.declared.holds.Want.{Want}
-use Rattle.orc_history.specs.declared.set.SetEntry.{SetEntry}
 use Rattle.orc_history.specs.declared.set.SetEntry.TheVariants.{Asked}
 use Rattle.orc_ordered_chains.proofs.Acts.{move_moves}
 use Rattle.orc_ordered_chains.proofs.Paths.{absent, leads_same, place_on_chain}
 use Rattle.orc_ordered_chains.specs.Chains.{MayLink}
-use Rattle.orc_ordered_search.specs.Inserts.{AddsNode, HoldsNode, LinksTo, node_to_link, slots_with, turn_by}
+use Rattle.orc_ordered_search.specs.Entries.{node_to_link}
+use Rattle.orc_ordered_search.specs.Inserts.{AddsNode, LinksAndGoes, slots_with, turn_by}
 use Rattle.orc_ordered_search.specs.Searches.{AllGone, FindsPresent, LetsGo}
 use Rattle.orc_ordered_search.specs.declared.turn.InsertTurn.{InsertTurn}
 use Rattle.orc_ordered_search.specs.declared.turn.InsertTurn.TheVariants.{Answered, NoNode, Over, Spent}
-use Rattle.orc_ordered_search.proofs.Linking.{aimed}
+use Rattle.orc_ordered_search.proofs.Inserting.{seen_holds}
 use Rattle.orc_ordered_search.proofs.Making.{made_on}
 use Rattle.orc_ordered_search.proofs.Parts.{others_alone}
 use Rattle.orc_ordered_search.proofs.Settling.{Did}
@@ -49,15 +44,13 @@ use Rattle.orc_split_rule.specs.SplitOrder.{dummy_place, split_order}
 use Rattle.orc_split_rule.specs.declared.split.SplitNote.{SplitNote}
 use Rattle.orc_split_rule.specs.declared.split.SplitNote.TheVariants.{Bucket}
 use Rattle.orc_split_set.specs.Crowds.{SeesOwn}
-use Rattle.orc_split_set.specs.NewNodes.{IsPossible, kind_of, note_for, value_of}
 use Rattle.orc_split_set.specs.Rootings.{HasNewDummy, IsRootSet, Roots}
 use Rattle.orc_split_set.specs.SplitSearches.{BeginsAt, split_reading}
-use Rattle.orc_split_set.specs.Stops.{HasDummyOnChain, IsUnnamed, StopTells, StopsUnnamed, linked_by}
+use Rattle.orc_split_set.specs.Stops.{HasDummyOnChain, StopTells, StopsUnnamed, linked_by}
 use Rattle.orc_split_set.specs.declared.bucket.Rooted.TheVariants.{Moved, NoNode as RootedNoNode}
-use Rattle.orc_split_set.specs.declared.node.NewNode.{NewNode}
-use Rattle.orc_split_set.specs.declared.node.NewNode.TheVariants.{Dummy, Key}
 use Rattle.orc_split_set.proofs.Crowding.{own_later, own_seen, own_sooner, puts_grow}
 use Rattle.orc_heap.proofs.Pieces.{goes_on}
+use Rattle.orc_split_set.proofs.Anchoring.{dummy_stands}
 use Rattle.orc_split_set.proofs.Ordered.{split_ordering}
 use Rattle.orc_split_set.proofs.Rooting.{dummy_held, found_dummy, let_go_call, missed_roots, refused_roots}
 use Rattle.orc_split_set.proofs.Sizes.{values_puts}
@@ -96,53 +89,52 @@ unset_after n es agent bucket id to place from low high holds there may (x, lead
     unset_before n es bucket place from (link_to id) low high holds
     (subst (λ (z : ℕ). MayLink split_order h place from (link_to id) (dummy_place z)) bucket_is a) moved.at before
 
--- a dummy that was linked with its note is named by no root, if the pass saw only own events
-node_unnamed : (n : HeapNumbers) (new : NewNode) (id : ℕ) (to : Option ℕ) (place : Place) (from : Link) (t u : Seat SplitNote) → IsPossible n new
-    → slice_get (heap_of n t).nodes id ≡ Some (node_to_link t.agent (value_of new) (kind_of new) to) → SplitHolds n t.seen
-    → Puts t (event_of t (Move place from (link_to id)) (Some (note_for t.agent new)) ∷ []) u → AllAllowed (SplitMay n) [] u.seen → SeesOwn t u
-    → IsUnnamed (heap_of n u) new
-node_unnamed n (Key key) id to place from t u possible node holds p all sees = tt
-node_unnamed n (Dummy bucket) id to place from t u (low, high) node holds p all sees = λ set.
+-- a dummy that was linked is named by no root, if the pass saw only own events
+dummy_unnamed : (n : HeapNumbers) (bucket id : ℕ) (to : Option ℕ) (place : Place) (from : Link) (t u : Seat SplitNote) → 1 ≤ bucket → bucket < greatest n
+    → slice_get (heap_of n t).nodes id ≡ Some (node_to_link t.agent bucket 0 to) → SplitHolds n t.seen
+    → Puts t (event_of t (Move place from (link_to id)) (Some Bucket) ∷ []) u → AllAllowed (SplitMay n) [] u.seen → SeesOwn t u
+    → IsRootSet (heap_of n u) bucket → ⊥
+dummy_unnamed n bucket id to place from t u low high node holds p all sees set =
     let e : Event SplitNote = event_of t (Move place from (link_to id)) (Some Bucket) in
     let seen = own_seen t u (e ∷ []) p sees in
     let may = (allowed-right (SplitMay n) [] t.seen (e ∷ []) (subst (λ z. AllAllowed (SplitMay n) [] z) seen all)).0 in
     let here = subst (λ z. IsRootSet (run_heap n z) bucket) seen set in
     unset_after n t.seen t.agent bucket id to place from low high holds node may (subst (λ (h : Heap). IsRootSet h bucket) (run_heap-snoc n t.seen e) here)
 
--- so is one that was aimed, and then linked
-pub links_unnamed : (n : HeapNumbers) (new : NewNode) (noted : SplitNote) (h : Hold) (id : ℕ) (to : Option ℕ) (s t u : Seat SplitNote) (at : At)
-    (from want : Want) (result : Result Bool SpentRow) → IsPossible n new → HoldsNode (split_reading n) (value_of new) (kind_of new) h id s
-    → Only (event_of s (Aim id to) None ∷ []) s t → noted ≡ note_for t.agent new → link_in t.slots want ≡ link_to (id_in t.slots h) → SplitHolds n s.seen
-    → SplitHolds n t.seen → AllAllowed (SplitMay n) [] t.seen → AllAllowed (SplitMay n) [] u.seen → to ≢ Some id → result ≡ Ok true
-    → IfOk result (λ done. Swings at from want (Some noted) t done u) → SeesOwn s u → IsUnnamed (heap_of n u) new
-links_unnamed n new noted h id to s t u at from want result possible k o noted_is want_is holds_s holds_t all_t all_u apart is w sees =
-    let swung : Swings at from want (Some noted) t true u =
-    subst (λ (r : Result Bool SpentRow). IfOk r (λ done. Swings at from want (Some noted) t done u)) is w in
-    let id_is : id_in t.slots h ≡ id = ap (λ (z : Slots). id_in z h) o.slots ∙ (holds_of s.slots h id k.held).1 in
-    let node = aimed (split_ordering n) (value_of new) (kind_of new) h id to [] s t k o.puts tt holds_s all_t apart in
-    let p = subst (λ (e : Event SplitNote). Puts t (e ∷ []) u) (event_is id_is) (Swings-moved swung refl) in
-    let later = own_later s t u (puts_grow s t _ o.puts) (puts_grow t u _ p) o.puts.agent sees in
-    node_unnamed n new id to (place_in t.slots at) (link_in t.slots from) t u possible node holds_t p all_u later
-  where
-    event_is : id_in t.slots h ≡ id → move_of t at from want (Some noted)
-        ≡ event_of t (Move (place_in t.slots at) (link_in t.slots from) (link_to id)) (Some (note_for t.agent new))
-    event_is id_is = rw (want_is, id_is, noted_is) refl
-
 -- what was seen since, without an own event, is nothing, if the pass saw only own events
 nothing_seen : (t u : Seat SplitNote) → Puts t [] u → SeesOwn t u → u.seen ≡ t.seen
 nothing_seen t u p sees = own_seen t u [] p sees ∙ append-nil t.seen
 
-pub still_unnamed : (n : HeapNumbers) (new : NewNode) (s t u : Seat SplitNote) → IsPrefix s.seen t.seen → t.agent ≡ s.agent → Puts t [] u
-    → (SeesOwn s t → IsUnnamed (heap_of n t) new) → SeesOwn s u → IsUnnamed (heap_of n u) new
-still_unnamed n new s t u grows same p unnamed sees =
+pub still_unnamed : (n : HeapNumbers) (bucket : ℕ) (s t u : Seat SplitNote) → IsPrefix s.seen t.seen → t.agent ≡ s.agent → Puts t [] u
+    → (SeesOwn s t → IsRootSet (heap_of n t) bucket → ⊥) → SeesOwn s u → IsRootSet (heap_of n u) bucket → ⊥
+still_unnamed n bucket s t u grows same p unnamed sees set =
     let on = puts_grow t u [] p in
-    subst (λ z. IsUnnamed (run_heap n z) new) (sym (nothing_seen t u p (own_later s t u grows on same sees))) (unnamed (own_sooner s t u grows on sees))
+    unnamed (own_sooner s t u grows on sees)
+    (subst (λ z. IsRootSet (run_heap n z) bucket) (nothing_seen t u p (own_later s t u grows on same sees)) set)
 
-pub linked_agent : (n : HeapNumbers) (value kind : ℕ) (entries : List SetEntry) (h : Hold) (id : ℕ) (place : Place) (link : Link) (s u : Seat SplitNote)
-    (result : Result Bool SpentRow) → LinksTo (split_reading n) value kind entries h id place link s result u → result ≡ Ok true → u.agent ≡ s.agent
-linked_agent n value kind entries h id place link s u (Ok true) l is = l.puts.agent
-linked_agent n value kind entries h id place link s u (Ok false) l is = cc
-linked_agent n value kind entries h id place link s u (Err why) l is = cc
+-- a dummy that was linked, once all else was let go
+module _ (n : HeapNumbers) (bucket id : ℕ) (place : Place) (from : Link) (to : Option ℕ) (slots : Slots) (t u : Seat SplitNote)
+    (k : LinksAndGoes (split_reading n) bucket 0 Bucket id place from to slots t u) (all : AllAllowed (SplitMay n) [] u.seen) where
+  all_linked : AllAllowed (SplitMay n) [] k.linked.seen
+  all_linked = allowed-left (SplitMay n) [] k.linked.seen k.gone.puts.part (subst (λ es. AllAllowed (SplitMay n) [] es) k.gone.puts.is all)
+
+  holds_aimed : SplitHolds n k.links.mid.seen
+  holds_aimed = seen_holds (split_ordering n) k.links.mid k.linked _ k.links.moves all_linked
+
+  pub linked_stands : IsDummy (heap_of n u) id bucket
+  linked_stands =
+      let l = k.links in
+      values_puts n k.linked u [] id bucket 0 k.gone.puts all
+      (dummy_stands n bucket id to place from l.mid k.linked l.node holds_aimed l.moves all_linked)
+
+  pub linked_unnamed : 1 ≤ bucket → bucket < greatest n → SeesOwn t u → IsRootSet (heap_of n u) bucket → ⊥
+  linked_unnamed low high sees set =
+      let l = k.links in
+      let aims = puts_grow t l.mid _ l.aims in
+      let moves = puts_grow l.mid k.linked _ l.moves in
+      still_unnamed n bucket t k.linked u (goes_on t.seen l.mid.seen k.linked.seen aims moves) (l.moves.agent ∙ l.aims.agent) k.gone.puts
+      (λ own. dummy_unnamed n bucket id to place from l.mid k.linked low high l.node holds_aimed l.moves all_linked
+      (own_later t l.mid k.linked aims moves l.aims.agent own)) sees set
 
 -- where no other agent's event stands from the first own one on, the pass saw only own events since that one
 sees_since : (s t u : Seat SplitNote) (own zs : List (Event SplitNote)) (p : Puts s own t) → 1 ≤ length own → (w : Puts s zs u) → IsPrefix t.seen u.seen
@@ -170,7 +162,7 @@ pub turn_stops : (n : HeapNumbers) (bucket passed : ℕ) (left first right : Opt
     (h : HasNewDummy n bucket left first right dummy s t) (result : Result Bool SpentRow)
     → AddsNode (split_reading n) bucket 0 [] dummy h.id 1 (slots_with s.slots (Some dummy) h.id) s result u → LetsGo (Some dummy) u w
     → IsPrefix t.seen u.seen → AllAllowed (SplitMay n) [] w.seen → (result ≡ Ok true → IsDummy (heap_of n u) h.id bucket)
-    → (result ≡ Ok true → SeesOwn t u → IsUnnamed (heap_of n u) (Dummy bucket)) → StopsUnnamed n bucket s (turn_by passed result) w
+    → (result ≡ Ok true → SeesOwn t u → IsRootSet (heap_of n u) bucket → ⊥) → StopsUnnamed n bucket s (turn_by passed result) w
 turn_stops n bucket passed left first right dummy s t u w h (Ok true) a g grows all stands unnamed =
     let p = h.adds.puts in
     let on = goes_on t.seen u.seen w.seen grows (puts_grow u w [] g.puts) in
@@ -181,7 +173,7 @@ turn_stops n bucket passed left first right dummy s t u w h (Ok true) a g grows 
       tells = (
         begun_on s t w h.adds.own a.own p h.adds.some call.made.puts on,
         (h.id, values_puts n u w [] h.id bucket 0 g.puts all (stands refl)),
-        (λ alone. still_unnamed n (Dummy bucket) t u w grows (a.made.puts.agent ∙ sym p.agent) g.puts (unnamed refl)
+        (λ alone. still_unnamed n bucket t u w grows (a.made.puts.agent ∙ sym p.agent) g.puts (unnamed refl)
             (sees_since s t w h.adds.own a.own p h.adds.some call.made.puts on alone)),
       );
     }

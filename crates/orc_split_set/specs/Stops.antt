@@ -14,19 +14,12 @@ use Rattle.orc_split_rule.specs.SplitDiscipline.{IsDummy}
 use Rattle.orc_split_rule.specs.declared.split.SplitNote.{SplitNote}
 use Rattle.orc_split_set.specs.Rootings.{IsRootSet}
 use Rattle.orc_split_set.specs.SplitSearches.{split_reading}
-use Rattle.orc_split_set.specs.declared.node.NewNode.{NewNode}
-use Rattle.orc_split_set.specs.declared.node.NewNode.TheVariants.{Dummy, Key}
 
 -- the bucket's dummy is on the chain
 pub record HasDummyOnChain (h : Heap) (bucket : ℕ) : Type 0 where
   pub id : ℕ
   pub dummy : IsDummy h id bucket
   pub on_chain : IsOnChain h 0 id
-
--- no root names the node, if it is a dummy
-abbrev pub IsUnnamed : Heap → NewNode → Type 0
-IsUnnamed h (Key key) = Unit {0}
-IsUnnamed h (Dummy bucket) = IsRootSet h bucket → ⊥
 
 -- what a try to link a bucket's dummy tells, by what is new. Where the dummy was linked, and no other agent's event stands from the call's
 -- first one on, the bucket's root is null

@@ -1,11 +1,11 @@
-//! Answers whether a key is present.
+//! Answers whether a key is present, and takes it out.
 
 ghost use Rattle.std.specs.Prelude.{◌≡◌, ◌<◌, ◌≤◌, ◌+◌, ◌*◌, ◌-◌, ℕ, Ok, Err, List, Option};
 ghost use mathlib.Core.List.{IsPrefix};
 ghost use Rattle.orc_heap.specs.Seats.{Seat, heap_of};
 ghost use Rattle.orc_heap.specs.declared.events.Place.{Place};
-ghost use Rattle.orc_history.specs.declared.set.SetEntry.{SetEntry};
 ghost use Rattle.orc_ordered_chains.specs.Chains.{IsPath};
+ghost use Rattle.orc_ordered_search.specs.Entries.{entry_by};
 ghost use Rattle.orc_ordered_search.specs.Searches.{HasRoom};
 ghost use Rattle.orc_ordered_search.specs.Turns.{AnswersTurn, AnswersTurns};
 ghost use Rattle.orc_split_rule.specs.SplitDiscipline.{greatest};
@@ -20,15 +20,15 @@ use crate::order::SplitPlace;
 use crate::search::search_for;
 use orc_fault::Again;
 use orc_heap::{Held, Links};
-use orc_history::SetEntry;
-use orc_ordered_search::{Searched, enter_absent, enter_present};
+use orc_ordered_search::{Call, answer_found};
 use orc_split_rule::Split;
 
-// One turn of a question, which begins at the dummy in hand, or else at root 0.
-fn ask_from<L: Links<Rule = Split>>(
+// One turn of a call, which begins at the dummy in hand, or else at root 0.
+fn call_from<L: Links<Rule = Split>>(
     links: &L,
     p: &mut L::Pass,
     key: u64,
+    call: Call,
     left: Option<Held>,
 ) -> Option<bool>
     requires pass { L.belongs links.now p.old }
@@ -37,59 +37,35 @@ fn ask_from<L: Links<Rule = Split>>(
         × BeginsAt (L.numbers links.now) start (key_place key) left s (L.seat links.now p.old) }
     ensures pass { L.belongs links.now p.new }
     ensures later { IsPrefix (L.journal p.old) (L.journal p.new) }
-    ensures asked { (start : Place) (s : Seat SplitNote) → HasRoom s.slots
+    ensures answered { (start : Place) (s : Seat SplitNote) → HasRoom s.slots
         → BeginsAt (L.numbers links.now) start (key_place key) left s (L.seat links.now p.old)
-        → AnswersTurn (split_reading (L.numbers links.now)) (λ answer. SetEntry.Asked s.agent key answer) s result (L.seat links.now p.new) }
-    ensures few { (start : Place) (s : Seat SplitNote) → HasRoom s.slots
+        → AnswersTurn (split_reading (L.numbers links.now)) (λ yes. entry_by call s.agent key yes) s result (L.seat links.now p.new) }
+    ensures few { call ≡ Call.Ask → (start : Place) (s : Seat SplitNote) → HasRoom s.slots
         → BeginsAt (L.numbers links.now) start (key_place key) left s (L.seat links.now p.old)
         → (nodes : List ℕ) (to : Option ℕ) → IsPath (heap_of (L.numbers links.now) s) start nodes to
         → MayEnd (heap_of (L.numbers links.now) s) (key_place key) to → LoadsFew (search_loads nodes to + 1) s (L.seat links.now p.new) }
 {
-    let agent = links.agent(p);
-    match search_for(links, p, NewNode::Key(key), left) {
-        Searched::Over => None,
-        Searched::Absent {
-            left,
-            first,
-            right,
-            passed: _,
-        } => {
-            let yes = false;
-            let entry = SetEntry::Asked { agent, key, yes };
-            if enter_absent::<SplitPlace, L>(links, p, 0, key, left, first, right, entry) {
-                Some(false)
-            } else {
-                None
-            }
-        }
-        Searched::Present {
-            left,
-            first,
-            node,
-            next,
-            passed: _,
-        } => {
-            let yes = true;
-            let entry = SetEntry::Asked { agent, key, yes };
-            if enter_present::<SplitPlace, L>(links, p, key, left, first, node, next, entry) {
-                Some(true)
-            } else {
-                None
-            }
-        }
-    }
+    let found = search_for(links, p, NewNode::Key(key), left);
+    answer_found::<SplitPlace, L>(links, p, 0, key, call, found)
 }
 
-// One turn of a question.
-fn ask_turn<L: Links<Rule = Split>>(links: &L, p: &mut L::Pass, most: u32, key: u64) -> Option<bool>
+// One turn of a call.
+fn call_turn<L: Links<Rule = Split>>(
+    links: &L,
+    p: &mut L::Pass,
+    most: u32,
+    key: u64,
+    call: Call,
+) -> Option<bool>
     requires pass { L.belongs links.now p.old }
     requires most { (most ≡ greatest (L.numbers links.now)) × (1 ≤ most) }
     requires room { HasRoom (L.seat links.now p.old).slots }
     ensures pass { L.belongs links.now p.new }
     ensures later { IsPrefix (L.journal p.old) (L.journal p.new) }
-    ensures asked { AnswersTurn (split_reading (L.numbers links.now)) (λ answer. SetEntry.Asked (L.seat links.now p.old).agent key answer)
+    ensures answered { AnswersTurn (split_reading (L.numbers links.now)) (λ yes. entry_by call (L.seat links.now p.old).agent key yes)
         (L.seat links.now p.old) result (L.seat links.now p.new) }
-    ensures few { HasStart (heap_of (L.numbers links.now) (L.seat links.now p.old)) (bucket_now (L.numbers links.now) key (L.seat links.now p.old))
+    ensures few { call ≡ Call.Ask
+        → HasStart (heap_of (L.numbers links.now) (L.seat links.now p.old)) (bucket_now (L.numbers links.now) key (L.seat links.now p.old))
         → (many : ℕ) → ReachesIn (heap_of (L.numbers links.now) (L.seat links.now p.old))
         (bucket_now (L.numbers links.now) key (L.seat links.now p.old)) (key_place key) many
         → LoadsFew (6 + 4 * many - root_loads (bucket_now (L.numbers links.now) key (L.seat links.now p.old))) (L.seat links.now p.old)
@@ -97,16 +73,17 @@ fn ask_turn<L: Links<Rule = Split>>(links: &L, p: &mut L::Pass, most: u32, key: 
 {
     match begin(links, p, most, key) {
         Begun::Moved => None,
-        Begun::From(left) => ask_from(links, p, key, left),
+        Begun::From(left) => call_from(links, p, key, call, left),
     }
 }
 
 // Answers whether the key is present, in at most so many turns.
-pub(crate) fn ask_turns<L: Links<Rule = Split>>(
+pub(crate) fn call_turns<L: Links<Rule = Split>>(
     links: &L,
     p: &mut L::Pass,
     most: u32,
     key: u64,
+    call: Call,
     turns: u64,
 ) -> Result<bool, Again>
     requires pass { L.belongs links.now p.old }
@@ -114,16 +91,17 @@ pub(crate) fn ask_turns<L: Links<Rule = Split>>(
     requires room { HasRoom (L.seat links.now p.old).slots }
     ensures pass { L.belongs links.now p.new }
     ensures later { IsPrefix (L.journal p.old) (L.journal p.new) }
-    ensures asked { AnswersTurns (split_reading (L.numbers links.now)) (λ answer. SetEntry.Asked (L.seat links.now p.old).agent key answer) turns
+    ensures answered { AnswersTurns (split_reading (L.numbers links.now)) (λ yes. entry_by call (L.seat links.now p.old).agent key yes) turns
         (L.seat links.now p.old) result (L.seat links.now p.new) }
-    ensures few { HasStart (heap_of (L.numbers links.now) (L.seat links.now p.old)) (bucket_now (L.numbers links.now) key (L.seat links.now p.old))
+    ensures few { call ≡ Call.Ask
+        → HasStart (heap_of (L.numbers links.now) (L.seat links.now p.old)) (bucket_now (L.numbers links.now) key (L.seat links.now p.old))
         → (many : ℕ) → ReachesIn (heap_of (L.numbers links.now) (L.seat links.now p.old))
         (bucket_now (L.numbers links.now) key (L.seat links.now p.old)) (key_place key) many
         → LoadsFew (6 + 4 * many - root_loads (bucket_now (L.numbers links.now) key (L.seat links.now p.old))) (L.seat links.now p.old)
         (L.seat links.now p.new) }
 {
     for _ in 0..turns {
-        if let Some(answer) = ask_turn(links, p, most, key) {
+        if let Some(answer) = call_turn(links, p, most, key, call) {
             return Ok(answer);
         }
     }

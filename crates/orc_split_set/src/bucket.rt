@@ -22,14 +22,13 @@ ghost use Rattle.orc_split_set.specs.Rootings.{Anchors, AnchorsAndGoes, HasNewDu
 ghost use Rattle.orc_split_set.specs.SplitSearches.{BeginsAt, split_reading};
 
 use crate::begin::{Begun, begin_near};
-use crate::insert::add_node;
 use crate::node::NewNode;
 use crate::order::SplitPlace;
 use crate::search::search_for;
 use crate::size::read_size;
 use orc_fault::Spent;
 use orc_heap::{At, Held, Links, Looked, Want};
-use orc_ordered_search::{Searched, let_all_go};
+use orc_ordered_search::{Searched, add_node, let_all_go};
 use orc_split_rule::{Split, SplitNote};
 
 /// What came of a root that was to name a node: the dummy of its bucket, or a node of twice the size.
@@ -152,7 +151,8 @@ fn link_dummy<L: Links<Rule = Split>>(
     ensures worn { (why : Spent) → result ≡ Rooted.Spent why → Within (length (L.journal p.old)) (length (L.journal p.new))
         (L.worn links.now (L.seat links.now p.old).agent why (L.journal p.new)) }
 {
-    match add_node(links, p, NewNode::Dummy(bucket), left, first, right, &dummy) {
+    let note = SplitNote::Bucket;
+    match add_node::<SplitPlace, L>(links, p, 0, note, left, first, right, &dummy) {
         Ok(true) => anchor_and_go(links, p, bucket, dummy),
         Ok(false) => {
             links.release(p, dummy);

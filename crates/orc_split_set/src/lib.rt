@@ -8,7 +8,6 @@ mod grow;
 mod insert;
 mod node;
 mod order;
-mod remove;
 mod search;
 mod set;
 mod size;

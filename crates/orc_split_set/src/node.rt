@@ -1,12 +1,10 @@
 //! Nodes that are to be linked.
 
 ghost use Rattle.std.specs.Prelude.{◌≡◌};
-ghost use Rattle.orc_split_set.specs.NewNodes.{kind_of, note_for, place_for, value_of};
+ghost use Rattle.orc_split_set.specs.NewNodes.{kind_of, place_for, value_of};
 ghost use Rattle.orc_split_set.specs.SplitSearches.{rank_of};
 
 use crate::order::SplitPlace;
-use orc_history::SetEntry;
-use orc_split_rule::SplitNote;
 
 /// What a node stands for that is to be linked.
 #[derive(Clone, Copy, Debug, PartialEq, Eq)]
@@ -45,18 +43,5 @@ impl NewNode {
         let value = self.value();
         let has_key = self.kind() == 1;
         SplitPlace { value, has_key }
-    }
-
-    // What this agent says of the Move that links the node.
-    pub(crate) fn note(self, agent: u32) -> SplitNote
-        ensures { result ≡ note_for agent self }
-    {
-        match self {
-            NewNode::Key(key) => {
-                let yes = true;
-                SplitNote::Entry(SetEntry::Added { agent, key, yes })
-            }
-            NewNode::Dummy(_) => SplitNote::Bucket,
-        }
     }
 }

@@ -3,7 +3,7 @@
 ghost use Rattle.std.specs.Prelude.{◌≡◌, ◌≢◌, ◌<◌, true, false};
 ghost use Rattle.orc_split_rule.specs.SplitOrder.{key_place, reversed};
 ghost use Rattle.orc_split_rule.specs.declared.split.SplitNote.{SplitNote};
-ghost use Rattle.orc_split_set.specs.Laws.Entries.{split_allows_absence, split_allows_mark, split_allows_presence, split_allows_unlink, split_enters, split_enters_none};
+ghost use Rattle.orc_split_set.specs.Laws.Entries.{split_allows_absence, split_allows_add, split_allows_aim, split_allows_mark, split_allows_presence, split_allows_unlink, split_enters, split_enters_none};
 ghost use Rattle.orc_split_set.specs.Laws.Ordered.{split_ordered};
 ghost use Rattle.orc_split_set.specs.SplitSearches.{rank_of, split_manner};
 
@@ -69,6 +69,8 @@ impl SetRank for SplitPlace {
 
     ghost unlinking = { SplitNote.Unlink };
 
+    ghost key_kind = { 1 };
+
     #[inline(always)]
     fn note(entry: SetEntry) -> SplitNote {
         SplitNote::Entry(entry)
@@ -79,15 +81,24 @@ impl SetRank for SplitPlace {
         SplitNote::Unlink
     }
 
+    #[inline(always)]
+    fn kind_of_keys() -> u64 {
+        1
+    }
+
     ghost enters = { split_enters };
 
     ghost enters_none = { split_enters_none };
+
+    ghost allows_aim = { split_allows_aim };
 
     ghost allows_absence = { split_allows_absence };
 
     ghost allows_presence = { split_allows_presence };
 
     ghost allows_mark = { split_allows_mark };
+
+    ghost allows_add = { split_allows_add };
 
     ghost allows_unlink = { split_allows_unlink };
 }

@@ -12,16 +12,16 @@ ghost use Rattle.orc_split_set.specs.Rootings.{IsRootSet};
 ghost use Rattle.orc_split_set.specs.Stops.{HasDummyOnChain};
 ghost use Rattle.orc_split_set.specs.Laws.SetLaws.{cause_stays, entries_below, history_grows, seen_legal};
 
-use crate::answer::ask_turns;
+use crate::answer::call_turns;
 use crate::bucket::prepare;
 use crate::grow::grow_after;
 use crate::insert::{answer_of, insert_key};
-use crate::remove::remove_turns;
 use crate::size::size_turns;
 use crate::stop::{has_linked, stop_a_bucket};
 use orc_fault::{Again, Spent};
 use orc_heap::Links;
 use orc_history::{LearnSet, ListRefused, SharedSet};
+use orc_ordered_search::Call;
 use orc_split_rule::Split;
 
 /// A set of numbers that agents share, over a domain of links: one chain from root 0, in split order, and a root for each bucket
@@ -223,7 +223,7 @@ impl<L: Links<Rule = Split>> SharedSet for SplitSet<L> {
         ensures settled { IsCallAlone L.Links self.now.links p.old p.new → L.backlog p.new ≡ 0 }
     {
         let _rooted = prepare(&self.links, p, self.greatest, key, turns);
-        let answer = remove_turns(&self.links, p, self.greatest, key, turns);
+        let answer = call_turns(&self.links, p, self.greatest, key, Call::Remove, turns);
         self.links.settle(p);
         answer
     }
@@ -246,7 +246,7 @@ impl<L: Links<Rule = Split>> SharedSet for SplitSet<L> {
         ensures settled { IsCallAlone L.Links self.now.links p.old p.new → L.backlog p.new ≡ 0 }
     {
         let _rooted = prepare(&self.links, p, self.greatest, key, turns);
-        let answer = ask_turns(&self.links, p, self.greatest, key, turns);
+        let answer = call_turns(&self.links, p, self.greatest, key, Call::Ask, turns);
         self.links.settle(p);
         answer
     }

@@ -16,13 +16,12 @@ ghost use Rattle.orc_split_rule.specs.declared.split.SplitNote.{SplitNote};
 ghost use Rattle.orc_split_set.specs.SplitSearches.{split_reading};
 ghost use Rattle.orc_split_set.specs.Stops.{StopsUnnamed, linked_by};
 
-use crate::insert::{add_node, turn_of};
 use crate::node::NewNode;
 use crate::order::SplitPlace;
 use crate::search::search_for;
 use orc_heap::{Held, Links};
-use orc_ordered_search::{InsertTurn, Searched, let_all_go};
-use orc_split_rule::Split;
+use orc_ordered_search::{InsertTurn, Searched, add_node, let_all_go, turn_of};
+use orc_split_rule::{Split, SplitNote};
 
 // Links a new dummy where a search found its place, and lets it go.
 fn add_and_stop<L: Links<Rule = Split>>(
@@ -50,7 +49,8 @@ fn add_and_stop<L: Links<Rule = Split>>(
 {
     match links.give(p, 1, u64::from(bucket), 0) {
         Ok(dummy) => {
-            let linked = add_node(links, p, NewNode::Dummy(bucket), left, first, right, &dummy);
+            let note = SplitNote::Bucket;
+            let linked = add_node::<SplitPlace, L>(links, p, 0, note, left, first, right, &dummy);
             links.release(p, dummy);
             turn_of(passed, linked)
         }

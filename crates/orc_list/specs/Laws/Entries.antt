@@ -9,13 +9,13 @@ use Rattle.orc_heap.specs.declared.events.Link.{Link}
 use Rattle.orc_heap.specs.declared.events.Place.{Place}
 use Rattle.orc_heap.specs.declared.events.Place.TheVariants.{Next, Root, Side}
 use Rattle.orc_history.specs.declared.set.SetEntry.{SetEntry}
-use Rattle.orc_chain_rule.proofs.Coming.{added_present_allowed, asked_absent_allowed, asked_present_allowed, removed_absent_allowed, removed_allowed, unlink_allowed}
+use Rattle.orc_chain_rule.proofs.Coming.{added_allowed, added_present_allowed, asked_absent_allowed, asked_present_allowed, removed_absent_allowed, removed_allowed, unlink_allowed}
 use Rattle.orc_chain_rule.specs.declared.chain.ChainNote.{ChainNote}
 use Rattle.orc_chain_rule.specs.declared.chain.ChainNote.TheVariants.{Entry, Unlink}
 use Rattle.orc_ordered_chains.specs.Chains.{IsChainPlace as IsRankedPlace, IsRun}
 use Rattle.orc_chain_rule.specs.ChainDiscipline.{ChainHolds, ChainMay, FollowsOn, HasKey, IsAbove, IsChainPlace, chain_order}
 use Rattle.orc_chain_rule.specs.Laws.Kinds.{key_linked}
-use Rattle.orc_ordered_search.specs.Entries.{AllowsAbsence, AllowsMark, AllowsPresence, AllowsUnlink, IsAbsence, IsPresence}
+use Rattle.orc_ordered_search.specs.Entries.{AllowsAbsence, AllowsAdd, AllowsAim, AllowsMark, AllowsPresence, AllowsUnlink, IsAbsence, IsPresence}
 use Rattle.orc_list.specs.Searches.{list_manner, list_reading}
 
 pub list_enters : (n : HeapNumbers) (entry : SetEntry) → (list_manner n).entries_in (Some (Entry entry)) ≡ entry ∷ []
@@ -65,3 +65,10 @@ chain_place roots h (Side id) on = on
 pub list_allows_unlink : (n : HeapNumbers) → AllowsUnlink (list_reading n) (ChainHolds n) (ChainMay n) Unlink
 list_allows_unlink n = λ agent place from first others to seen holds on plain run.
     unlink_allowed n agent place from first others to seen holds (chain_place n.roots (run_heap n seen) place on) plain run
+
+pub list_allows_aim : (n : HeapNumbers) → AllowsAim n (ChainMay n)
+list_allows_aim n = λ agent id to es fits. record { fits = fits; may_act = refl; own = tt }
+
+pub list_allows_add : (n : HeapNumbers) → AllowsAdd (list_reading n) (ChainHolds n) (ChainMay n) (λ key. key) (λ entry. Entry entry) 0
+list_allows_add n = λ agent key place from over to id seen holds below plain run above there.
+    added_allowed n agent place from over to key 0 id seen holds below plain run above there

@@ -9,8 +9,8 @@ use Rattle.orc_heap.specs.declared.events.Link.{Link}
 use Rattle.orc_heap.specs.declared.events.Place.{Place}
 use Rattle.orc_heap.specs.declared.events.Place.TheVariants.{Next}
 use Rattle.orc_history.specs.declared.set.SetEntry.{SetEntry}
-use Rattle.orc_ordered_search.specs.Entries.{AllowsAbsence, AllowsMark, AllowsPresence, AllowsUnlink, IsAbsence, IsPresence}
-use Rattle.orc_split_rule.proofs.Coming.{added_present_allowed, asked_absent_allowed, asked_present_allowed, removed_absent_allowed, removed_allowed, unlink_allowed}
+use Rattle.orc_ordered_search.specs.Entries.{AllowsAbsence, AllowsAdd, AllowsAim, AllowsMark, AllowsPresence, AllowsUnlink, IsAbsence, IsPresence}
+use Rattle.orc_split_rule.proofs.Coming.{added_allowed, added_present_allowed, asked_absent_allowed, asked_present_allowed, removed_absent_allowed, removed_allowed, unlink_allowed}
 use Rattle.orc_split_rule.specs.SplitDiscipline.{HasKey, SplitHolds, SplitMay}
 use Rattle.orc_split_rule.specs.SplitOrder.{key_place}
 use Rattle.orc_split_rule.specs.Watches.{LeavesOut}
@@ -60,3 +60,10 @@ split_allows_mark n = λ agent id key link seen holds own plain.
 pub split_allows_unlink : (n : HeapNumbers) → AllowsUnlink (split_reading n) (SplitHolds n) (SplitMay n) Unlink
 split_allows_unlink n = λ agent place from first others to seen holds on plain run.
     unlink_allowed n agent place from first others to seen holds on plain run
+
+pub split_allows_aim : (n : HeapNumbers) → AllowsAim n (SplitMay n)
+split_allows_aim n = λ agent id to es fits. record { fits = fits; may_act = refl; own = tt }
+
+pub split_allows_add : (n : HeapNumbers) → AllowsAdd (split_reading n) (SplitHolds n) (SplitMay n) key_place (λ entry. Entry entry) 1
+split_allows_add n = λ agent key place from over to id seen holds below plain run above there.
+    added_allowed n agent place from over to key id seen holds (record { below = below; unmarked = plain; run = run; above = above }) there

@@ -1,74 +1,86 @@
 -- By what the search found.
-use Rattle.std.proofs.Common.{Bool, false, subst, true, ℕ, ◌∙◌}
-use Rattle.orc_history.specs.declared.set.SetEntry.TheVariants.{Added}
-use Rattle.orc_list.specs.Turns.{Enters}
-use Rattle.orc_heap.specs.declared.events.Place.TheVariants.{Root}
-use Rattle.orc_list.proofs.Answering.{list_entered}
-use Rattle.orc_list.proofs.Adding.{keeps_answer, keeps_on}
-use Rattle.orc_ordered_search.proofs.Inserting.{has_room}
-use Rattle.orc_list.proofs.Making.{found_over}
 use Rattle.orc_heap.proofs.Parting.{part_of_later}
+use Rattle.orc_heap.specs.Slots.{Slots}
+use Rattle.orc_heap.specs.declared.events.Place.TheVariants.{Root}
+use Rattle.orc_ordered_search.specs.Inserts.{HasRoomFor, KeepsNode, Sought}
+use Rattle.orc_ordered_search.proofs.Inserting.{has_room}
+use Rattle.orc_ordered_search.proofs.Seeking.{found_quiet}
 use Rattle.orc_list.specs.Searches.{list_reading}
+use Rattle.orc_list.proofs.Adding.{found_leaves}
+use Rattle.orc_list.proofs.Making.{few_turn}
+use Rattle.orc_list.proofs.insert.insert_turn.Given.{Over}
+use Rattle.orc_list.proofs.insert.insert_turn.Goals.{After-search-found}
 use Rattle.orc_list.proofs.insert.insert_turn.Goals as goal
 
-pub search-requires-clause-room : goal.search-requires-clause-room
-search-requires-clause-room g c =
+-- the search was one with the node in hand
+abbrev sought : (g : Over) (c : After-search-found g) → let d = c.args.links.now in let n = g.L.Links.numbers d in (slots : Slots) → HasRoomFor slots
+    → KeepsNode (list_reading n) c.args.key 0 c.args.node slots (g.L.Links.seat d c.args.p.now)
+    → Sought (list_reading n) c.args.key c.args.key 0 c.args.node c.search-found.result (g.L.Links.seat d c.search-found.new.p)
+sought g c = λ slots room k. record {
+  start = Root c.args.root;
+  slots = slots;
+  begun = g.L.Links.seat c.args.links.now c.args.p.now;
+  room = room;
+  keeps = k;
+  finds = c.search-found.ensures.found;
+}
+
+pub search-found-requires-clause-room : goal.search-found-requires-clause-room
+search-found-requires-clause-room g c =
     let d = c.args.links.now in
     let (slots, room, k) = c.requires.keeps in
     has_room (list_reading (g.L.Links.numbers d)) c.args.key 0 c.args.node slots (g.L.Links.seat d c.args.p.now) room k
 
-pub returns-in-Over-clause-inserted : goal.returns-in-Over-clause-inserted
-returns-in-Over-clause-inserted g c = λ slots room k.
+pub insert_found-requires-clause-sought : goal.insert_found-requires-clause-sought
+insert_found-requires-clause-sought g c =
+    let (slots, room, k) = c.requires.keeps in
+    sought g (goal.at.insert_found-requires-clause-sought g c).After-search-found slots room k
+
+pub returns-clause-inserted : goal.returns-clause-inserted
+returns-clause-inserted g c = λ slots room k.
+    c.insert_found.ensures.inserted (sought g (goal.at.returns-clause-inserted g c).After-search-found slots room k)
+
+pub returns-clause-few : goal.returns-clause-few
+returns-clause-few g c =
+    let d = c.args.links.now in
+    let (slots, room, k) = c.requires.keeps in
+    few_turn (g.L.Links.seat d c.args.p.now) (g.L.Links.seat d c.insert_found.new.p)
+    (c.insert_found.ensures.few (sought g (goal.at.returns-clause-few g c).After-search-found slots room k))
+
+pub returns-clause-off : goal.returns-clause-off
+returns-clause-off g c = λ many is.
     let d = c.args.links.now in
     let n = g.L.Links.numbers d in
-    let a = c.args in
-    let s = g.L.Links.seat d a.p.now in
-    let t = g.L.Links.seat d c.search.new.p in
-    let e = c.in-Over.ensures in
-    keeps_on n a.key a.node slots s t k (found_over n s t e.found) (g.met.L.Links.obeys d a.p.now c.requires.pass)
-    (g.met.L.Links.allowed d c.search.new.p e.pass)
+    let s = g.L.Links.seat d c.args.p.now in
+    let t = g.L.Links.seat d c.search-found.new.p in
+    let u = g.L.Links.seat d c.insert_found.new.p in
+    let (slots, room, k) = c.requires.keeps in
+    let e = c.insert_found.ensures in
+    let q = found_quiet (list_reading n) (Root c.args.root) c.args.key s c.search-found.result t c.search-found.ensures.found in
+    found_leaves n (Root c.args.root) c.args.key t.agent c.search-found.result many s u q.1.puts.agent
+    (e.added (sought g (goal.at.returns-clause-off g c).After-search-found slots room k) many is) (g.met.L.Links.allowed d c.insert_found.new.p e.pass)
 
-pub returns-in-Absent-clause-lacking : goal.returns-in-Absent-clause-lacking
-returns-in-Absent-clause-lacking g c = λ is.
+pub returns-clause-absent : goal.returns-clause-absent
+returns-clause-absent g c = λ is.
+    let (slots, room, k) = c.requires.keeps in
+    c.insert_found.ensures.absent (sought g (goal.at.returns-clause-absent g c).After-search-found slots room k) is
+
+pub returns-clause-lacking : goal.returns-clause-lacking
+returns-clause-lacking g c = λ is.
     let d = c.args.links.now in
-    let e = c.in-Absent.ensures in
-    let q = e.found.behind.quiet in
-    part_of_later g.L.Links g.met.L.Links.steps_add g.met.L.Links.seen_is d c.args.p.now c.search.new.p c.add_at.new.p _ c.requires.pass e.pass q.puts q.some
-    e.later c.add_at.ensures.later (g.L.Links.lacking d) (c.add_at.ensures.lacking is)
+    let e = c.search-found.ensures in
+    let f = c.insert_found.ensures in
+    let q = found_quiet (list_reading (g.L.Links.numbers d)) (Root c.args.root) c.args.key (g.L.Links.seat d c.args.p.now) c.search-found.result
+    (g.L.Links.seat d c.search-found.new.p) e.found in
+    part_of_later g.L.Links g.met.L.Links.steps_add g.met.L.Links.seen_is d c.args.p.now c.search-found.new.p c.insert_found.new.p q.0 c.requires.pass e.pass
+    q.1.puts q.1.some e.later f.later (g.L.Links.lacking d) (f.lacking is)
 
-pub returns-in-Absent-clause-worn : goal.returns-in-Absent-clause-worn
-returns-in-Absent-clause-worn g c = λ why is.
+pub returns-clause-worn : goal.returns-clause-worn
+returns-clause-worn g c = λ why is.
     let d = c.args.links.now in
-    let e = c.in-Absent.ensures in
-    let q = e.found.behind.quiet in
-    part_of_later g.L.Links g.met.L.Links.steps_add g.met.L.Links.seen_is d c.args.p.now c.search.new.p c.add_at.new.p _ c.requires.pass e.pass q.puts q.some
-    e.later c.add_at.ensures.later (λ agent. g.L.Links.worn d agent why) (c.add_at.ensures.worn why is)
-
-pub enter_present-requires-clause-present : goal.enter_present-requires-clause-present
-enter_present-requires-clause-present g c = (Root c.args.root, 0, g.L.Links.seat c.args.links.now c.args.p.now, c.in-Present.ensures.found)
-
-pub returns-then-enter_present-clause-inserted : goal.returns-then-enter_present-clause-inserted
-returns-then-enter_present-clause-inserted g c = λ slots room k.
-    let d = c.args.links.now in
-    let n = g.L.Links.numbers d in
-    let a = c.args in
-    let s = g.L.Links.seat d a.p.now in
-    let u = g.L.Links.seat d c.enter_present.new.p in
-    let agent = c.agent-agent.ensures ∙ c.in-Present.ensures.found.behind.quiet.puts.agent in
-    let done = subst (λ (b : Bool). Enters (Added c.agent-agent.result a.key false) s b u) c.if-enter_present.true
-    (list_entered n _ s u _ (c.enter_present.ensures.entered (Root a.root) 0 s c.in-Present.ensures.found)) in
-    let (own, ends) = keeps_answer n a.key a.node slots (Added s.agent a.key false) s u k
-    (subst (λ (x : ℕ). Enters (Added x a.key false) s true u) agent done) in
-    (own, ends, λ yes. cc)
-
-pub returns-else-enter_present-clause-inserted : goal.returns-else-enter_present-clause-inserted
-returns-else-enter_present-clause-inserted g c = λ slots room k.
-    let d = c.args.links.now in
-    let n = g.L.Links.numbers d in
-    let a = c.args in
-    let s = g.L.Links.seat d a.p.now in
-    let u = g.L.Links.seat d c.enter_present.new.p in
-    let e = c.enter_present.ensures in
-    let over = subst (λ (b : Bool). Enters (Added c.agent-agent.result a.key false) s b u) c.if-enter_present.false
-    (list_entered n _ s u _ (e.entered (Root a.root) 0 s c.in-Present.ensures.found)) in
-    keeps_on n a.key a.node slots s u k over (g.met.L.Links.obeys d a.p.now c.requires.pass) (g.met.L.Links.allowed d c.enter_present.new.p e.pass)
+    let e = c.search-found.ensures in
+    let f = c.insert_found.ensures in
+    let q = found_quiet (list_reading (g.L.Links.numbers d)) (Root c.args.root) c.args.key (g.L.Links.seat d c.args.p.now) c.search-found.result
+    (g.L.Links.seat d c.search-found.new.p) e.found in
+    part_of_later g.L.Links g.met.L.Links.steps_add g.met.L.Links.seen_is d c.args.p.now c.search-found.new.p c.insert_found.new.p q.0 c.requires.pass e.pass
+    q.1.puts q.1.some e.later f.later (λ agent. g.L.Links.worn d agent why) (f.worn why is)

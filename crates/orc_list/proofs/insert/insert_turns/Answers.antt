@@ -1,10 +1,20 @@
 -- One turn after another, until one answers.
-use Rattle.std.proofs.Common.{[], append-nil, arith, subst, ℕ, None, ◌≡◌}
-use Rattle.orc_heap.proofs.Pieces.{goes_on}
-use Rattle.orc_list.specs.Inserts.{Inserts, InsertsOn}
-use Rattle.orc_list.specs.declared.insert.InsertTurn.{InsertTurn}
-use Rattle.orc_list.proofs.Inserting.{inserts_done, inserts_next, inserts_none}
+use Rattle.std.proofs.Common.{List, [], append-nil, arith, subst, ℕ, None, ◌+◌, ◌≡◌}
 use Rattle.orc_heap.proofs.Parting.{part_of_next}
+use Rattle.orc_heap.proofs.Pieces.{goes_on}
+use Rattle.orc_heap.specs.OwnEvents.{Puts}
+use Rattle.orc_heap.specs.declared.events.Event.{Event}
+use Rattle.orc_history.specs.declared.set.SetEntry.TheVariants.{Added}
+use Rattle.orc_chain_rule.specs.declared.chain.ChainNote.{ChainNote}
+use Rattle.orc_ordered_search.specs.Inserts.{Inserts, InsertsOn}
+use Rattle.orc_ordered_search.specs.declared.turn.InsertTurn.{InsertTurn}
+use Rattle.orc_ordered_search.proofs.Inserting.{inserts_done, inserts_next, inserts_none}
+use Rattle.orc_list.specs.Searches.{list_reading}
+use Rattle.orc_list.specs.Turns.{MadeFew}
+use Rattle.orc_list.proofs.Inserting.{absent_next, inserts_puts, leaves_next}
+use Rattle.orc_list.proofs.Making.{made_most, made_next, made_none}
+use Rattle.orc_list.proofs.insert.insert_turns.Given.{Over}
+use Rattle.orc_list.proofs.insert.insert_turns.Goals.{In_default}
 use Rattle.orc_list.proofs.insert.insert_turns.Goals as goal
 
 pub loop-init : goal.loop-init
@@ -13,8 +23,8 @@ loop-init g c =
     record {
       pass = c.requires.pass;
       later = ([], append-nil _);
-      on = inserts_none (g.L.Links.numbers d) c.args.key (g.L.Links.seat d c.args.p.now)
-          c.requires.fresh;
+      on = inserts_none (list_reading (g.L.Links.numbers d)) c.args.key 0 (g.L.Links.seat d c.args.p.now) c.requires.fresh;
+      few = made_none (g.L.Links.seat d c.args.p.now);
     }
 
 pub insert_turn-turn-requires-clause-keeps : goal.insert_turn-turn-requires-clause-keeps
@@ -32,21 +42,67 @@ loop-preserved g c =
     let i = c.loop.invariant in
     let e = c.insert_turn-turn.ensures in
     let kept = c.insert_turn-turn.result.1 in
-    let over = subst (λ (turn : InsertTurn). Inserts n c.args.key 1 s.slots c.loop.node t turn kept u) c.in-Over.is
-    (e.inserted s.slots c.requires.room i.on.keeps) in
-    record { pass = e.pass; later = goes_on _ _ _ i.later e.later; on = inserts_next n c.args.key c.loop.counter c.loop.node kept s t u i.on over }
+    let over = subst (λ (turn : InsertTurn). Inserts (list_reading n) c.args.key 0 (λ yes. Added t.agent c.args.key yes) 1 s.slots c.loop.node t turn kept u)
+    c.in-Over.is (e.inserted s.slots c.requires.room i.on.keeps) in
+    record {
+      pass = e.pass;
+      later = goes_on _ _ _ i.later e.later;
+      on = inserts_next (list_reading n) c.args.key 0 c.loop.counter c.loop.node kept s t u i.on over;
+      few = made_next c.loop.counter s t u i.on.own over.own i.on.over.made.puts over.over.made.puts i.few e.few;
+    }
+
+-- what the last turn made
+last : (g : Over) (c : In_default g) → let d = c.args.links.now in
+    (own : List (Event ChainNote)) × Puts (g.L.Links.seat d c.loop.p) own (g.L.Links.seat d c.insert_turn-turn.new.p)
+last g c =
+    let d = c.args.links.now in
+    let t = g.L.Links.seat d c.loop.p in
+    let s = g.L.Links.seat d c.args.p.now in
+    inserts_puts (g.L.Links.numbers d) c.args.key 1 (λ yes. Added t.agent c.args.key yes) s.slots c.loop.node c.insert_turn-turn.result.1 t
+    (g.L.Links.seat d c.insert_turn-turn.new.p) c.insert_turn-turn.result.0
+    (c.insert_turn-turn.ensures.inserted s.slots c.requires.room c.loop.invariant.on.keeps)
 
 pub returns-in_default-clause-inserted : goal.returns-in_default-clause-inserted
 returns-in_default-clause-inserted g c =
     let d = c.args.links.now in
-    let n = g.L.Links.numbers d in
+    let r = list_reading (g.L.Links.numbers d) in
     let s = g.L.Links.seat d c.args.p.now in
     let t = g.L.Links.seat d c.loop.p in
     let u = g.L.Links.seat d c.insert_turn-turn.new.p in
     let i = c.loop.invariant in
-    let e = c.insert_turn-turn.ensures in
-    inserts_done n c.args.key c.loop.counter c.loop.node c.insert_turn-turn.result.1 s t u i.on c.args.turns c.insert_turn-turn.result.0
-    (e.inserted s.slots c.requires.room i.on.keeps) c.in_default.not-Over (omega (arith, c.loop-test.true))
+    let kept = c.insert_turn-turn.result.1 in
+    let turn = c.insert_turn-turn.result.0 in
+    let here = subst (λ (x : ℕ). Inserts r c.args.key 0 (λ yes. Added x c.args.key yes) 1 s.slots c.loop.node t turn kept u) i.on.over.made.puts.agent
+    (c.insert_turn-turn.ensures.inserted s.slots c.requires.room i.on.keeps) in
+    inserts_done r c.args.key 0 c.loop.counter c.loop.node kept s t u i.on (λ yes. Added s.agent c.args.key yes) c.args.turns turn here c.in_default.not-Over
+    (omega (arith, c.loop-test.true))
+
+pub returns-in_default-clause-few : goal.returns-in_default-clause-few
+returns-in_default-clause-few g c =
+    let d = c.args.links.now in
+    let s = g.L.Links.seat d c.args.p.now in
+    let t = g.L.Links.seat d c.loop.p in
+    let u = g.L.Links.seat d c.insert_turn-turn.new.p in
+    let i = c.loop.invariant in
+    let (own, puts) = last g (goal.at.returns-in_default-clause-few g c).In_default in
+    made_most (c.loop.counter + 1) c.args.turns s u
+    (made_next c.loop.counter s t u i.on.own own i.on.over.made.puts puts i.few c.insert_turn-turn.ensures.few) (omega (arith, c.loop-test.true))
+
+pub returns-in_default-clause-off : goal.returns-in_default-clause-off
+returns-in_default-clause-off g c = λ many is.
+    let d = c.args.links.now in
+    let i = c.loop.invariant in
+    let (own, puts) = last g (goal.at.returns-in_default-clause-off g c).In_default in
+    leaves_next (g.L.Links.numbers d) c.args.key (g.L.Links.seat d c.args.p.now) (g.L.Links.seat d c.loop.p) (g.L.Links.seat d c.insert_turn-turn.new.p)
+    i.on.own i.on.over.made.puts own puts (c.insert_turn-turn.ensures.off many is)
+
+pub returns-in_default-clause-absent : goal.returns-in_default-clause-absent
+returns-in_default-clause-absent g c = λ is.
+    let d = c.args.links.now in
+    let i = c.loop.invariant in
+    let (own, puts) = last g (goal.at.returns-in_default-clause-absent g c).In_default in
+    absent_next (g.L.Links.numbers d) c.args.key (g.L.Links.seat d c.args.p.now) (g.L.Links.seat d c.loop.p) (g.L.Links.seat d c.insert_turn-turn.new.p)
+    i.on.own i.on.over.made.puts own puts (c.insert_turn-turn.ensures.absent is)
 
 pub returns-in_default-clause-lacking : goal.returns-in_default-clause-lacking
 returns-in_default-clause-lacking g c = λ is.
@@ -68,4 +124,11 @@ returns-clause-inserted g c =
     let d = c.args.links.now in
     let s = g.L.Links.seat d c.args.p.now in
     let all : c.loop.counter ≡ c.args.turns = omega (arith, c.loop-test.false, c.loop.auto.counter-end) in
-    subst (λ (k : ℕ). InsertsOn (g.L.Links.numbers d) c.args.key k s.slots None c.loop.node s (g.L.Links.seat d c.loop.p)) all c.loop.invariant.on
+    subst (λ (k : ℕ). InsertsOn (list_reading (g.L.Links.numbers d)) c.args.key 0 k s.slots None c.loop.node s (g.L.Links.seat d c.loop.p)) all
+    c.loop.invariant.on
+
+pub returns-clause-few : goal.returns-clause-few
+returns-clause-few g c =
+    let d = c.args.links.now in
+    let all : c.loop.counter ≡ c.args.turns = omega (arith, c.loop-test.false, c.loop.auto.counter-end) in
+    subst (λ (k : ℕ). MadeFew k (g.L.Links.seat d c.args.p.now) (g.L.Links.seat d c.loop.p)) all c.loop.invariant.few

@@ -2,7 +2,7 @@
 use Rattle.std.proofs.Common.{[], append-nil, refl, sym}
 use Rattle.orc_heap.specs.OwnEvents.{Puts}
 use Rattle.orc_ordered_search.proofs.Held.{absent_hand}
-use Rattle.orc_list.proofs.Adding.{sees_absent}
+use Rattle.orc_ordered_search.proofs.Adding.{absent_sees}
 use Rattle.orc_list.proofs.Removing.{not_alone, quiet_stops}
 use Rattle.orc_list.proofs.Ordered.{list_ordering}
 use Rattle.orc_heap.specs.declared.events.Place.TheVariants.{Root}
@@ -13,7 +13,10 @@ let_all_go-requires-clause-hands g c =
     let d = c.args.links.now in
     let s = g.L.Links.seat d c.args.p.now in
     let t = g.L.Links.seat d c.search.new.p in
-    (s.slots, absent_hand (list_ordering (g.L.Links.numbers d)) (Root c.args.root) c.args.key 0 c.in-Absent.left c.in-Absent.first s t c.in-Absent.right c.in-Absent.ensures.found)
+    (s.slots, absent_hand (list_ordering (g.L.Links.numbers d)) (Root c.args.root) c.args.key c.in-Absent.passed c.in-Absent.left c.in-Absent.first s t c.in-Absent.right c.in-Absent.ensures.found)
+
+pub mark_and_go-requires-clause-present : goal.mark_and_go-requires-clause-present
+mark_and_go-requires-clause-present g c = (c.in-Present.passed, g.L.Links.seat c.args.links.now c.args.p.now, c.in-Present.ensures.found)
 
 pub returns-in-Over-clause-stopped : goal.returns-in-Over-clause-stopped
 returns-in-Over-clause-stopped g c =
@@ -32,12 +35,13 @@ returns-in-Absent-clause-stopped g c =
     let t = g.L.Links.seat d c.search.new.p in
     let y = g.L.Links.seat d c.let_all_go.new.p in
     let found = c.in-Absent.ensures.found in
-    let gone = c.let_all_go.ensures.gone s.slots (absent_hand (list_ordering (g.L.Links.numbers d)) (Root c.args.root) c.args.key 0 c.in-Absent.left c.in-Absent.first s t
+    let gone = c.let_all_go.ensures.gone s.slots (absent_hand (list_ordering (g.L.Links.numbers d)) (Root c.args.root) c.args.key c.in-Absent.passed c.in-Absent.left c.in-Absent.first s t
     c.in-Absent.right found) in
     quiet_stops (g.L.Links.numbers d) c.args.key s t y found.own found.behind.quiet gone.puts gone.slots_are gone.fresh
-    (λ w alone. sees_absent found y gone.puts (g.met.L.Links.allowed d c.let_all_go.new.p c.let_all_go.ensures.pass))
+    (λ w alone. absent_sees (list_ordering (g.L.Links.numbers d)) (Root c.args.root) c.args.key c.in-Absent.passed c.in-Absent.left c.in-Absent.first
+    c.in-Absent.right s t y found gone.puts (g.met.L.Links.allowed d c.let_all_go.new.p c.let_all_go.ensures.pass))
 
 pub returns-in-Present-clause-stopped : goal.returns-in-Present-clause-stopped
 returns-in-Present-clause-stopped g c =
     let s = g.L.Links.seat c.args.links.now c.args.p.now in
-    c.mark_and_go.ensures.stopped s c.in-Present.ensures.found
+    c.mark_and_go.ensures.stopped c.in-Present.passed s c.in-Present.ensures.found

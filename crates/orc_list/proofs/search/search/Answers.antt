@@ -1,6 +1,6 @@
 -- From the root on.
 use Rattle.orc_heap.specs.declared.events.Place.TheVariants.{Root}
-use Rattle.orc_list.proofs.Starting.{finds_key, root_begins}
+use Rattle.orc_list.proofs.Starting.{root_begins}
 use Rattle.orc_list.proofs.search.search.Goals as goal
 
 pub search_chain-requires-clause-begins : goal.search_chain-requires-clause-begins
@@ -15,5 +15,5 @@ returns-clause-found g c =
     let d = c.args.links.now in
     let n = g.L.Links.numbers d in
     let s = g.L.Links.seat d c.args.p.now in
-    finds_key n c.args.root c.args.wanted s c.search_chain.result (g.L.Links.seat d c.search_chain.new.p) (c.search_chain.ensures.found (Root c.args.root) s c.requires.room
-    (root_begins n c.args.root c.args.wanted s c.requires.root.1 (g.met.L.Links.obeys d c.args.p.now c.requires.pass)))
+    c.search_chain.ensures.found (Root c.args.root) s c.requires.room
+    (root_begins n c.args.root c.args.wanted s c.requires.root.1 (g.met.L.Links.obeys d c.args.p.now c.requires.pass))

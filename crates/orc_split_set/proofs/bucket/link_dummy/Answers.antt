@@ -10,8 +10,10 @@ use Rattle.orc_split_rule.specs.SplitDiscipline.{IsDummy}
 use Rattle.orc_split_rule.specs.declared.split.SplitNote.{SplitNote}
 use Rattle.orc_split_set.specs.Rootings.{HasNewDummy}
 use Rattle.orc_split_set.specs.SplitSearches.{split_reading}
+use Rattle.orc_split_set.proofs.Allowing.{dummy_to_add}
 use Rattle.orc_split_set.proofs.Ordered.{split_ordering}
 use Rattle.orc_split_set.proofs.Rooting.{added_roots, dummy_held, missed_roots, refused_roots, spent_row}
+use Rattle.orc_split_set.proofs.Stopping.{linked_stands}
 use Rattle.orc_split_set.proofs.bucket.link_dummy.Given.{Over}
 use Rattle.orc_split_set.proofs.bucket.link_dummy.Goals.{In-Err, In-Ok-false, In-Ok-true}
 use Rattle.orc_split_set.proofs.bucket.link_dummy.Goals as goal
@@ -27,7 +29,7 @@ linked g c = λ s w.
     let u = g.L.Links.seat d c.add_node.new.p in
     let slots = slots_with s.slots (Some a.dummy) w.id in
     let one = subst (λ (i : ℕ). AddsNode (split_reading n) a.bucket 0 [] a.dummy i 1 slots s (Ok c.in-Ok-true.field-0) u) w.id_is
-    (c.in-Ok-true.ensures.added w.start 1 slots s w.adds) in
+    (c.in-Ok-true.ensures.added (dummy_to_add n a.bucket a.left a.first a.right a.dummy s (g.L.Links.seat d a.p.now) w c.requires.bucket.0 c.requires.bucket.1)) in
     subst (λ (b : Bool). AddsNode (split_reading n) a.bucket 0 [] a.dummy w.id 1 slots s (Ok b) u) c.in-Ok-true.field-0-test one
 
 -- the left place showed another link
@@ -41,7 +43,7 @@ missed g c = λ s w.
     let u = g.L.Links.seat d c.add_node.new.p in
     let slots = slots_with s.slots (Some a.dummy) w.id in
     let one = subst (λ (i : ℕ). AddsNode (split_reading n) a.bucket 0 [] a.dummy i 1 slots s (Ok c.in-Ok-false.field-0) u) w.id_is
-    (c.in-Ok-false.ensures.added w.start 1 slots s w.adds) in
+    (c.in-Ok-false.ensures.added (dummy_to_add n a.bucket a.left a.first a.right a.dummy s (g.L.Links.seat d a.p.now) w c.requires.bucket.0 c.requires.bucket.1)) in
     subst (λ (b : Bool). AddsNode (split_reading n) a.bucket 0 [] a.dummy w.id 1 slots s (Ok b) u) c.in-Ok-false.field-0-test one
 
 -- a row was worn
@@ -55,12 +57,14 @@ refused g c = λ s w.
     let u = g.L.Links.seat d c.add_node.new.p in
     let slots = slots_with s.slots (Some a.dummy) w.id in
     subst (λ (i : ℕ). AddsNode (split_reading n) a.bucket 0 [] a.dummy i 1 slots s (Err c.in-Err.spent) u) w.id_is
-    (c.in-Err.ensures.added w.start 1 slots s w.adds)
+    (c.in-Err.ensures.added (dummy_to_add n a.bucket a.left a.first a.right a.dummy s (g.L.Links.seat d a.p.now) w c.requires.bucket.0 c.requires.bucket.1))
 
 pub add_node-requires-clause-adds : goal.add_node-requires-clause-adds
 add_node-requires-clause-adds g c =
     let (s, w) = c.requires.to_link in
-    (w.start, 1, slots_with s.slots (Some c.args.dummy) w.id, s, w.adds)
+    let a = c.args in
+    dummy_to_add (g.L.Links.numbers a.links.now) a.bucket a.left a.first a.right a.dummy s (g.L.Links.seat a.links.now a.p.now) w c.requires.bucket.0
+    c.requires.bucket.1
 
 pub anchor_and_go-requires-clause-dummy : goal.anchor_and_go-requires-clause-dummy
 anchor_and_go-requires-clause-dummy g c =
@@ -71,7 +75,9 @@ anchor_and_go-requires-clause-dummy g c =
     let a = c.args in
     let u = g.L.Links.seat d c.add_node.new.p in
     let held = dummy_held n a.bucket a.left a.first a.right a.dummy s (g.L.Links.seat d a.p.now) u w added.slots_are in
-    let stands = c.in-Ok-true.ensures.stands w.adds.id w.adds.holds (ap (λ (b : Bool). Ok b) c.in-Ok-true.field-0-test) in
+    let k = c.in-Ok-true.ensures.linked (dummy_to_add n a.bucket a.left a.first a.right a.dummy s (g.L.Links.seat d a.p.now) w c.requires.bucket.0
+    c.requires.bucket.1) (ap (λ (b : Bool). Ok b) c.in-Ok-true.field-0-test) in
+    let stands = linked_stands n a.bucket w.adds.id _ _ _ _ (g.L.Links.seat d a.p.now) u k (g.met.L.Links.allowed d c.add_node.new.p c.in-Ok-true.ensures.pass) in
     (held.0, subst (λ (i : ℕ). IsDummy (heap_of n u) i a.bucket) (w.id_is ∙ sym held.1) stands)
 
 pub release-requires-clause-held : goal.release-requires-clause-held

@@ -13,10 +13,11 @@ use Rattle.orc_split_rule.specs.SplitDiscipline.{IsDummy}
 use Rattle.orc_split_rule.specs.SplitOrder.{dummy_place}
 use Rattle.orc_split_set.specs.SplitSearches.{split_reading}
 use Rattle.orc_split_set.specs.Stops.{StopsUnnamed}
+use Rattle.orc_split_set.proofs.Allowing.{dummy_to_add}
 use Rattle.orc_split_set.proofs.Crowding.{seen_grows}
 use Rattle.orc_split_set.proofs.Ordered.{split_ordering}
 use Rattle.orc_split_set.proofs.Rooting.{has_dummy, lacking_roots}
-use Rattle.orc_split_set.proofs.Stopping.{lacking_stops, turn_held, turn_stops}
+use Rattle.orc_split_set.proofs.Stopping.{lacking_stops, linked_stands, linked_unnamed, turn_held, turn_stops}
 use Rattle.orc_split_set.proofs.stop.add_and_stop.Goals as goal
 
 pub give-requires-clause-slot : goal.give-requires-clause-slot
@@ -43,7 +44,7 @@ add_node-linked-requires-clause-adds g c =
     let e = c.in-Ok.ensures in
     let given = subst (λ (v : ℕ). Gives n 1 v 0 t c.in-Ok.dummy u) c.from.ensures e.given in
     let h = has_dummy n a.bucket start a.passed a.left a.first a.right s t u f room c.in-Ok.dummy given (g.met.L.Links.allowed d c.give.new.p e.pass) in
-    (h.start, 1, slots_with s.slots (Some c.in-Ok.dummy) h.id, s, h.adds)
+    dummy_to_add n a.bucket a.left a.first a.right c.in-Ok.dummy s u h c.requires.bucket.0 c.requires.bucket.1
 
 pub release-requires-clause-held : goal.release-requires-clause-held
 release-requires-clause-held g c =
@@ -60,7 +61,7 @@ release-requires-clause-held g c =
     let h = has_dummy n a.bucket start a.passed a.left a.first a.right s t u f room dummy given (g.met.L.Links.allowed d c.give.new.p e.pass) in
     let slots = slots_with s.slots (Some dummy) h.id in
     let added = subst (λ (i : ℕ). AddsNode (split_reading n) a.bucket 0 [] dummy i 1 slots s c.add_node-linked.result v) h.id_is
-    (c.add_node-linked.ensures.added h.start 1 slots s h.adds) in
+    (c.add_node-linked.ensures.added (dummy_to_add n a.bucket a.left a.first a.right dummy s u h c.requires.bucket.0 c.requires.bucket.1)) in
     turn_held n a.bucket a.left a.first a.right dummy s u v h c.add_node-linked.result added
 
 pub returns-in-Ok-clause-stopped : goal.returns-in-Ok-clause-stopped
@@ -78,15 +79,18 @@ returns-in-Ok-clause-stopped g c = λ start s room fresh f.
     let h = has_dummy n a.bucket start a.passed a.left a.first a.right s t u f room dummy given (g.met.L.Links.allowed d c.give.new.p e.pass) in
     let slots = slots_with s.slots (Some dummy) h.id in
     let k = c.add_node-linked.ensures in
+    let to_add = dummy_to_add n a.bucket a.left a.first a.right dummy s u h c.requires.bucket.0 c.requires.bucket.1 in
+    let all = g.met.L.Links.allowed d c.add_node-linked.new.p k.pass in
     let added = subst (λ (i : ℕ). AddsNode (split_reading n) a.bucket 0 [] dummy i 1 slots s c.add_node-linked.result v) h.id_is
-    (k.added h.start 1 slots s h.adds) in
+    (k.added to_add) in
     let grows = seen_grows (g.L.Links.events d) g.L.Links.agent_of (g.met.L.Links.steps_add d) (g.L.Links.journal c.give.new.p)
     (g.L.Links.journal c.add_node-linked.new.p) u v k.later (g.met.L.Links.seen_is d c.give.new.p e.pass)
     (g.met.L.Links.seen_is d c.add_node-linked.new.p k.pass) in
     subst (λ (x : InsertTurn). StopsUnnamed n a.bucket s x w) (sym c.turn_of.ensures)
     (turn_stops n a.bucket a.passed a.left a.first a.right dummy s u v w h c.add_node-linked.result added (release_goes dummy v w c.release.ensures.released)
     grows (g.met.L.Links.allowed d c.release.new.p c.release.ensures.pass)
-    (λ is. subst (λ (i : ℕ). IsDummy (heap_of n v) i a.bucket) h.id_is (k.stands h.adds.id h.adds.holds is)) (k.unnamed h.adds.id h.adds.holds))
+    (λ is. subst (λ (i : ℕ). IsDummy (heap_of n v) i a.bucket) h.id_is (linked_stands n a.bucket h.adds.id _ _ _ _ u v (k.linked to_add is) all))
+    (λ is. linked_unnamed n a.bucket h.adds.id _ _ _ _ u v (k.linked to_add is) all c.requires.bucket.0 c.requires.bucket.1))
 
 pub returns-in-Ok-clause-lacking : goal.returns-in-Ok-clause-lacking
 returns-in-Ok-clause-lacking g c = λ is. absurd (turn_node c.args.passed c.add_node-linked.result (sym c.turn_of.ensures ∙ is))

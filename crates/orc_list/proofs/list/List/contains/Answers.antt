@@ -1,31 +1,34 @@
 -- What the call did, and the settling after it.
 use Rattle.std.proofs.Common.{Bool}
-use Rattle.orc_heap.proofs.Pieces.{goes_on}
 use Rattle.orc_heap.proofs.InJournal.{settling_alone}
+use Rattle.orc_heap.proofs.Pieces.{goes_on}
 use Rattle.orc_history.specs.declared.set.SetEntry.{SetEntry}
 use Rattle.orc_history.specs.declared.set.SetEntry.TheVariants.{Asked}
-use Rattle.orc_list.proofs.Causes.{did_enter, did_few, did_give, did_not_enter, did_nothing, turns_used}
-use Rattle.orc_ordered_search.proofs.Causes.{if_err}
-use Rattle.orc_list.proofs.Settling.{ask_did, ask_keeps}
-use Rattle.orc_ordered_search.proofs.Settling.{idle_settled}
+use Rattle.orc_ordered_search.proofs.Causes.{did_enter, did_give, did_not_enter, did_nothing, if_err}
+use Rattle.orc_ordered_search.proofs.Settling.{answers_did, answers_keeps, answers_puts, idle_settled}
+use Rattle.orc_list.specs.Searches.{list_reading}
+use Rattle.orc_list.proofs.Causes.{did_few, none_of_err, turns_used}
+use Rattle.orc_list.proofs.Making.{made_on}
+use Rattle.orc_list.proofs.Ordered.{list_ordering}
 use Rattle.orc_list.proofs.list.List.contains.Goals as goal
 
 pub returns : goal.returns
 returns g c =
     let d = c.args.self.now.links in
     let n = g.L.Links.numbers d in
+    let x = list_ordering n in
     let s = g.L.Links.seat d c.args.p.now in
-    let t = g.L.Links.seat d c.ask_turns-answer.new.p in
+    let t = g.L.Links.seat d c.call_turns-answer.new.p in
     let u = g.L.Links.seat d c.settle.new.p in
-    let r = c.ask_turns-answer.result in
+    let r = c.call_turns-answer.result in
     let turns = c.args.turns in
-    let done = c.ask_turns-answer.ensures in
+    let done = c.call_turns-answer.ensures in
     let settle = c.settle.ensures in
     let entry : Bool → SetEntry = λ answer. Asked s.agent c.args.key answer in
-    let did = ask_did s t u settle.nothing c.args.key turns r done.asked in
-    let keeps = ask_keeps c.args.key turns s t r done.asked c.requires.idle in
+    let did = answers_did (list_reading n) s t u settle.nothing entry turns r done.answered in
+    let keeps = answers_keeps (list_reading n) entry turns s t r done.answered c.requires.idle in
     let j = g.L.Links.journal c.args.p.now in
-    let k = g.L.Links.journal c.ask_turns-answer.new.p in
+    let k = g.L.Links.journal c.call_turns-answer.new.p in
     let m = g.L.Links.journal c.settle.new.p in
     let grows = goes_on j k m done.later settle.later in
     let is_s = g.met.L.Links.seen_is d c.args.p.now c.requires.pass in
@@ -36,19 +39,21 @@ returns g c =
     let by = g.L.Links.agent_of in
     let events = g.L.Links.events d in
     let adds = g.met.L.Links.steps_add d in
-    let used = turns_used n agents by events adds s u j m grows is_s is_u all below 0 turns entry r did in
+    let used = turns_used n agents by events adds s u j m grows is_s is_u all below 0 turns entry r did (none_of_err entry r) in
+    let (own, puts) = answers_puts (list_reading n) entry turns s t r done.answered in
+    let gives = did_give (list_reading n) 0 turns entry s u r did in
     record {
       pass = settle.pass;
       idle = idle_settled t u keeps.0 settle.nothing;
       agent = did.made.puts.agent;
       later = grows;
-      asked = did_enter n agents by events adds s u j m grows is_s is_u all below 0 turns entry r did;
-      none = did_not_enter n agents by events adds s u j m grows is_s is_u all below 0 turns entry r did;
+      asked = did_enter x agents by events adds s u j m grows is_s is_u all below 0 turns entry r did;
+      none = did_not_enter x agents by events adds s u j m grows is_s is_u all below 0 turns entry r did;
       no_turns = λ zero. (did.no_turns zero).0;
-      no_event = did_nothing 0 turns entry s u r did;
+      no_event = did_nothing (list_reading n) 0 turns entry s u r did;
       again = if_err r _ used;
       cost = if_err r _ (λ is. (used is).cost);
-      gives = did_give 0 turns entry s u r did;
-      tries = did_few 0 turns entry s u r did;
-      settled = λ alone. settle.settled (settling_alone g.L.Links d c.args.p.now c.ask_turns-answer.new.p c.settle.new.p done.later settle.later keeps.1 alone);
+      gives = gives;
+      tries = did_few turns 0 s u (made_on turns s t u own puts settle.nothing.puts done.few) gives;
+      settled = λ alone. settle.settled (settling_alone g.L.Links d c.args.p.now c.call_turns-answer.new.p c.settle.new.p done.later settle.later keeps.1 alone);
     }

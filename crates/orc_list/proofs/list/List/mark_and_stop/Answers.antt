@@ -10,7 +10,9 @@ use Rattle.orc_chain_rule.specs.declared.chain.ChainNote.{ChainNote}
 use Rattle.orc_list.specs.Inserts.{SeesAbsent}
 use Rattle.orc_list.specs.Stops.{MarkStops}
 use Rattle.orc_list.specs.Turns.{MarksAlone}
-use Rattle.orc_list.proofs.Causes.{call_adds, own_drop, part_alone}
+use Rattle.orc_ordered_search.proofs.Causes.{call_adds, part_alone}
+use Rattle.orc_ordered_search.proofs.Since.{made_is}
+use Rattle.orc_list.proofs.Ordered.{list_ordering}
 use Rattle.orc_list.proofs.list.List.mark_and_stop.Goals as goal
 
 -- by the answer
@@ -46,8 +48,8 @@ returns g c =
     let is_u = g.met.L.Links.seen_is d c.stop_a_remove.new.p done.pass in
     let all = g.met.L.Links.allowed d c.stop_a_remove.new.p done.pass in
     let below = (g.met.L.Links.agents_below d c.stop_a_remove.new.p done.pass).1 in
-    let adds = call_adds n (g.L.Links.agents d) g.L.Links.agent_of (g.L.Links.events d) (g.met.L.Links.steps_add d) s u j m done.later is_s is_u all below in
-    let own = sym (own_drop s u k.own k.puts) in
+    let adds = call_adds (list_ordering n) (g.L.Links.agents d) g.L.Links.agent_of (g.L.Links.events d) (g.met.L.Links.steps_add d) s u j m done.later is_s is_u all below in
+    let own = sym (made_is s u k.own k.puts) in
     record {
       pass = done.pass;
       idle = record { slots = k.slots ∙ c.requires.idle.slots; fresh = k.fresh ∙ c.requires.idle.fresh };
@@ -57,6 +59,6 @@ returns g c =
       none = λ is. adds k.own [] k.puts (unmarked_entries n key s u r is k);
       marked = λ is. subst (λ (z : List (Event ChainNote)). MarksAlone key z) own (marked_moves n key s u r is k);
       unmoved = λ is. subst (λ (z : List (Event ChainNote)). (1 ≤ length z) × (moves_in z ≡ 0)) own (k.some, unmarked_moves n key s u r is k);
-      absent = λ is alone. subst (λ (z : List (Event ChainNote)). SeesAbsent n key z u) own (k.absent is (part_alone n (g.L.Links.agents d) g.L.Links.agent_of
+      absent = λ is alone. subst (λ (z : List (Event ChainNote)). SeesAbsent n key z u) own (k.absent is (part_alone (list_ordering n) (g.L.Links.agents d) g.L.Links.agent_of
           (g.L.Links.events d) (g.met.L.Links.steps_add d) s u j m done.later is_s is_u all below k.own k.puts alone));
     }

@@ -1,5 +1,5 @@
 -- What the call did, and the settling after it.
-use Rattle.std.proofs.Common.{Bool, Ok, Result, arith, subst, ℕ, ◌∙◌, ◌≡◌, ◌≢◌}
+use Rattle.std.proofs.Common.{Bool, Ok, Result, arith, subst, ℕ, ◌∙◌, ◌≡◌, ◌≢◌, refl}
 use Rattle.std.specs.Prelude.{IsErr}
 use Rattle.orc_fault.specs.declared.Again.{Again as AgainFault}
 use Rattle.orc_heap.proofs.Pieces.{goes_on}
@@ -27,24 +27,24 @@ returns g c =
     let r = split_reading n in
     let s = g.L.Links.seat d c.args.p.now in
     let t0 = g.L.Links.seat d c.prepare-rooted.new.p in
-    let t = g.L.Links.seat d c.ask_turns-answer.new.p in
+    let t = g.L.Links.seat d c.call_turns-answer.new.p in
     let u = g.L.Links.seat d c.settle.new.p in
-    let answer = c.ask_turns-answer.result in
+    let answer = c.call_turns-answer.result in
     let turns = c.args.turns in
-    let done = c.ask_turns-answer.ensures in
+    let done = c.call_turns-answer.ensures in
     let settle = c.settle.ensures in
     let entry : Bool → SetEntry = λ answer. Asked s.agent c.args.key answer in
     let before = c.prepare-rooted.ensures in
     let call = before.prepared.call in
     let idle : IsIdle t0 = record { slots = call.slots ∙ c.requires.usable.1.slots; fresh = call.fresh } in
     let same = call.made.puts.agent in
-    let asked = subst (λ (x : ℕ). AnswersTurns r (λ answer. Asked x c.args.key answer) turns t0 answer t) same done.asked in
+    let asked = subst (λ (x : ℕ). AnswersTurns r (λ answer. Asked x c.args.key answer) turns t0 answer t) same done.answered in
     let inner = answers_did r t0 t u settle.nothing entry turns answer asked in
     let did = did_after r before.prepared.own turns before.prepared.none s t0 call 0 1 entry u answer (omega arith) inner in
     let keeps = answers_keeps r entry turns t0 t answer asked idle in
     let j = g.L.Links.journal c.args.p.now in
     let j0 = g.L.Links.journal c.prepare-rooted.new.p in
-    let k = g.L.Links.journal c.ask_turns-answer.new.p in
+    let k = g.L.Links.journal c.call_turns-answer.new.p in
     let m = g.L.Links.journal c.settle.new.p in
     let since = goes_on j j0 k before.later done.later in
     let grows = goes_on j k m since settle.later in
@@ -61,12 +61,12 @@ returns g c =
     let again = if_err answer _ used in
     let some : (value : Bool) → answer ≡ Ok value → turns ≢ 0 = λ value is zero. (let bad = subst (λ (x : Result Bool AgainFault). IsErr x) is (did.no_turns zero).0 in cc) in
     let grew = seen_grows events by adds j0 k t0 t done.later (g.met.L.Links.seen_is d c.prepare-rooted.new.p before.pass)
-    (g.met.L.Links.seen_is d c.ask_turns-answer.new.p done.pass) in
+    (g.met.L.Links.seen_is d c.call_turns-answer.new.p done.pass) in
     let grew_u = seen_grows events by adds j0 m t0 u (goes_on j0 k m done.later settle.later)
     (g.met.L.Links.seen_is d c.prepare-rooted.new.p before.pass) is_u in
     record {
       few = λ ne alone has many r. looks_call n by events adds c.args.key turns s t0 t u did.own j m c.prepare-rooted.result before.prepared
-          ne before.few done.few
+          ne before.few (done.few refl)
           grew (keeps.1 ∙ same) settle.nothing did.made.puts grows is_s is_u grew_u alone has many r;
       rooted = if_ok answer _ (λ value is. roots_call n by events adds c.args.key turns s t0 u inner.own did.own j m c.prepare-rooted.result before.prepared (some value is)
           inner.made.puts did.made.puts grows is_s is_u (g.met.L.Links.obeys d c.prepare-rooted.new.p before.pass) all
@@ -86,5 +86,5 @@ returns g c =
       again = again;
       gives = did_give r 1 turns entry s u answer did;
       settled = λ alone. settle.settled
-          (settling_alone g.L.Links d c.args.p.now c.ask_turns-answer.new.p c.settle.new.p since settle.later (keeps.1 ∙ same) alone);
+          (settling_alone g.L.Links d c.args.p.now c.call_turns-answer.new.p c.settle.new.p since settle.later (keeps.1 ∙ same) alone);
     }

@@ -25,24 +25,24 @@ returns g c =
     let r = split_reading n in
     let s = g.L.Links.seat d c.args.p.now in
     let t0 = g.L.Links.seat d c.prepare-rooted.new.p in
-    let t = g.L.Links.seat d c.remove_turns-answer.new.p in
+    let t = g.L.Links.seat d c.call_turns-answer.new.p in
     let u = g.L.Links.seat d c.settle.new.p in
-    let answer = c.remove_turns-answer.result in
+    let answer = c.call_turns-answer.result in
     let turns = c.args.turns in
-    let done = c.remove_turns-answer.ensures in
+    let done = c.call_turns-answer.ensures in
     let settle = c.settle.ensures in
     let entry : Bool → SetEntry = λ answer. Removed s.agent c.args.key answer in
     let before = c.prepare-rooted.ensures in
     let call = before.prepared.call in
     let idle : IsIdle t0 = record { slots = call.slots ∙ c.requires.usable.1.slots; fresh = call.fresh } in
     let same = call.made.puts.agent in
-    let removed = subst (λ (x : ℕ). AnswersTurns r (λ answer. Removed x c.args.key answer) turns t0 answer t) same done.removed in
+    let removed = subst (λ (x : ℕ). AnswersTurns r (λ answer. Removed x c.args.key answer) turns t0 answer t) same done.answered in
     let inner = answers_did r t0 t u settle.nothing entry turns answer removed in
     let did = did_after r before.prepared.own turns before.prepared.none s t0 call 0 1 entry u answer (omega arith) inner in
     let keeps = answers_keeps r entry turns t0 t answer removed idle in
     let j = g.L.Links.journal c.args.p.now in
     let j0 = g.L.Links.journal c.prepare-rooted.new.p in
-    let k = g.L.Links.journal c.remove_turns-answer.new.p in
+    let k = g.L.Links.journal c.call_turns-answer.new.p in
     let m = g.L.Links.journal c.settle.new.p in
     let since = goes_on j j0 k before.later done.later in
     let grows = goes_on j k m since settle.later in
@@ -77,5 +77,5 @@ returns g c =
       again = again;
       gives = did_give r 1 turns entry s u answer did;
       settled = λ alone. settle.settled
-          (settling_alone g.L.Links d c.args.p.now c.remove_turns-answer.new.p c.settle.new.p since settle.later (keeps.1 ∙ same) alone);
+          (settling_alone g.L.Links d c.args.p.now c.call_turns-answer.new.p c.settle.new.p since settle.later (keeps.1 ∙ same) alone);
     }

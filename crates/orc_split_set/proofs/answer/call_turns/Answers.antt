@@ -1,0 +1,84 @@
+-- One turn after another, until one answers.
+use Rattle.std.proofs.Common.{[], append-nil, arith, refl, subst, sym, Some, ℕ, ◌*◌, ◌+◌, ◌-◌, ◌≡◌}
+use Rattle.orc_heap.proofs.Pieces.{goes_on}
+use Rattle.orc_heap.specs.Slots.{Slots}
+use Rattle.orc_ordered_search.specs.Entries.{entry_by}
+use Rattle.orc_ordered_search.specs.Searches.{HasRoom}
+use Rattle.orc_ordered_search.specs.Turns.{AnswersTurn, Tires}
+use Rattle.orc_ordered_search.proofs.Tiring.{tires_answer, tires_next, tires_none}
+use Rattle.orc_heap.specs.Journals.{run_heap}
+use Rattle.orc_split_rule.specs.SplitDiscipline.{size_of}
+use Rattle.orc_split_rule.specs.SplitOrder.{bucket_of, key_place}
+use Rattle.orc_split_set.specs.Looks.{HasStart, LoadsFew, ReachesIn, bucket_now, root_loads}
+use Rattle.orc_split_set.specs.SplitSearches.{split_reading}
+use Rattle.orc_split_set.proofs.Crowding.{own_no_turns, seen_grows}
+use Rattle.orc_split_set.proofs.Looking.{few_none, turns_few}
+use Rattle.orc_split_set.proofs.answer.call_turns.Goals as goal
+
+pub loop-init : goal.loop-init
+loop-init g c =
+    let d = c.args.links.now in
+    record { pass = c.requires.pass; later = ([], append-nil _); tires = tires_none (split_reading (g.L.Links.numbers d)) (g.L.Links.seat d c.args.p.now) }
+
+pub call_turn-requires-clause-room : goal.call_turn-requires-clause-room
+call_turn-requires-clause-room g c = subst (λ (z : Slots). HasRoom z) (sym c.loop.invariant.tires.slots) c.requires.room
+
+pub loop-preserved : goal.loop-preserved
+loop-preserved g c =
+    let d = c.args.links.now in
+    let n = g.L.Links.numbers d in
+    let i = c.loop.invariant in
+    let e = c.in_default.ensures in
+    let t = g.L.Links.seat d c.loop.p in
+    record {
+      pass = e.pass;
+      later = goes_on _ _ _ i.later e.later;
+      tires = tires_next (split_reading n) c.loop.counter (g.L.Links.seat d c.args.p.now) t (g.L.Links.seat d c.call_turn.new.p) i.tires
+          e.answered;
+    }
+
+pub returns-in-Some-clause-answered : goal.returns-in-Some-clause-answered
+returns-in-Some-clause-answered g c =
+    let d = c.args.links.now in
+    let n = g.L.Links.numbers d in
+    let s = g.L.Links.seat d c.args.p.now in
+    let t = g.L.Links.seat d c.loop.p in
+    let u = g.L.Links.seat d c.call_turn.new.p in
+    let i = c.loop.invariant in
+    let answer = c.in-Some.answer in
+    let last = c.in-Some.ensures.answered in
+    let here = subst (λ (x : ℕ). AnswersTurn (split_reading n) (λ yes. entry_by c.args.call x c.args.key yes) t (Some answer) u) i.tires.over.made.puts.agent last in
+    ((λ zero. omega (arith, zero, c.loop-test.true)), tires_answer (split_reading n) c.loop.counter s t u (entry_by c.args.call s.agent c.args.key answer) i.tires here)
+
+pub returns-clause-answered : goal.returns-clause-answered
+returns-clause-answered g c =
+    let d = c.args.links.now in
+    let all : c.loop.counter ≡ c.args.turns = omega (arith, c.loop-test.false, c.loop.auto.counter-end) in
+    subst (λ (k : ℕ). Tires (split_reading (g.L.Links.numbers d)) k (g.L.Links.seat d c.args.p.now) (g.L.Links.seat d c.loop.p)) all c.loop.invariant.tires
+
+pub returns-in-Some-clause-few : goal.returns-in-Some-clause-few
+returns-in-Some-clause-few g c = λ asks has many r.
+    let d = c.args.links.now in
+    let n = g.L.Links.numbers d in
+    let s = g.L.Links.seat d c.args.p.now in
+    let t = g.L.Links.seat d c.loop.p in
+    let u = g.L.Links.seat d c.call_turn.new.p in
+    let i = c.loop.invariant in
+    let e = c.in-Some.ensures in
+    let grows = seen_grows (g.L.Links.events d) g.L.Links.agent_of (g.met.L.Links.steps_add d) (g.L.Links.journal c.loop.p)
+    (g.L.Links.journal c.call_turn.new.p) t u e.later (g.met.L.Links.seen_is d c.loop.p i.pass) (g.met.L.Links.seen_is d c.call_turn.new.p e.pass) in
+    let key = c.args.key in
+    let most = 6 + 4 * many - root_loads (bucket_now n key s) in
+    turns_few n 0 c.loop.counter most most s t u i.tires.own i.tires.over grows
+    (λ seen. subst (λ z. HasStart (run_heap n z) (bucket_of key (size_of n z)) → (m : ℕ)
+    → ReachesIn (run_heap n z) (bucket_of key (size_of n z)) (key_place key) m
+    → LoadsFew (6 + 4 * m - root_loads (bucket_of key (size_of n z))) t u) seen (e.few asks) has many r) refl
+
+pub returns-clause-few : goal.returns-clause-few
+returns-clause-few g c = λ asks has many r.
+    let d = c.args.links.now in
+    let n = g.L.Links.numbers d in
+    let s = g.L.Links.seat d c.args.p.now in
+    let t = g.L.Links.seat d c.loop.p in
+    let i = c.loop.invariant in
+    few_none (6 + 4 * many - root_loads (bucket_now n c.args.key s)) s t (λ sees. own_no_turns n 0 c.loop.counter s t i.tires.own i.tires.over sees)
