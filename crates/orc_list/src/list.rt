@@ -8,6 +8,7 @@ ghost use Rattle.orc_history.specs.declared.set.ListRefused.{ListRefused};
 ghost use Rattle.orc_history.specs.declared.set.SetEntry.{SetEntry};
 ghost use Rattle.orc_list.specs.ListCalls.{CostsOthers, Enters, EntersNone, FindsAbsent, FindsWorn, GivesAtMost, IsRootOf, LacksRow};
 ghost use Rattle.orc_list.specs.ListCalls.{LeavesMarked, LeavesOffChain, LeavesRunOffChain, LooksAlone, MakesFew, StopsBeforeWorn, UsesAllTurns};
+ghost use Rattle.orc_ordered_search.specs.Entries.{entry_by};
 
 use crate::answer::call_turns;
 use crate::insert::insert_key;
@@ -126,9 +127,7 @@ impl<L: Links<Rule = Chain>> List<L> {
             → LeavesOffChain L.Links self.now.links key p.old p.new ⊎ StopsBeforeWorn L.Links self.now.links key p.old p.new }
         ensures settled { IsCallAlone L.Links self.now.links p.old p.new → L.backlog p.new ≡ 0 }
     {
-        let answer = call_turns(&self.links, p, root, key, Call::Remove, turns);
-        self.links.settle(p);
-        answer
+        self.answer(p, root, key, Call::Remove, turns)
     }
 
     /// Answers whether a key is present, in at most `turns` tries. Its agent makes at most two events in each try for each
@@ -156,7 +155,38 @@ impl<L: Links<Rule = Chain>> List<L> {
         ensures tries { MakesFew L.Links self.now.links turns 0 p.old p.new }
         ensures settled { IsCallAlone L.Links self.now.links p.old p.new → L.backlog p.new ≡ 0 }
     {
-        let answer = call_turns(&self.links, p, root, key, Call::Ask, turns);
+        self.answer(p, root, key, Call::Ask, turns)
+    }
+
+    // Answers whether the key is present, in at most so many turns.
+    fn answer(
+        &self,
+        p: &mut L::Pass,
+        root: u32,
+        key: u64,
+        call: Call,
+        turns: u64,
+    ) -> Result<bool, Again>
+        requires pass { L.belongs self.now.links p.old }
+        requires idle { IsIdle (L.seat self.now.links p.old) }
+        requires root { IsRootOf L.Links self.now.links root key }
+        ensures pass { L.belongs self.now.links p.new }
+        ensures idle { IsIdle (L.seat self.now.links p.new) }
+        ensures agent { agent L.Links self.now.links p.new ≡ agent L.Links self.now.links p.old }
+        ensures later { IsPrefix (L.journal p.old) (L.journal p.new) }
+        ensures entered { IfOk result (λ yes. Enters L.Links self.now.links p.old p.new (λ agent. entry_by call agent key yes ∷ [])) }
+        ensures none { IfErr result (λ e. EntersNone L.Links self.now.links p.old p.new) }
+        ensures no_turns { turns ≡ 0 → IsErr result }
+        ensures no_event { turns ≡ 0 → MakesNoEvent L.Links self.now.links p.old p.new }
+        ensures again { IfErr result (λ e. UsesAllTurns L.Links self.now.links turns p.old p.new) }
+        ensures cost { IfErr result (λ e. CostsOthers L.Links self.now.links turns p.old p.new) }
+        ensures gives { GivesAtMost L.Links self.now.links 0 p.old p.new }
+        ensures tries { MakesFew L.Links self.now.links turns 0 p.old p.new }
+        ensures off_the_chain { call ≡ Call.Remove → result ≡ Ok true → IsCallAlone L.Links self.now.links p.old p.new
+            → LeavesOffChain L.Links self.now.links key p.old p.new ⊎ StopsBeforeWorn L.Links self.now.links key p.old p.new }
+        ensures settled { IsCallAlone L.Links self.now.links p.old p.new → L.backlog p.new ≡ 0 }
+    {
+        let answer = call_turns(&self.links, p, root, key, call, turns);
         self.links.settle(p);
         answer
     }

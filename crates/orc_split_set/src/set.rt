@@ -6,6 +6,7 @@ ghost use Rattle.orc_heap.specs.Domains.{IsCallAlone, MakesNoEvent, agent, heap}
 ghost use Rattle.orc_history.specs.Journals.{Within};
 ghost use Rattle.orc_history.specs.declared.set.ListRefused.{ListRefused};
 ghost use Rattle.orc_history.specs.declared.set.SetEntry.{SetEntry};
+ghost use Rattle.orc_ordered_search.specs.Entries.{entry_by};
 ghost use Rattle.orc_split_rule.specs.SplitDiscipline.{IsSize};
 ghost use Rattle.orc_split_set.specs.SetCalls.{Enters, EntersNone, FindsWorn, GivesAtMost, GrowsCrowded, HadSize, HasCause, IsUsable, LacksRow, LooksFew, RootsBucket, UsesAllTurns, set_history};
 ghost use Rattle.orc_split_set.specs.Rootings.{IsRootSet};
@@ -78,6 +79,30 @@ impl<L: Links<Rule = Split>> SplitSet<L> {
         ensures settled { IsCallAlone L.Links self.now.links p.old p.new → L.backlog p.new ≡ 0 }
     {
         let answer = size_turns(&self.links, p, self.greatest, turns);
+        self.links.settle(p);
+        answer
+    }
+
+    // Answers whether the key is present, in at most so many turns, and sets the root of the key's bucket before.
+    fn answer(&self, p: &mut L::Pass, key: u64, call: Call, turns: u64) -> Result<bool, Again>
+        requires usable { IsUsable L.Links self.now.links p.old }
+        ensures usable { IsUsable L.Links self.now.links p.new }
+        ensures agent { agent L.Links self.now.links p.new ≡ agent L.Links self.now.links p.old }
+        ensures later { IsPrefix (L.journal p.old) (L.journal p.new) }
+        ensures rooted { IfOk result (λ yes. RootsBucket L.Links self.now.links key p.old p.new) }
+        ensures few { call ≡ Call.Ask → turns ≢ 0 → LooksFew L.Links self.now.links key p.old p.new }
+        ensures entered { IfOk result (λ yes. Enters L.Links self.now.links p.old p.new (λ agent. entry_by call agent key yes ∷ [])) }
+        ensures none { IfErr result (λ e. EntersNone L.Links self.now.links p.old p.new) }
+        ensures licence { IfErr result (λ e. Within (length (L.journal p.old)) (length (L.journal p.new))
+            (HasCause L.Links self.now.links (agent L.Links self.now.links p.old) turns ListRefused.Again (L.journal p.new))) }
+        ensures no_turns { turns ≡ 0 → IsErr result }
+        ensures no_event { turns ≡ 0 → MakesNoEvent L.Links self.now.links p.old p.new }
+        ensures again { IfErr result (λ e. UsesAllTurns L.Links self.now.links turns p.old p.new) }
+        ensures gives { GivesAtMost L.Links self.now.links 1 p.old p.new }
+        ensures settled { IsCallAlone L.Links self.now.links p.old p.new → L.backlog p.new ≡ 0 }
+    {
+        let _rooted = prepare(&self.links, p, self.greatest, key, turns);
+        let answer = call_turns(&self.links, p, self.greatest, key, call, turns);
         self.links.settle(p);
         answer
     }
@@ -222,10 +247,7 @@ impl<L: Links<Rule = Split>> SharedSet for SplitSet<L> {
         ensures gives { GivesAtMost L.Links self.now.links 1 p.old p.new }
         ensures settled { IsCallAlone L.Links self.now.links p.old p.new → L.backlog p.new ≡ 0 }
     {
-        let _rooted = prepare(&self.links, p, self.greatest, key, turns);
-        let answer = call_turns(&self.links, p, self.greatest, key, Call::Remove, turns);
-        self.links.settle(p);
-        answer
+        self.answer(p, key, Call::Remove, turns)
     }
 
     fn contains(&self, p: &mut L::Pass, key: u64, turns: u64) -> Result<bool, Again>
@@ -245,10 +267,7 @@ impl<L: Links<Rule = Split>> SharedSet for SplitSet<L> {
         ensures gives { GivesAtMost L.Links self.now.links 1 p.old p.new }
         ensures settled { IsCallAlone L.Links self.now.links p.old p.new → L.backlog p.new ≡ 0 }
     {
-        let _rooted = prepare(&self.links, p, self.greatest, key, turns);
-        let answer = call_turns(&self.links, p, self.greatest, key, Call::Ask, turns);
-        self.links.settle(p);
-        answer
+        self.answer(p, key, Call::Ask, turns)
     }
 }
 

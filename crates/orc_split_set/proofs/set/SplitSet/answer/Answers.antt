@@ -7,16 +7,18 @@ use Rattle.orc_heap.proofs.InJournal.{settling_alone}
 use Rattle.orc_heap.specs.Seats.{IsIdle}
 use Rattle.orc_history.specs.Parts.{WithinPart}
 use Rattle.orc_history.specs.declared.set.SetEntry.{SetEntry}
-use Rattle.orc_history.specs.declared.set.SetEntry.TheVariants.{Removed}
 use Rattle.orc_ordered_search.proofs.Causes.{did_enter, did_give, did_not_enter, did_nothing, if_err, turns_used}
 use Rattle.orc_ordered_search.proofs.Licences.{again_licence}
 use Rattle.orc_ordered_search.proofs.Parts.{within_goes_on}
 use Rattle.orc_ordered_search.proofs.Settling.{answers_did, answers_keeps, idle_settled}
+use Rattle.orc_ordered_search.specs.Entries.{entry_by}
 use Rattle.orc_ordered_search.specs.Turns.{AnswersTurns}
+use Rattle.orc_split_set.proofs.Crowding.{seen_grows}
+use Rattle.orc_split_set.proofs.Reaching.{looks_call}
 use Rattle.orc_split_set.proofs.Calling.{did_after, if_ok, roots_call}
 use Rattle.orc_split_set.specs.SplitSearches.{split_reading}
 use Rattle.orc_split_set.proofs.Ordered.{split_ordering}
-use Rattle.orc_split_set.proofs.set.SplitSetSharedSet.remove.Goals as goal
+use Rattle.orc_split_set.proofs.set.SplitSet.answer.Goals as goal
 
 pub returns : goal.returns
 returns g c =
@@ -31,15 +33,15 @@ returns g c =
     let turns = c.args.turns in
     let done = c.call_turns-answer.ensures in
     let settle = c.settle.ensures in
-    let entry : Bool → SetEntry = λ answer. Removed s.agent c.args.key answer in
+    let entry : Bool → SetEntry = λ answer. entry_by c.args.call s.agent c.args.key answer in
     let before = c.prepare-rooted.ensures in
     let call = before.prepared.call in
     let idle : IsIdle t0 = record { slots = call.slots ∙ c.requires.usable.1.slots; fresh = call.fresh } in
     let same = call.made.puts.agent in
-    let removed = subst (λ (x : ℕ). AnswersTurns r (λ answer. Removed x c.args.key answer) turns t0 answer t) same done.answered in
-    let inner = answers_did r t0 t u settle.nothing entry turns answer removed in
+    let answers = subst (λ (x : ℕ). AnswersTurns r (λ answer. entry_by c.args.call x c.args.key answer) turns t0 answer t) same done.answered in
+    let inner = answers_did r t0 t u settle.nothing entry turns answer answers in
     let did = did_after r before.prepared.own turns before.prepared.none s t0 call 0 1 entry u answer (omega arith) inner in
-    let keeps = answers_keeps r entry turns t0 t answer removed idle in
+    let keeps = answers_keeps r entry turns t0 t answer answers idle in
     let j = g.L.Links.journal c.args.p.now in
     let j0 = g.L.Links.journal c.prepare-rooted.new.p in
     let k = g.L.Links.journal c.call_turns-answer.new.p in
@@ -58,7 +60,14 @@ returns g c =
     let used = turns_used x agents by events adds s u j m grows is_s is_u all below 1 turns entry answer did in
     let again = if_err answer _ used in
     let some : (value : Bool) → answer ≡ Ok value → turns ≢ 0 = λ value is zero. (let bad = subst (λ (x : Result Bool AgainFault). IsErr x) is (did.no_turns zero).0 in cc) in
+    let grew = seen_grows events by adds j0 k t0 t done.later (g.met.L.Links.seen_is d c.prepare-rooted.new.p before.pass)
+    (g.met.L.Links.seen_is d c.call_turns-answer.new.p done.pass) in
+    let grew_u = seen_grows events by adds j0 m t0 u (goes_on j0 k m done.later settle.later)
+    (g.met.L.Links.seen_is d c.prepare-rooted.new.p before.pass) is_u in
     record {
+      few = λ asks ne alone has many r. looks_call n by events adds c.args.key turns s t0 t u did.own j m c.prepare-rooted.result before.prepared
+          ne before.few (done.few asks)
+          grew (keeps.1 ∙ same) settle.nothing did.made.puts grows is_s is_u grew_u alone has many r;
       rooted = if_ok answer _ (λ value is. roots_call n by events adds c.args.key turns s t0 u inner.own did.own j m c.prepare-rooted.result before.prepared (some value is)
           inner.made.puts did.made.puts grows is_s is_u (g.met.L.Links.obeys d c.prepare-rooted.new.p before.pass) all
           (WithinPart by s.agent j m (g.L.Links.lacking d s.agent m)) (λ why. WithinPart by s.agent j m (g.L.Links.worn d s.agent why m))
@@ -69,7 +78,7 @@ returns g c =
       usable = (settle.pass, idle_settled t u keeps.0 settle.nothing);
       agent = did.made.puts.agent;
       later = grows;
-      removed = did_enter x agents by events adds s u j m grows is_s is_u all below 1 turns entry answer did;
+      entered = did_enter x agents by events adds s u j m grows is_s is_u all below 1 turns entry answer did;
       none = did_not_enter x agents by events adds s u j m grows is_s is_u all below 1 turns entry answer did;
       licence = again_licence by events s.agent turns j m grows (g.L.Links.lacking d s.agent m) (λ spent. g.L.Links.worn d s.agent spent m) answer again;
       no_turns = λ zero. (did.no_turns zero).0;
