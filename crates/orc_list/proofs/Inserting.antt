@@ -1,12 +1,11 @@
 -- What Looks found and what a link left, as a call goes on.
-use Rattle.std.proofs.Common.{Bool, List, Ok, Option, Result, [], false, true, ◌≡◌, subst, sym, ℕ}
+use Rattle.std.proofs.Common.{Bool, List, Option, [], subst, sym, ℕ}
 use Rattle.orc_heap.specs.Allowed.{AllAllowed}
 use Rattle.orc_heap.specs.Heap.{HeapNumbers}
 use Rattle.orc_heap.specs.OwnEvents.{Puts}
 use Rattle.orc_heap.specs.Seats.{Seat, heap_of}
 use Rattle.orc_heap.specs.Slots.{Hold, Slots}
 use Rattle.orc_heap.specs.declared.events.Event.{Event}
-use Rattle.orc_history.specs.declared.set.ListRefused.{ListRefused}
 use Rattle.orc_history.specs.declared.set.SetEntry.{SetEntry}
 use Rattle.orc_chain_rule.specs.ChainDiscipline.{ChainHolds, ChainMay}
 use Rattle.orc_chain_rule.specs.declared.chain.ChainNote.{ChainNote}
@@ -81,9 +80,3 @@ module _ (n : HeapNumbers) (key : ℕ) (s t u : Seat ChainNote) (own : List (Eve
       → LeavesRunOff key (made_from s u) (heap_of n u)
   leaves_still q holds all l =
       subst (λ z. LeavesRunOff key z (heap_of n u)) (sym (made_still s t u own p q)) (leaves_on n key (made_from s t) t u q holds all l)
-
--- a turn that answered true
-pub answered_true : (turn : InsertTurn) (answer : Bool) (many : ℕ) → turn ≡ Answered answer many
-    → ◌≡◌ {A = Result Bool ListRefused} (Ok answer) (Ok true) → turn ≡ Answered true many
-answered_true turn true many is e = is
-answered_true turn false many is e = cc

@@ -20,7 +20,7 @@ use crate::search::search;
 use orc_chain_rule::Chain;
 use orc_heap::{Held, Links};
 use orc_history::ListRefused;
-use orc_ordered_search::{InsertTurn, insert_found, let_go};
+use orc_ordered_search::{InsertTurn, answer_of, insert_found, let_go};
 
 // One turn of an insert, with the node that an earlier turn was given, if one was.
 fn insert_turn<L: Links<Rule = Chain>>(
@@ -120,10 +120,5 @@ pub(crate) fn insert_key<L: Links<Rule = Chain>>(
 {
     let (turn, node) = insert_turns(links, p, root, key, turns);
     let_go(links, p, node);
-    match turn {
-        InsertTurn::Over => Err(ListRefused::Again),
-        InsertTurn::Answered(answer, _) => Ok(answer),
-        InsertTurn::NoNode => Err(ListRefused::NoNode),
-        InsertTurn::Spent(spent) => Err(ListRefused::Spent(spent)),
-    }
+    answer_of(turn)
 }

@@ -14,9 +14,9 @@ use Rattle.orc_heap.specs.Seats.{IsIdle, Seat}
 use Rattle.orc_heap.specs.Slots.{Hold, IsFree, SlotNode, Slots}
 use Rattle.orc_heap.specs.declared.events.Event.{Event}
 use Rattle.orc_history.specs.declared.set.ListRefused.{ListRefused}
-use Rattle.orc_history.specs.declared.set.ListRefused.TheVariants.{Spent as RefusedSpent}
+use Rattle.orc_history.specs.declared.set.ListRefused.TheVariants.{NoNode as RefusedNoNode, Spent as RefusedSpent}
 use Rattle.orc_history.specs.declared.set.SetEntry.{SetEntry}
-use Rattle.orc_ordered_search.specs.Inserts.{AddsNode, EndsWith, HasRoomFor, InsertCall, InsertEnds, InsertTires, Inserts, InsertsOn, InsertsTurns, IsInFirst, IsToAdd, KeepsNode, count_of, slots_with, turn_by}
+use Rattle.orc_ordered_search.specs.Inserts.{AddsNode, EndsWith, HasRoomFor, InsertAnswers, InsertCall, InsertEnds, InsertTires, Inserts, InsertsOn, InsertsTurns, IsInFirst, IsToAdd, KeepsNode, answer_by, count_of, slots_with, turn_by}
 use Rattle.orc_ordered_search.specs.Reading.{Ordering, Reading}
 use Rattle.orc_ordered_search.specs.Searches.{HasRoom, HoldsIfAny, LetsGo, node_of}
 use Rattle.orc_ordered_search.specs.Turns.{Answers, Tires}
@@ -198,7 +198,7 @@ few_given given None e = omega (arith, e)
 few_given given (Some h) e = omega (arith, e)
 
 module _ {N : Type 0} (r : Reading N) (turns : ℕ) (kept : Option Hold) (s t u : Seat N) (room : HasRoomFor s.slots) (g : LetsGo kept t u) where
-  pub insert_tires : (value kind : ℕ) → InsertsOn r value kind turns s.slots None kept s t → InsertTires r turns s u
+  insert_tires : (value kind : ℕ) → InsertsOn r value kind turns s.slots None kept s t → InsertTires r turns s u
   insert_tires value kind f =
       let gone = ends_go kept s t u (keeps_ends r value kind kept s.slots t f.keeps) room g in
       record {
@@ -210,7 +210,7 @@ module _ {N : Type 0} (r : Reading N) (turns : ℕ) (kept : Option Hold) (s t u 
         fresh = gone.fresh;
       }
 
-  pub insert_call : (own : List (Event N)) (es : List SetEntry) → InsertEnds r s.slots None kept s own es t → InsertCall r s own es u
+  insert_call : (own : List (Event N)) (es : List SetEntry) → InsertEnds r s.slots None kept s own es t → InsertCall r s own es u
   insert_call own es e =
       let gone = ends_go kept s t u e.ends room g in
       record {
@@ -220,6 +220,14 @@ module _ {N : Type 0} (r : Reading N) (turns : ℕ) (kept : Option Hold) (s t u 
         slots = gone.slots;
         fresh = gone.fresh;
       }
+
+  -- an insert answers by how its turns ended, and the node in hand is let go
+  pub turns_answer : (value kind : ℕ) (entry : Bool → SetEntry) (turn : InsertTurn) → InsertsTurns r value kind entry turns s turn kept t
+      → InsertAnswers r entry turns s (answer_by turn) u
+  turns_answer value kind entry Over f = insert_tires value kind f
+  turns_answer value kind entry (Answered answer passed) f = (f.0, f.1.0, insert_call f.1.0 _ f.1.1)
+  turns_answer value kind entry NoNode f = (f.0, f.1.0, insert_call f.1.0 _ f.1.1)
+  turns_answer value kind entry (Spent why) f = (f.0, f.1.0, insert_call f.1.0 _ f.1.1)
 
 -- an idle pass has room
 pub idle_room : {N : Type 0} (s : Seat N) → IsIdle s → HasRoomFor s.slots
@@ -234,7 +242,7 @@ idle_room s idle =
       };
     })
 
-pub spent_same : (a b : SpentRow) → ◌≡◌ {A = Result Bool ListRefused} (Err (RefusedSpent a)) (Err (RefusedSpent b)) → a ≡ b
+spent_same : (a b : SpentRow) → ◌≡◌ {A = Result Bool ListRefused} (Err (RefusedSpent a)) (Err (RefusedSpent b)) → a ≡ b
 spent_same a b e = cc
 
 pub turn_spent : (passed : ℕ) (linked : Result Bool SpentRow) (why : SpentRow) → turn_by passed linked ≡ Spent why → linked ≡ Err why
@@ -246,3 +254,24 @@ pub turn_node : (passed : ℕ) (linked : Result Bool SpentRow) → turn_by passe
 turn_node passed (Ok true) e = cc
 turn_node passed (Ok false) e = cc
 turn_node passed (Err why) e = cc
+
+-- what an insert's turns ended with that added its key
+pub turn_added : (turn : InsertTurn) → answer_by turn ≡ Ok true → (passed : ℕ) × (turn ≡ Answered true passed)
+turn_added Over e = cc
+turn_added (Answered true passed) e = (passed, refl)
+turn_added (Answered false passed) e = cc
+turn_added NoNode e = cc
+turn_added (Spent why) e = cc
+
+-- how the turns of an insert ended that was refused so
+pub turn_lacks : (turn : InsertTurn) → answer_by turn ≡ Err RefusedNoNode → turn ≡ NoNode
+turn_lacks Over e = cc
+turn_lacks (Answered answer passed) e = cc
+turn_lacks NoNode e = refl
+turn_lacks (Spent why) e = cc
+
+pub turn_worn : (turn : InsertTurn) (why : SpentRow) → answer_by turn ≡ Err (RefusedSpent why) → turn ≡ Spent why
+turn_worn Over why e = cc
+turn_worn (Answered answer passed) why e = cc
+turn_worn NoNode why e = cc
+turn_worn (Spent other) why e = ap (λ (x : SpentRow). Spent x) (spent_same other why e)

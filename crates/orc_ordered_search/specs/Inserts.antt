@@ -62,6 +62,13 @@ turn_by passed (Ok true) = Answered true passed
 turn_by passed (Ok false) = Over
 turn_by passed (Err why) = Spent why
 
+-- what an insert answers whose turns ended so
+abbrev pub answer_by : InsertTurn → Result Bool ListRefused
+answer_by Over = Err Again
+answer_by (Answered answer passed) = Ok answer
+answer_by NoNode = Err RefusedNoNode
+answer_by (Spent why) = Err (RefusedSpent why)
+
 module _ {N : Type 0} where
   -- the pass holds its fresh node, which has these values
   pub record HoldsNode (r : Reading N) (value kind : ℕ) (h : Hold) (id : ℕ) (t : Seat N) : Type 0 where

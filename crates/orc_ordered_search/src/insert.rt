@@ -6,7 +6,7 @@ ghost use Rattle.orc_fault.specs.declared.Spent.{Spent};
 ghost use Rattle.orc_heap.specs.Moves.{gives_in};
 ghost use Rattle.orc_history.specs.Journals.{Within};
 ghost use Rattle.orc_history.specs.declared.set.SetEntry.{SetEntry};
-ghost use Rattle.orc_ordered_search.specs.Inserts.{AddsFound, AddsNode, Borrows, Inserts, LinksAndGoes, LinksTo, NodeToAdd, SeesAbsent, Sought, turn_by};
+ghost use Rattle.orc_ordered_search.specs.Inserts.{AddsFound, AddsNode, Borrows, Inserts, LinksAndGoes, LinksTo, NodeToAdd, SeesAbsent, Sought, answer_by, turn_by};
 ghost use Rattle.orc_ordered_search.specs.Reading.{reading_by};
 ghost use Rattle.orc_ordered_search.specs.Searches.{left_place, node_of};
 ghost use Rattle.orc_ordered_search.specs.Turns.{made_from};
@@ -21,7 +21,7 @@ use crate::turn::InsertTurn;
 use crate::walk::Searched;
 use orc_fault::Spent;
 use orc_heap::{Discipline, Held, Links, Want};
-use orc_history::SetEntry;
+use orc_history::{ListRefused, SetEntry};
 
 // The node, if there is one.
 fn node_in<'a>(node: &'a Option<Held>) -> Option<&'a Held>
@@ -232,5 +232,17 @@ pub fn insert_found<K: SetRank, L: Links<Rule = K::Rule>>(
                 (InsertTurn::Over, node)
             }
         }
+    }
+}
+
+/// What an insert answers whose turns ended so.
+pub fn answer_of(turn: InsertTurn) -> Result<bool, ListRefused>
+    ensures { result ≡ answer_by turn }
+{
+    match turn {
+        InsertTurn::Over => Err(ListRefused::Again),
+        InsertTurn::Answered(answer, _) => Ok(answer),
+        InsertTurn::NoNode => Err(ListRefused::NoNode),
+        InsertTurn::Spent(spent) => Err(ListRefused::Spent(spent)),
     }
 }

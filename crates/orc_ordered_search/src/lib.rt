@@ -15,7 +15,7 @@ mod walk;
 
 pub use call::{Call, answer_found};
 pub use in_hand::{let_all_go, let_go, link_to};
-pub use insert::{add_node, insert_found, turn_of};
+pub use insert::{add_node, answer_of, insert_found, turn_of};
 pub use rank::Rank;
 pub use remove::mark_node;
 pub use search::search_chain;

@@ -19,7 +19,7 @@ use Rattle.orc_history.specs.Parts.{IsAlone, part_begin}
 use Rattle.orc_history.specs.declared.set.ListRefused.TheVariants.{Again}
 use Rattle.orc_history.specs.declared.set.SetEntry.{SetEntry}
 use Rattle.orc_ordered_search.specs.Causes.{others_moves}
-use Rattle.orc_ordered_search.specs.Inserts.{InsertAnswers, InsertCall}
+use Rattle.orc_ordered_search.specs.Inserts.{InsertAnswers, InsertCall, answer_by}
 use Rattle.orc_ordered_search.specs.Reading.{Reading}
 use Rattle.orc_ordered_search.specs.declared.turn.InsertTurn.{InsertTurn}
 use Rattle.orc_ordered_search.proofs.Making.{made_on, over_none}
@@ -27,7 +27,7 @@ use Rattle.orc_ordered_search.proofs.Settling.{Did, insert_did}
 use Rattle.orc_split_rule.specs.SplitDiscipline.{SplitHolds, SplitMay, size_of}
 use Rattle.orc_split_rule.specs.SplitOrder.{bucket_of}
 use Rattle.orc_split_rule.specs.declared.split.SplitNote.{SplitNote}
-use Rattle.orc_split_set.specs.Growths.{GrowsAfter, answer_by}
+use Rattle.orc_split_set.specs.Growths.{GrowsAfter}
 use Rattle.orc_split_set.specs.Rootings.{IsRootSet, Prepares}
 use Rattle.orc_split_set.specs.SplitSearches.{split_reading}
 use Rattle.orc_split_set.specs.declared.bucket.Rooted.{Rooted}

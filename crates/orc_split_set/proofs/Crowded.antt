@@ -1,6 +1,6 @@
 -- An insert that went past many keys doubled the number of buckets, if nobody disturbed it.
 use mathlib.Core.List.{IsPrefix}
-use Rattle.std.proofs.Common.{Bool, List, None, Ok, Option, Result, Some, [], ap, append-nil, append_assoc, arith, drop, false, inl, inr, length, refl, subst, suc, sym, take, true, zero, ℕ, ◌*◌, ◌++◌, ◌<◌, ◌==◌, ◌∙◌, ◌∷◌, ◌≡◌, ◌≢◌, ◌≤◌, ◌^◌, ◌⊎◌}
+use Rattle.std.proofs.Common.{Bool, List, None, Ok, Option, Result, Some, [], ap, append-nil, append_assoc, arith, drop, inl, inr, length, refl, subst, suc, sym, take, true, zero, ℕ, ◌*◌, ◌++◌, ◌<◌, ◌==◌, ◌∙◌, ◌∷◌, ◌≡◌, ◌≢◌, ◌≤◌, ◌^◌, ◌⊎◌}
 use Rattle.std.proofs.Math.Bridge.{le_prop}
 use Rattle.std.proofs.Math.Logic.{∥∥₁_elim}
 use Rattle.std.proofs.Math.Seq.{drop-append_seam}
@@ -22,10 +22,10 @@ use Rattle.orc_heap.specs.declared.events.Event.{Event}
 use Rattle.orc_history.specs.Parts.{IsAlone, part_begin}
 use Rattle.orc_history.specs.declared.set.ListRefused.{ListRefused}
 use Rattle.orc_history.specs.declared.set.SetEntry.{SetEntry}
-use Rattle.orc_ordered_search.specs.Inserts.{InsertAnswers}
+use Rattle.orc_ordered_search.specs.Inserts.{InsertAnswers, answer_by}
 use Rattle.orc_ordered_search.specs.declared.turn.InsertTurn.{InsertTurn}
-use Rattle.orc_ordered_search.specs.declared.turn.InsertTurn.TheVariants.{Answered, NoNode as TurnNoNode, Over, Spent as TurnSpent}
-use Rattle.orc_ordered_search.proofs.Inserting.{seen_holds}
+use Rattle.orc_ordered_search.specs.declared.turn.InsertTurn.TheVariants.{Answered}
+use Rattle.orc_ordered_search.proofs.Inserting.{seen_holds, turn_added}
 use Rattle.orc_ordered_search.proofs.Parts.{others_alone}
 use Rattle.orc_split_rule.proofs.Later.{holds_later, nothing_yet}
 use Rattle.orc_split_rule.proofs.Sizes.{size_is_power, size_next}
@@ -35,7 +35,7 @@ use Rattle.orc_split_rule.specs.SplitOrder.{bucket_of}
 use Rattle.orc_split_rule.specs.declared.split.SplitNote.{SplitNote}
 use Rattle.orc_split_rule.specs.declared.split.SplitNote.TheVariants.{Anchor, Bucket, Entry, Grow, Unlink}
 use Rattle.orc_split_set.specs.Crowds.{CountsKeys, SeesOwn, keys_before, keys_between, seat_after}
-use Rattle.orc_split_set.specs.Growths.{GrowTells, GrowsAfter, HasGrow, IsCrowded, answer_by}
+use Rattle.orc_split_set.specs.Growths.{GrowTells, GrowsAfter, HasGrow, IsCrowded}
 use Rattle.orc_split_set.specs.Rootings.{IsUndisturbed, KeyTells, Prepares}
 use Rattle.orc_split_set.specs.SplitSearches.{split_reading}
 use Rattle.orc_split_set.specs.declared.bucket.Rooted.{Rooted}
@@ -181,14 +181,6 @@ module _ (n : HeapNumbers) (key : ℕ) (s t0 t v u : Seat SplitNote) (turn : Ins
           ]
     ]
   ]
-
--- what an insert's turns ended with that added its key
-pub turn_added : (turn : InsertTurn) → answer_by turn ≡ Ok true → (passed : ℕ) × (turn ≡ Answered true passed)
-turn_added Over e = cc
-turn_added (Answered true passed) e = (passed, refl)
-turn_added (Answered false passed) e = cc
-turn_added TurnNoNode e = cc
-turn_added (TurnSpent why) e = cc
 
 -- what a call that was undisturbed did before its turns: it put its events in the seat in which its part begins
 pub begun_puts : (s t : Seat SplitNote) (own gap : List (Event SplitNote)) → (p : Puts s own t) → IsUndisturbed s.agent p.part gap → Puts (seat_after s gap) own t

@@ -30,12 +30,12 @@ use Rattle.orc_heap.specs.declared.holds.At.{At}
 use Rattle.orc_heap.specs.declared.holds.Looked.TheVariants.{Stable}
 use Rattle.orc_heap.specs.declared.holds.Seen.{Seen}
 use Rattle.orc_heap.specs.declared.holds.Want.{Want}
-use Rattle.orc_history.specs.declared.set.ListRefused.TheVariants.{Again, NoNode as RefusedNoNode, Spent as RefusedSpent}
+use Rattle.orc_history.specs.declared.set.ListRefused.TheVariants.{Again}
 use Rattle.orc_ordered_search.specs.declared.turn.InsertTurn.{InsertTurn}
 use Rattle.orc_ordered_search.specs.declared.turn.InsertTurn.TheVariants.{Answered, NoNode as TurnNoNode, Over, Spent as TurnSpent}
 use Rattle.orc_ordered_search.specs.Searches.{FindsMoved, HoldsIfAny, LetsGo, Quiet, target_at}
 use Rattle.orc_ordered_search.proofs.Held.{goes_hands}
-use Rattle.orc_ordered_search.proofs.Inserting.{idle_room, spent_same}
+use Rattle.orc_ordered_search.proofs.Inserting.{idle_room}
 use Rattle.orc_ordered_search.proofs.Making.{made_after, made_on}
 use Rattle.orc_ordered_search.proofs.Quiets.{silent_one, silent_three}
 use Rattle.orc_ordered_chains.specs.Chains.{link_over}
@@ -46,12 +46,13 @@ use Rattle.orc_split_rule.specs.Watches.{StandsFor, node_to_link}
 use Rattle.orc_split_rule.specs.declared.split.SplitNote.{SplitNote}
 use Rattle.orc_split_rule.specs.declared.split.SplitNote.TheVariants.{Grow}
 use Rattle.orc_split_set.specs.Crowds.{SeesOwn}
-use Rattle.orc_split_set.specs.Growths.{Doubles, DoublesAndGoes, GrowTells, GrowsAfter, HasGrow, HasSizeNode, HoldsSize, IsCrowded, ShowsSize, SwingsSize, answer_by, grown_by}
+use Rattle.orc_split_set.specs.Growths.{Doubles, DoublesAndGoes, GrowTells, GrowsAfter, HasGrow, HasSizeNode, HoldsSize, IsCrowded, ShowsSize, SwingsSize, grown_by}
 use Rattle.orc_split_set.specs.SplitSearches.{split_reading}
 use Rattle.orc_split_set.specs.declared.bucket.Rooted.{Rooted}
 use Rattle.orc_split_set.specs.declared.bucket.Rooted.TheVariants.{Done, Moved, NoNode, Spent}
 use Rattle.orc_split_set.proofs.Crowding.{own_later, own_not_moved, own_part, own_seen, own_shows, own_size, own_sooner, own_unmoved, puts_grow}
 use Rattle.orc_heap.proofs.Pieces.{goes_on}
+use Rattle.orc_ordered_search.specs.Inserts.{answer_by}
 use Rattle.orc_split_set.proofs.Ordered.{split_ordering}
 use Rattle.orc_split_set.proofs.Preparing.{nothing}
 use Rattle.orc_split_set.proofs.Sizes.{SizeHeld, values_puts}
@@ -372,19 +373,6 @@ again_uncrowded (Answered false passed) e k = k
 again_uncrowded (Answered true passed) e k = cc
 again_uncrowded TurnNoNode e k = k
 again_uncrowded (TurnSpent why) e k = k
-
--- how the turns of an insert ended that was refused so
-pub turn_lacks : (turn : InsertTurn) → answer_by turn ≡ Err RefusedNoNode → turn ≡ TurnNoNode
-turn_lacks Over e = cc
-turn_lacks (Answered answer passed) e = cc
-turn_lacks TurnNoNode e = refl
-turn_lacks (TurnSpent why) e = cc
-
-pub turn_worn : (turn : InsertTurn) (why : SpentRow) → answer_by turn ≡ Err (RefusedSpent why) → turn ≡ TurnSpent why
-turn_worn Over why e = cc
-turn_worn (Answered answer passed) why e = cc
-turn_worn TurnNoNode why e = cc
-turn_worn (TurnSpent other) why e = ap (λ (x : SpentRow). TurnSpent x) (spent_same other why e)
 
 -- no try followed
 pub grows_none : (n : HeapNumbers) (turn : InsertTurn) (s : Seat SplitNote) → (IsCrowded turn → ⊥) → s.fresh ≡ None → GrowsAfter n turn s Done s

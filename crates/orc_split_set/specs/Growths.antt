@@ -12,8 +12,6 @@ use Rattle.orc_heap.specs.declared.events.Event.{Event}
 use Rattle.orc_heap.specs.declared.events.Place.TheVariants.{Root}
 use Rattle.orc_ordered_chains.specs.Chains.{link_over}
 use Rattle.orc_ordered_search.specs.Inserts.{InsertCall}
-use Rattle.orc_history.specs.declared.set.ListRefused.{ListRefused}
-use Rattle.orc_history.specs.declared.set.ListRefused.TheVariants.{Again, NoNode as RefusedNoNode, Spent as RefusedSpent}
 use Rattle.orc_ordered_search.specs.Searches.{LetsGo}
 use Rattle.orc_ordered_search.specs.declared.turn.InsertTurn.{InsertTurn}
 use Rattle.orc_ordered_search.specs.declared.turn.InsertTurn.TheVariants.{Answered, NoNode as TurnNoNode, Over, Spent as TurnSpent}
@@ -85,13 +83,6 @@ pub record HoldsSize (n : HeapNumbers) (old : Hold) (s : Seat SplitNote) : Type 
   pub held : HoldsId s.slots old id
   pub node : IsSizeNode (heap_of n s) id size
   pub is_size : IsSize (greatest n) size
-
--- what an insert answers whose turns ended so
-abbrev pub answer_by : InsertTurn → Result Bool ListRefused
-answer_by Over = Err Again
-answer_by (Answered answer passed) = Ok answer
-answer_by TurnNoNode = Err RefusedNoNode
-answer_by (TurnSpent why) = Err (RefusedSpent why)
 
 -- such an insert added its key, and went past more than 8 others
 abbrev pub IsCrowded : InsertTurn → Type 0

@@ -1,6 +1,6 @@
 //! Adding a key.
 
-ghost use Rattle.std.specs.Prelude.{◌≡◌, ◌<◌, ◌≤◌, ℕ, Err, None, Ok, Option, true};
+ghost use Rattle.std.specs.Prelude.{◌≡◌, ◌<◌, ◌≤◌, ℕ, None, Option, true};
 ghost use mathlib.Core.List.{IsPrefix};
 ghost use Rattle.orc_fault.specs.declared.Spent.{Spent};
 ghost use Rattle.orc_heap.specs.Seats.{IsIdle, Seat, heap_of};
@@ -8,13 +8,12 @@ ghost use Rattle.orc_heap.specs.Slots.{Slots};
 ghost use Rattle.orc_heap.specs.declared.events.Place.{Place};
 ghost use Rattle.orc_history.specs.declared.set.SetEntry.{SetEntry};
 ghost use Rattle.orc_history.specs.Parts.{WithinPart};
-ghost use Rattle.orc_ordered_search.specs.Inserts.{HasRoomFor, InsertAnswers, Inserts, InsertsTurns, KeepsNode};
+ghost use Rattle.orc_ordered_search.specs.Inserts.{HasRoomFor, InsertAnswers, Inserts, InsertsTurns, KeepsNode, answer_by};
 ghost use Rattle.orc_ordered_search.specs.declared.turn.InsertTurn.{InsertTurn};
 ghost use Rattle.orc_split_rule.specs.SplitDiscipline.{greatest};
 ghost use Rattle.orc_split_rule.specs.SplitOrder.{key_place};
 ghost use Rattle.orc_split_rule.specs.declared.split.SplitNote.{SplitNote};
 ghost use Rattle.orc_split_set.specs.Crowds.{BeginsBy, CountsFrom, CountsKeys};
-ghost use Rattle.orc_split_set.specs.Growths.{answer_by};
 ghost use Rattle.orc_split_set.specs.SplitSearches.{BeginsAt, split_reading};
 
 use crate::begin::{Begun, begin};
@@ -22,7 +21,6 @@ use crate::node::NewNode;
 use crate::order::SplitPlace;
 use crate::search::search_for;
 use orc_heap::{Held, Links};
-use orc_history::ListRefused;
 use orc_ordered_search::{InsertTurn, insert_found, let_go};
 use orc_split_rule::Split;
 
@@ -154,16 +152,4 @@ pub(crate) fn insert_key<L: Links<Rule = Split>>(
     let (turn, node) = insert_turns(links, p, most, key, turns);
     let_go(links, p, node);
     turn
-}
-
-// What an insert answers whose turns ended so.
-pub(crate) fn answer_of(turn: InsertTurn) -> Result<bool, ListRefused>
-    ensures { result ≡ answer_by turn }
-{
-    match turn {
-        InsertTurn::Over => Err(ListRefused::Again),
-        InsertTurn::Answered(answer, _) => Ok(answer),
-        InsertTurn::NoNode => Err(ListRefused::NoNode),
-        InsertTurn::Spent(spent) => Err(ListRefused::Spent(spent)),
-    }
 }

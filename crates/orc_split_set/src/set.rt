@@ -16,13 +16,13 @@ ghost use Rattle.orc_split_set.specs.Laws.SetLaws.{cause_stays, entries_below, h
 use crate::answer::call_turns;
 use crate::bucket::prepare;
 use crate::grow::grow_after;
-use crate::insert::{answer_of, insert_key};
+use crate::insert::insert_key;
 use crate::size::size_turns;
 use crate::stop::{has_linked, stop_a_bucket};
 use orc_fault::{Again, Spent};
 use orc_heap::Links;
 use orc_history::{LearnSet, ListRefused, SharedSet};
-use orc_ordered_search::Call;
+use orc_ordered_search::{Call, answer_of};
 use orc_split_rule::Split;
 
 /// A set of numbers that agents share, over a domain of links: one chain from root 0, in split order, and a root for each bucket

@@ -1,9 +1,8 @@
 -- The node in hand is let go after the turns.
 use Rattle.orc_history.specs.declared.set.SetEntry.TheVariants.{Added}
-use Rattle.orc_ordered_search.proofs.Inserting.{ends_held, ends_of, idle_room}
+use Rattle.orc_ordered_search.proofs.Inserting.{ends_held, ends_of, idle_room, turns_answer}
 use Rattle.orc_heap.proofs.Parting.{part_goes_on}
 use Rattle.orc_split_set.specs.SplitSearches.{split_reading}
-use Rattle.orc_split_set.proofs.Turning.{turns_answer}
 use Rattle.orc_split_set.proofs.Crowding.{own_sooner, seen_grows}
 use Rattle.orc_split_set.proofs.insert.insert_key.Goals as goal
 

@@ -8,9 +8,9 @@ use Rattle.orc_history.specs.declared.set.SetEntry.TheVariants.{Added}
 use Rattle.orc_ordered_search.proofs.Causes.{did_enter, did_give, did_not_enter, turns_used}
 use Rattle.orc_ordered_search.proofs.Parts.{within_goes_on}
 use Rattle.orc_ordered_search.proofs.Settling.{Did, idle_settled, insert_did, insert_keeps}
-use Rattle.orc_split_set.specs.Growths.{answer_by}
+use Rattle.orc_ordered_search.specs.Inserts.{answer_by}
+use Rattle.orc_ordered_search.proofs.Inserting.{turn_lacks, turn_worn}
 use Rattle.orc_split_set.specs.SplitSearches.{split_reading}
-use Rattle.orc_split_set.proofs.Growing.{turn_lacks, turn_worn}
 use Rattle.orc_split_set.proofs.Ordered.{split_ordering}
 use Rattle.orc_split_set.proofs.set.SplitSet.insert_and_stop.Goals as goal
 

@@ -13,15 +13,14 @@ use Rattle.orc_ordered_search.proofs.Causes.{did_enter, did_give, did_not_enter,
 use Rattle.orc_ordered_search.proofs.Licences.{insert_licence}
 use Rattle.orc_ordered_search.proofs.Parts.{within_goes_on}
 use Rattle.orc_ordered_search.proofs.Settling.{Did, idle_settled, insert_keeps}
-use Rattle.orc_ordered_search.specs.Inserts.{InsertAnswers}
+use Rattle.orc_ordered_search.specs.Inserts.{InsertAnswers, answer_by}
 use Rattle.orc_heap.proofs.Parting.{part_of_part}
+use Rattle.orc_ordered_search.proofs.Inserting.{turn_lacks, turn_worn}
 use Rattle.orc_split_set.proofs.Calling.{did_after, if_ok, insert_after, roots_call}
 use Rattle.orc_split_rule.specs.SplitDiscipline.{IsSize, greatest}
 use Rattle.orc_split_set.proofs.Crowded.{grows_call}
 use Rattle.orc_split_set.proofs.Crowding.{seen_grows}
-use Rattle.orc_split_set.proofs.Growing.{turn_lacks, turn_worn}
 use Rattle.orc_split_set.specs.declared.bucket.Rooted.TheVariants.{NoNode as RootedNoNode, Spent as RootedSpent}
-use Rattle.orc_split_set.specs.Growths.{answer_by}
 use Rattle.orc_split_set.specs.SplitSearches.{split_reading}
 use Rattle.orc_split_set.proofs.Ordered.{split_ordering}
 use Rattle.orc_split_set.proofs.set.SplitSetSharedSet.insert.Goals as goal
