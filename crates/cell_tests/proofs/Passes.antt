@@ -1,5 +1,5 @@
 -- Lists of passes, of which the last one was used.
-use Rattle.std.proofs.Common.{List, [], arith, length, suc, zero, ℕ, ◌++◌, ◌<◌, ◌∷◌}
+use Rattle.std.proofs.Common.{List, [], arith, suc, zero, ℕ, ◌++◌, ◌∷◌}
 use Rattle.orc_shared_words.specs.Lists.{EachAt}
 
 one_at : {A : Type 0} (P : ℕ → A → Type 0) (x : A) → P 0 x → EachAt P (x ∷ [])

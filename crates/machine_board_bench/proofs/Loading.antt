@@ -1,7 +1,7 @@
 -- A load of a root's link is allowed where nothing is pending, and leaves the record.
-use Rattle.std.proofs.Common.{None, Option, sym, true, ap, subst, ℕ, ◌<◌, ◌∙◌, ◌≡◌}
+use Rattle.std.proofs.Common.{None, Option, true, ap, ℕ, ◌<◌, ◌≡◌}
 use Rattle.std.proofs.lemmas.Bool.{lt-ltb}
-use Rattle.std.specs.Prelude.{nat_lt, ◌&&◌}
+use Rattle.std.specs.Prelude.{◌&&◌}
 use Rattle.machine_board_bench.specs.Quiet.{IsQuiet}
 use Rattle.orc_core.specs.Allowed.{forced, in_order, may}
 use Rattle.orc_core.specs.declared.ops.Op.TheVariants.{LinkLoad}

@@ -5,7 +5,8 @@ use Rattle.std.proofs.lemmas.List.Elements.{All-from_recursion}
 use Rattle.std.specs.List.{AllByRecursion}
 use Rattle.std.specs.Prelude.{slice_index_or}
 use mathlib.Core.List.{IsPrefix}
-use Rattle.orc_any_domain.specs.Learning.{Hears, HearsAll, HearsWithin, HoldsSame, IsOneOf, LearnsAll, LearnsRound, Pairwise}
+use Rattle.orc_any_domain.specs.Learning.{Hears, HearsAll, HearsWithin, HoldsSame, IsOneOf, LearnsAll, LearnsRound}
+use Rattle.orc_history.specs.Lists.{Pairwise}
 use Rattle.orc_heap.proofs.Pieces.{goes_on}
 use Rattle.orc_heap.proofs.Prefixes.{both_prefixes, prefix_same}
 use Rattle.orc_heap.specs.Calls.{IsLonger, Learns}
@@ -59,9 +60,6 @@ all_unit [] = tt
 all_unit (x ∷ xs) = (tt, all_unit xs)
 
 module _ {N W : Type 0} (seat : W → Seat N) where
-  pub same_itself : (w : W) → HoldsSame seat w w
-  same_itself w = record { agent = refl; slots = refl; fresh = refl }
-
   pub same_trans : (u v w : W) → HoldsSame seat u v → HoldsSame seat v w → HoldsSame seat u w
   same_trans u v w h k = record { agent = k.agent ∙ h.agent; slots = k.slots ∙ h.slots; fresh = k.fresh ∙ h.fresh }
 
@@ -78,9 +76,6 @@ module _ {N W : Type 0} (seat : W → Seat N) where
       (λ p q s ne e. ne (sym k.agent ∙ (e ∙ s.agent))) vs ws h d
 
   module _ {S : Type 0} (agent_of : S → ℕ) (list : W → List S) where
-    pub hears_itself : (w : W) → Hears seat agent_of list w w
-    hears_itself w = record { same = same_itself w; more = prefix_same (list w) (list w) refl; own = refl }
-
     pub hears_trans : (u v w : W) → Hears seat agent_of list u v → Hears seat agent_of list v w → Hears seat agent_of list u w
     hears_trans u v w h k = record {
       same = same_trans u v w h.same k.same;
@@ -132,13 +127,6 @@ module _ {N W : Type 0} (seat : W → Seat N) where
             (λ h. record { place = 0; low = omega arith; is = λ p. is p ∙ h.1 })
             l.of_both
         at (suc k) low is = record { place = suc (suc k); low = omega (arith, low); is = is }
-
-    pub round_none : (v : W) (all : List W) → all ≡ [] → LearnsRound seat agent_of list v v all all
-    round_none v all e = subst (λ (t : List W). LearnsRound seat agent_of list v v t t) (sym e) (record {
-      first = hears_itself v;
-      others = tt;
-      longest = record { place = 0; low = omega arith; is = λ p. refl };
-    })
 
     pub round_more : (v x z w y : W) (ws ys all : List W) → all ≡ w ∷ ws → Shares v w x y → LearnsRound seat agent_of list x z ws ys
         → LearnsRound seat agent_of list v z all (y ∷ ys)

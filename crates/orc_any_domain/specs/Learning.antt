@@ -3,13 +3,7 @@ use Rattle.std.specs.Prelude.{List, [], length, slice_index_or, ℕ, ◌<◌, �
 use mathlib.Core.List.{IsPrefix}
 use Rattle.orc_heap.specs.Seats.{Seat}
 use Rattle.orc_history.specs.Journals.{own_of}
-
--- R holds of each two items of the lists that stand at one place, and the lists are equally long
-abbrev pub Pairwise : {A B : Type 0} → (A → B → Type 0) → List A → List B → Type 0
-Pairwise R [] [] = Unit {0}
-Pairwise R (x ∷ xs) (y ∷ ys) = R x y × Pairwise R xs ys
-Pairwise R [] (y ∷ ys) = ⊥
-Pairwise R (x ∷ xs) [] = ⊥
+use Rattle.orc_history.specs.Lists.{Pairwise}
 
 module _ {N W : Type 0} (seat : W → Seat N) where
   -- a pass, which was v and is w, holds what it held

@@ -7,7 +7,6 @@ use Rattle.orc_history.specs.declared.queue.QueueRefused.{QueueRefused}
 use Rattle.orc_history.specs.declared.set.SetEntry.{SetEntry}
 use Rattle.orc_history.specs.declared.set.SetEntry.TheVariants.{Added, Removed}
 use Rattle.orc_history.specs.declared.set.ListRefused.{ListRefused}
-use Rattle.orc_history.specs.QueueHistory.{entry_of_dequeue}
 use Rattle.orc_jobs.specs.declared.line.Job.{Job}
 use Rattle.orc_jobs.specs.declared.line.Line.{Line}
 use Rattle.orc_jobs.specs.declared.line.Line.TheVariants as line
@@ -15,7 +14,7 @@ use Rattle.orc_jobs.specs.Line.{job_line}
 use Rattle.orc_board.specs.declared.replies.PostWord.{PostWord}
 use Rattle.orc_board.specs.declared.replies.TakeReply.{TakeReply}
 use Rattle.orc_board.specs.Stretches.{View, of_queue, of_set, Stretch, Share, Did, just, nothing, refusal, Replied}
-use Rattle.orc_board.specs.Table.{IsJob, IsNoJob, IsSkip, AreSkips, Closes, TakenRow, EndsWith, TakeEnds, TookLast, taken_of, Next, Opened, Dropped, JobPart, JobRow, DropPart, DropRow, PostRow, IsWordOf, IsPlacedAt, answer_of, took_of, in_its}
+use Rattle.orc_board.specs.Table.{IsJob, IsNoJob, IsSkip, AreSkips, Closes, TakenRow, TakeEnds, TookLast, taken_of, Next, Opened, Dropped, JobPart, JobRow, DropPart, DropRow, PostRow, IsWordOf, IsPlacedAt, answer_of, in_its}
 use Rattle.orc_board.proofs.Shares.{Stretch-trans, Stretch-refl, Did-just, Did-nothing}
 use Rattle.orc_board.proofs.CallStretches.{ends_later}
 use Rattle.orc_board.proofs.ListFacts.{AllByRecursion-append}

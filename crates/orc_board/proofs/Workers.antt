@@ -82,9 +82,6 @@ own-grow posters poster n (suc more) =
 pub own-many : {T : Type 0} (line : T → ℕ) (replies : List T) (own : List ℕ) → map line replies ≡ own → length replies ≡ length own
 own-many line replies own e = sym (length-map replies line) ∙ ap length e
 
-pub own-length : (replies : List PostReply) (own : List ℕ) → map (λ (r : PostReply). r.line) replies ≡ own → length replies ≡ length own
-own-length replies own e = own-many (λ (r : PostReply). r.line) replies own e
-
 -- there is one record more
 pub own-room : (posters poster i n : ℕ) → 1 ≤ poster → i < n → i % posters ≡ poster - 1
     → length (own_records posters poster i) < length (own_records posters poster n)

@@ -1,17 +1,14 @@
 -- From what a call did to its clauses on journals.
-use Rattle.std.proofs.Common.{List, [], ap, append-nil, append_assoc, arith, inr, length, subst, sym, take, true, ℕ, ◌++◌, ◌+◌, ◌<◌, ◌==◌, ◌∙◌, ◌∷◌, ◌≡◌, ◌≤◌, ◌⊎◌}
-use Rattle.std.proofs.lemmas.List.Elements.{filter-append}
+use Rattle.std.proofs.Common.{List, [], ap, append-nil, append_assoc, arith, length, subst, sym, take, ℕ, ◌++◌, ◌+◌, ◌<◌, ◌∙◌, ◌≡◌, ◌≤◌}
 use Rattle.std.proofs.Math.Seq.{take-length}
-use Rattle.std.specs.List.{list_all, AllByRecursion}
-use mathlib.Core.List.{IsPrefix}
 use Rattle.orc_heap.proofs.Moved.{gives_in-append}
 use Rattle.orc_heap.proofs.OwnParts.{from_own-others}
 use Rattle.orc_heap.proofs.InJournal.{CallSeen, adds_entries, own_after, seen_new, seen_part}
 use Rattle.orc_heap.proofs.Steps.{part_bounds}
-use Rattle.orc_heap.specs.Allowed.{AllAllowed, events_by}
+use Rattle.orc_heap.specs.Allowed.{events_by}
 use Rattle.orc_heap.specs.Heap.{HeapNumbers}
 use Rattle.orc_heap.specs.Moves.{from_own, gives_in}
-use Rattle.orc_heap.specs.OwnEvents.{IsBelow, Puts}
+use Rattle.orc_heap.specs.OwnEvents.{Puts}
 use Rattle.orc_heap.specs.Seats.{Seat}
 use Rattle.orc_heap.specs.declared.events.Event.{Event}
 use Rattle.orc_history.specs.Journals.{Adds}

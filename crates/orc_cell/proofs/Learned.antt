@@ -5,22 +5,18 @@ use Rattle.std.proofs.lemmas.List.Elements.{filter-append}
 use Rattle.std.specs.List.{slice_get}
 use Rattle.std.specs.Prelude.{replicate}
 use mathlib.Core.List.{IsPrefix}
-use Rattle.orc_heap.proofs.OwnEntries.{own_of_events}
 use Rattle.orc_heap.proofs.Stays.{allowed-right}
 use Rattle.orc_heap.specs.Allowed.{AllAllowed, events_by}
 use Rattle.orc_heap.specs.Domains.{agent}
 use Rattle.orc_heap.specs.Heap.{HeapNumbers, null, shown}
 use Rattle.orc_heap.specs.Journals.{run_heap}
-use Rattle.orc_heap.specs.Seats.{IsIdle, Seat}
+use Rattle.orc_heap.specs.Seats.{IsIdle}
 use Rattle.orc_heap.specs.declared.events.Event.{Event}
 use Rattle.orc_heap.specs.declared.events.Place.TheVariants.{Root}
 use Rattle.orc_heap.specs.declared.links.Links.{Ghosts as LinksOf}
-use Rattle.orc_history.specs.Journals.{LearnsEntries, own_of}
 use Rattle.orc_pairs_rule.proofs.Later.{staging_later}
-use Rattle.orc_pairs_rule.proofs.OwnEntries.{entries_own}
 use Rattle.orc_pairs_rule.specs.declared.pairs.PairsNote.{PairsNote}
-use Rattle.orc_pairs_rule.specs.CellHistory.{agent_of_entry}
-use Rattle.orc_pairs_rule.specs.PairsDiscipline.{IsStaging, PairsMay, entries_in, entries_of}
+use Rattle.orc_pairs_rule.specs.PairsDiscipline.{IsStaging, PairsMay}
 use Rattle.orc_cell.specs.CellCalls.{IsUsable}
 use Rattle.orc_cell.specs.Turns.{IsCellDomain}
 

@@ -43,10 +43,6 @@ pub pass_known : {L D P S : Type 0} (m : LinksOf L D P S PairsNote)
     → (links : L) (p : P) → m.belongs links p → Known (m.numbers links) (m.seat links p).seen
 pass_known m obeys allowed links p pass = record { holds = obeys links p pass; all = allowed links p pass }
 
--- a link of a once linked node
-abbrev pub IsNodePlace : Heap → Place → Type 0
-IsNodePlace h place = (id : ℕ) × IsLinkedNode h id × ((place ≡ Next id) ⊎ (place ≡ Side id))
-
 linked_place : (h : Heap) (id : ℕ) (place : Place) → IsLinkedNode h id → (place ≡ Next id) ⊎ (place ≡ Side id) → IsLinkedPlace place h
 linked_place h id place l (inl is) = subst (λ (x : Place). IsLinkedPlace x h) (sym is) l
 linked_place h id place l (inr is) = subst (λ (x : Place). IsLinkedPlace x h) (sym is) l

@@ -17,7 +17,6 @@ use Rattle.orc_pairs_rule.specs.CellHistory.{agent_of_entry}
 use Rattle.orc_pairs_rule.specs.PairsDiscipline.{IsStaging, PairsMay, entries_of}
 use Rattle.orc_cell.specs.Answers.{Answers, PublishAnswers, ReadAnswers}
 use Rattle.orc_cell.specs.Causes.{UsesTurns}
-use Rattle.orc_cell.specs.Publishes.{Piece}
 use Rattle.orc_cell.specs.Turns.{FindsOnly}
 use Rattle.orc_cell.specs.declared.refused.CellRefused.{CellRefused}
 use Rattle.orc_cell.specs.declared.refused.CellRefused.TheVariants.{Again, NoNode, Spent}

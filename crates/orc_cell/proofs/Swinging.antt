@@ -155,10 +155,6 @@ module _ (n : HeapNumbers) (s a b : Seat PairsNote) (pair : Hold) (l r x y : ℕ
                   ];
             }
 
--- a refused aim
-pub spent_left : (n : HeapNumbers) (s a : Seat PairsNote) (pair : Hold) → NotAimed n pair s a → PublishSpent n pair s a
-spent_left n s a pair x = record { answered = x.answered; fresh = x.fresh }
-
 pub spent_right : (n : HeapNumbers) (s a b : Seat PairsNote) (pair : Hold) (l x : ℕ) → Aimed n Left pair l x s a → NotAimed n pair a b → PublishSpent n pair s b
 spent_right n s a b pair l x left right = record { answered = Answered-trans n 0 0 s a b [] [] left.answered right.answered; fresh = right.fresh }
 

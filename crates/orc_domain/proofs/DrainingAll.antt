@@ -8,7 +8,8 @@ use Rattle.orc_machine_rest.specs.Drains.{Drains}
 use Rattle.orc_core.specs.Machine.{record_at}
 use Rattle.orc_core.specs.declared.records.Agent.{Agent}
 use Rattle.orc_any_domain.proofs.Rounds.{idle_all, one_of_all, pairwise_all, pairwise_join, pairwise_long, pairwise_map, same_trans}
-use Rattle.orc_any_domain.specs.Learning.{Hears, HearsAll, HoldsSame, LearnsAll, Pairwise}
+use Rattle.orc_any_domain.specs.Learning.{Hears, HearsAll, HoldsSame, LearnsAll}
+use Rattle.orc_history.specs.Lists.{Pairwise}
 use Rattle.orc_heap.proofs.Pieces.{goes_on}
 use Rattle.orc_heap.specs.OwnEvents.{Only}
 use Rattle.orc_heap.specs.Seats.{IsIdle, Seat}

@@ -1,10 +1,10 @@
 -- A pass learns from the one before it, and drains.
-use Rattle.std.proofs.Common.{List, [], arith, subst, suc, sym, ℕ, ◌∙◌, ◌∷◌, ◌≡◌, ◌≢◌}
+use Rattle.std.proofs.Common.{List, [], subst, suc, sym, ℕ, ◌∙◌, ◌∷◌, ◌≡◌}
 use Rattle.std.proofs.lemmas.List.Elements.{All-from_recursion, recursion_from_All}
 use Rattle.std.specs.List.{AllByRecursion}
 use Rattle.std.specs.Prelude.{slice_index_or}
 use mathlib.Core.List.{IsPrefix}
-use Rattle.orc_any_domain.proofs.Rounds.{Shares, first_hears, idle_same, same_trans, second_hears, shares_all, shares_steps}
+use Rattle.orc_any_domain.proofs.Rounds.{Shares, first_hears, same_trans, second_hears, shares_all, shares_steps}
 use Rattle.orc_any_domain.specs.Learning.{Hears}
 use Rattle.orc_machine_rest.specs.Drains.{Drains}
 use Rattle.orc_core.specs.Machine.{record_at}
@@ -88,9 +88,6 @@ module _ {D N : Type 0} {d : discipline.Ghosts D N} {m : machine.Ghosts Reclaimi
         numbers : AreNumbered seat (suc (seat u).agent) (v ∷ vs)
         numbers = subst (AreNumbered seat (suc (seat u).agent)) is numbered
 
-        pub next_differs : (seat v).agent ≢ (seat u).agent
-        next_differs e = let k = numbers.0 in omega (arith, e, k)
-
         module _ (idle : AllByRecursion (λ p. IsIdle (seat p)) all) (seen : AllByRecursion (λ p. IsPrefix (journal p) (journal u)) all) (x y : Pass d m)
             (l : Learns (λ (s : Step N). s.agent) (seat v) (seat u) (seat x) (seat y) (journal v) (journal u) (journal x) (journal y))
           where
@@ -111,9 +108,6 @@ module _ {D N : Type 0} {d : discipline.Ghosts D N} {m : machine.Ghosts Reclaimi
 
             pub others_idle : AllByRecursion (λ p. IsIdle (seat p)) vs
             others_idle = idle_all.1
-
-            pub next_idle : IsIdle (seat x)
-            next_idle = idle_same seat v x hears.same idle_all.0
 
             pub list_stays : journal y ≡ journal u
             list_stays = sym l.one_journal ∙ at

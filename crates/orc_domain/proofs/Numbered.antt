@@ -2,7 +2,8 @@
 use Rattle.std.proofs.Common.{List, [], arith, length, suc, zero, ℕ, ◌+◌, ◌<◌, ◌∙◌, ◌∷◌, ◌≡◌, ◌≢◌}
 use Rattle.std.specs.List.{AllByRecursion}
 use Rattle.std.specs.Prelude.{slice_index_or}
-use Rattle.orc_any_domain.specs.Learning.{HoldsSame, Pairwise}
+use Rattle.orc_any_domain.specs.Learning.{HoldsSame}
+use Rattle.orc_history.specs.Lists.{Pairwise}
 use Rattle.orc_domain.specs.Drains.{AreNumbered}
 use Rattle.orc_heap.specs.Seats.{Seat}
 

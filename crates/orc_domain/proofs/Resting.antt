@@ -37,11 +37,6 @@ module _ {D N : Type 0} {d : discipline.Ghosts D N} {m : machine.Ghosts Reclaimi
       pub others : AllByRecursion (λ w. IsPassOf domain w) rest
       pub to_go : (u : MachineView N) → TakesInSteps view (shows q) u rest → TakesInSteps view (shows p) u all
 
-    pub taking_all : (p : MachineBoardPass D N (MachineShape N) Request (Step N) Agent Agent d m)
-        (all : List (OrcPass D N (MachineShape N) Request (Step N) Agent Agent d m)) → Belongs domain.board p
-        → AllByRecursion (λ w. IsPassOf domain w) all → Taking p p all all
-    taking_all p all h o = record { belongs = h; others = o; to_go = λ u t. t }
-
     pub taking_next : (p q : MachineBoardPass D N (MachineShape N) Request (Step N) Agent Agent d m)
         (all rest : List (OrcPass D N (MachineShape N) Request (Step N) Agent Agent d m)) → Taking p q all rest
         → (w : OrcPass D N (MachineShape N) Request (Step N) Agent Agent d m) → rest ≡ w ∷ drop 1 rest

@@ -12,21 +12,20 @@ use Rattle.orc_core.specs.declared.ops.Op.TheVariants.{TakeIn}
 use Rattle.orc_core.specs.declared.records.SlotUse.{SlotUse}
 use Rattle.orc_core.specs.declared.records.SlotUse.TheVariants.{Empty}
 use Rattle.orc_heap.specs.declared.discipline.Discipline as discipline
-use Rattle.orc_machine_board.specs.Kinds.{MayDo, asks}
+use Rattle.orc_machine_board.specs.Kinds.{asks}
 use Rattle.orc_machine_board.specs.Licences.{ids_of}
 use Rattle.orc_machine_board.specs.Rules.{bounds_in}
 use Rattle.orc_machine_board.specs.Views.{MachineView}
 use Rattle.orc_machine_board.specs.declared.machine.MachineShape.{MachineShape}
 use Rattle.orc_domain.proofs.Protecting.{empty_slot}
 use Rattle.orc_domain.proofs.Searching.{idle_none, idle_trans, idles}
-use Rattle.orc_domain.proofs.Setting.{take_in_may}
 use Rattle.orc_machine_rest.proofs.TakenIn.{done_some, done_then, taken_since, taken_then}
 use Rattle.orc_domain.proofs.Stages.{Stage, Steps, done_one, seat}
 use Rattle.orc_domain.specs.Calls.{SameParts}
 use Rattle.orc_machine_rest.specs.OwnSteps.{HasDone, HasTakenIn, ops_of}
 use Rattle.orc_domain.specs.OwnSteps.{TakesInFree}
 use Rattle.orc_domain.specs.Searches.{Idles}
-use Rattle.orc_domain.specs.Seats.{IsCalm, IsReady, slot_by}
+use Rattle.orc_domain.specs.Seats.{IsReady, slot_by}
 use Rattle.orc_sound.specs.declared.steps.Step.{Step}
 use Rattle.orc_words.specs.Bounds.{Bounds}
 
@@ -60,17 +59,6 @@ module _ {N : Type 0} where
   }
 
 module _ {D N : Type 0} {d : discipline.Ghosts D N} {k : MachineShape N} where
-  pub take_in_can : (s t : Stage d k) (count slot : ℕ) → IsCalm s.view.record_is → TookIn (bounds_in k) count s.view t.view → slot < 8
-      → is_empty (slot_of t.view.record_is slot) ≡ true → MayDo (bounds_in k) t.view (TakeIn slot)
-  take_in_can s t count slot calm p low free =
-      let same = p.idle.same in
-      take_in_may (bounds_in k) t.view.agent slot t.view.record_is t.number (record {
-        enrolled = same.enrolled ∙ calm.enrolled;
-        due = same.due ∙ calm.due;
-        inc = same.inc ∙ calm.inc;
-        dec = same.dec ∙ calm.dec;
-      }) low free
-
   pub took_one : (s t u : Stage d k) (count n : ℕ) → TookIn (bounds_in k) count s.view t.view → Steps (TakeIn count) t n u
       → TookIn (bounds_in k) (count + 1) s.view u.view
   took_one s t u count n p m =

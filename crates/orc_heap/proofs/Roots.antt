@@ -1,7 +1,6 @@
 -- A node to which a root leads was linked by a Move.
-use Rattle.std.proofs.Common.{Bool, List, Option, Some, None, [], ap, inl, inr, refl, suc, sym, true, false, zero, ℕ, ◌++◌, ◌∙◌, ◌∷◌, ◌≡◌, ◌⊎◌}
+use Rattle.std.proofs.Common.{Bool, List, Option, Some, None, [], ap, inl, inr, refl, suc, sym, true, false, zero, ℕ, ◌∙◌, ◌∷◌, ◌≡◌, ◌⊎◌}
 use Rattle.std.proofs.lemmas.Bool.{eq-eqb}
-use Rattle.std.proofs.lemmas.List.Folds.{list_any-append}
 use Rattle.std.specs.List.{slice_get}
 use Rattle.std.specs.Prelude.{replicate, ◌||◌}
 use Rattle.orc_heap.proofs.Moved.{target_roots}
@@ -74,7 +73,3 @@ root_linked n es root id link to at =
       | inl new ↦ absurd (let none : None ≡ Some id = ap (λ (l : Link). l.to) (sym (null_root n.roots root link new)) ∙ to in cc)
       | inr linked ↦ linked
     ]
-
--- and stays once linked
-pub once_later : {N : Type 0} (es fs : List (Event N)) (id : ℕ) → is_once_linked es id ≡ true → is_once_linked (es ++ fs) id ≡ true
-once_later es fs id once = list_any-append (λ e. moves_to e.act id) es fs ∙ ap (λ b. b || is_once_linked fs id) once

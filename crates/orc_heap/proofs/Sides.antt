@@ -12,7 +12,6 @@ use Rattle.orc_heap.specs.Acts.{Fits, as_linked, heap_after, moved_side, with_li
 use Rattle.orc_heap.specs.Allowed.{AreSidesNull, HasNullSide, IsLinkedNode, LeadsUp}
 use Rattle.orc_heap.specs.Heap.{Heap, Node, null, shown}
 use Rattle.orc_heap.specs.Journals.{IsPlainAct, moves_to, names_node}
-use Rattle.orc_heap.specs.Moves.{move_with}
 use Rattle.orc_heap.specs.declared.events.Act.{Act}
 use Rattle.orc_heap.specs.declared.events.Act.TheVariants.{Aim, AimSide, Fill, Give, Look, Miss, Move}
 use Rattle.orc_heap.specs.declared.events.Link.{Link}
@@ -39,15 +38,6 @@ null_side h id node there is = λ link at. given (nat_lt 1 h.links) link (sym (s
 abbrev pub MovesNoSide : Act → Type 0
 MovesNoSide (Move (Side id) from to) = ⊥
 MovesNoSide act = Unit {0}
-
-pub no_move_of_side : (act : Act) → move_with act ≡ 0 → MovesNoSide act
-no_move_of_side Give none = tt
-no_move_of_side (Fill id which value) none = tt
-no_move_of_side (Aim id to) none = tt
-no_move_of_side (AimSide id to) none = tt
-no_move_of_side (Look place link) none = tt
-no_move_of_side (Move place from to) none = cc
-no_move_of_side (Miss place wanted found) none = tt
 
 pub plain_moves_no_side : (act : Act) → IsPlainAct act → MovesNoSide act
 plain_moves_no_side Give plain = tt

@@ -1,5 +1,5 @@
 -- No record has neither a cause nor a line.
-use Rattle.std.proofs.Common.{◌≡◌, ◌≢◌, ◌<◌, ◌^◌, ◌∙◌, sym, Bool, true, false, ◌⊎◌, All, IsUtf8, List, [], ◌∷◌, ℕ, zero, suc, arith, codes, inl, inr, length, refl}
+use Rattle.std.proofs.Common.{◌≡◌, ◌≢◌, ◌<◌, ◌^◌, ◌∙◌, sym, Bool, true, false, All, IsUtf8, List, [], ◌∷◌, ℕ, suc, arith, codes, inl, inr, length, refl}
 use Rattle.std.specs.Fmt.{decimal}
 use Rattle.orc_jobs.proofs.FileLaws.{none-applies, whether}
 use Rattle.orc_jobs.specs.JobGrammar.{Applies, HasCause, IsLine, TakesText, rank_of, record_of, word_of}

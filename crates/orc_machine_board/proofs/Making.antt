@@ -1,5 +1,5 @@
 -- A step on shared words is a step of the pass, which the pass shows.
-use Rattle.std.proofs.Common.{List, Option, Some, [], ap, append-nil, length, refl, subst, sym, ℕ, ◌++◌, ◌<◌, ◌∙◌, ◌≡◌, ◌∷◌, ⊎_elim}
+use Rattle.std.proofs.Common.{List, Option, [], ap, append-nil, length, refl, subst, sym, ℕ, ◌++◌, ◌<◌, ◌∙◌, ◌≡◌, ◌∷◌, ⊎_elim}
 use Rattle.std.specs.Prelude.{slice_index}
 use Rattle.orc_core.specs.Actions.{action_of}
 use Rattle.orc_core.specs.After.{after}
@@ -20,7 +20,7 @@ use Rattle.orc_shared_words.proofs.Runs.{below-front, below-tail, none_left}
 use Rattle.orc_shared_words.proofs.Seats.{one_number}
 use Rattle.orc_shared_words.specs.Runs.{AgentsBelow}
 use Rattle.orc_shared_words.specs.Operations.{returned_by}
-use Rattle.orc_shared_words.specs.Steps.{Extends, LaterJournal}
+use Rattle.orc_shared_words.specs.Steps.{Extends}
 use Rattle.orc_shared_words.specs.declared.journal.View.{View}
 use Rattle.orc_sound.specs.declared.steps.Step.{Step}
 use Rattle.orc_words.specs.Operations.{answer_of}
@@ -50,10 +50,6 @@ module _ {N : Type 0} (k : MachineShape N) (holds : List (Event N) → Type 0) (
     (v w : View (Step N) Agent) (n a : ℕ) where
   same_agent : Keeps k holds may v a → (e : Extends counted_rules k holds may q note v n w) → e.agent ≡ a
   same_agent kept e = one_number v.agent a e.agent kept.is e.is
-
-  pub still_kept : Keeps k holds may v a → Extends counted_rules k holds may q note v n w → Keeps k holds may w a
-  still_kept kept e = let one = same_agent kept e in
-      record { is = e.same ∙ ap Some one; number = kept.number; began = kept.began; now = subst (LaterJournal counted_rules k holds may w.seen w) one e.now }
 
   -- the word that the step found, read where the step stands
   word_found : (e : Extends counted_rules k holds may q note v n w) → e.found ≡ word_read (run_of (bounds_in k) (v.seen ++ e.between)) e.agent q.op

@@ -1,5 +1,5 @@
 -- The rows whose gates were looked at are counted.
-use Rattle.std.proofs.Common.{List, None, [], ap, append-nil, arith, refl, subst, suc, sym, ℕ, ◌%◌}
+use Rattle.std.proofs.Common.{List, None, [], ap, arith, subst, suc, sym, ℕ, ◌%◌}
 use Rattle.std.proofs.Common.{◌*◌, ◌+◌, ◌++◌, ◌/◌, ◌<◌, ◌∙◌, ◌∷◌, ◌≡◌, ◌≤◌, ◌^◌, append_assoc, ◌⊎◌}
 use Rattle.orc_machine_rest.proofs.GateWords.{balanced, given_by_gates, life_at, life_low, lives_low}
 use Rattle.orc_machine_rest.proofs.GateWords.{looked_words, may_look, out_at, out_by_gates, outs_low, same_gate}
@@ -51,20 +51,6 @@ module _ {D N : Type 0} {d : discipline.Ghosts D N} {m : machine.Ghosts Reclaimi
       pub inside : rows ≡ (board_bounds board).rows
       pub given_is : given ≡ sum_below row (life_at (board_bounds board) (shows p).journal)
       pub linked_is : linked ≡ sum_below row (out_at (board_bounds board) (shows p).journal)
-
-    pub counted_none : (p : MachineBoardPass D N (MachineShape N) Request (Step N) Agent Agent d m) (rows : ℕ) → Belongs board p
-        → MayLookAtGates (shows p).record_is → rows ≡ (board_bounds board).rows → Counted p p rows 0 0 0
-    counted_none p rows h l e = record {
-      belongs = h;
-      agent = refl;
-      absorbed = refl;
-      looks = l;
-      words = refl;
-      journal = sym (append-nil (shows p).journal);
-      inside = e;
-      given_is = refl;
-      linked_is = refl;
-    }
 
     module _ (p q : MachineBoardPass D N (MachineShape N) Request (Step N) Agent Agent d m) (rows row given linked : ℕ)
         (c : Counted p q rows row given linked)

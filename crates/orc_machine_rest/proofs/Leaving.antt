@@ -15,7 +15,7 @@ use Rattle.orc_machine_board.specs.declared.board.MachineBoardPass.{MachineBoard
 use Rattle.orc_machine_board.specs.declared.machine.MachineShape.{MachineShape}
 use Rattle.orc_machine_board.specs.declared.machine.Reclaiming.{Reclaiming}
 use Rattle.orc_machine_board.specs.declared.machine.Request.{Request}
-use Rattle.orc_rest.proofs.Stages.{StillKept, first_cleared, kept_join, made_went, take_allowed, take_made, then_taken, went_join}
+use Rattle.orc_rest.proofs.Stages.{StillKept, first_cleared, kept_join, made_went, take_allowed, take_made, went_join}
 use Rattle.orc_rest.specs.Records.{IsSettling}
 use Rattle.orc_sound.specs.declared.steps.Step.{Step}
 use Rattle.orc_heap.specs.declared.discipline.Discipline as discipline
@@ -40,11 +40,6 @@ module _ {D N : Type 0} {d : discipline.Ghosts D N} {m : machine.Ghosts Reclaimi
   module _ (board : MachineBoard D N) (a : ℕ) (p q : Pass d m) (x : ℕ) (h : IsPassOf board a p) (calm : IsSettling (record_of board a p))
       (used : is_empty (slot_of (record_of board a p) 0) ≡ false) (dec : (record_of board a p).dec ≡ None) (due : (record_of board a p).due ≡ None)
       (g : Belongs board q) (mk : MakesPlain (board_bounds board) (Clear 0) (shows p) x (shows q)) where
-    pub take_may : MayDo (board_bounds board) (shows q) (TakeIn 0)
-    take_may =
-        may_do board a q (next_pass board a (Clear 0) p q x h g mk) (TakeIn 0) refl
-        (then_taken (state_of board p) a h.low calm used dec due (state_of board q) h.reached (made board a (Clear 0) p q x h g mk)).0
-
   module _ (board : MachineBoard D N) (a : ℕ) (p q r : Pass d m) (x y : ℕ) (h : IsPassOf board a p) (calm : IsSettling (record_of board a p))
       (used : is_empty (slot_of (record_of board a p) 0) ≡ false) (dec : (record_of board a p).dec ≡ None) (due : (record_of board a p).due ≡ None)
       (g : Belongs board q) (mk : MakesPlain (board_bounds board) (Clear 0) (shows p) x (shows q))

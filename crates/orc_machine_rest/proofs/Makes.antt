@@ -29,7 +29,7 @@ use Rattle.orc_rest.specs.Work.{IsSettlingStep}
 use Rattle.orc_shared_words.proofs.Events.{others_add}
 use Rattle.orc_shared_words.proofs.Runs.{by_other, by_own, cons_nil, own_of-append}
 use Rattle.orc_sound.proofs.Journals.{IsLawfulJournal-append, plain-append, plain_lawful, run_plain-append}
-use Rattle.orc_sound.specs.Journals.{IsLawfulJournal, IsWanted, plain}
+use Rattle.orc_sound.specs.Journals.{IsLawfulJournal, plain}
 use Rattle.orc_sound.specs.declared.steps.Step.{Step}
 use Rattle.orc_words.specs.Bounds.{Bounds}
 use Rattle.orc_words.specs.declared.place.Word.{Word}
@@ -42,11 +42,6 @@ free_of b e f a (CounterLoad q Check) d x m h = absurd h
 free_of b e f a (CounterLoad q Start) d x m h = refl
 free_of b e f a (CounterLoad q End) d x m h = refl
 free_of b e f a op d x m h = refl
-
--- it wants no link
-pub wants_none : (d : Agent) (op : Op) → IsWanted d op None
-wants_none d (LinkLoad w k) = tt
-wants_none d op = tt
 
 -- it has no act, unless it changes a link
 pub silent : (p : PresentIds) (d x : Agent) (w : ℕ) (m : Word → ℕ) (op : Op) → is_plain_kind op ≡ true → IsSettlingStep m op x → act_of p d w op None ≡ None

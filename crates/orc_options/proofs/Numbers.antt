@@ -23,20 +23,6 @@ number_found G parses range n (Some t) r e lo hi small none some =
     let passes : is_unsigned_in range.low range.high t ≡ true = Accepts-accepts false (vp.Unsigned range.low range.high) t fits in
     rw passes p.1
 
--- a number out of the range, and none, leave the least
-pub number_missed : {E : Type 0} (G : List ℕ → Result ℕ E → Type 0) → ((t : List ℕ) (r : Result ℕ E) → G t r → ParsesUnsigned 32 10 t r)
-    → (range : Range) (n : ℕ) (o : Option (List ℕ)) (r : Option ℕ) → r ≡ Some n → ((range.low ≤ n) → (n ≤ range.high) → ⊥)
-    → (o ≡ None → r ≡ None) → ((t : List ℕ) → o ≡ Some t → ReadsOne G t r) → range.low ≡ number_in range o
-number_missed G parses range n None r e out none some = refl
-number_missed G parses range n (Some t) r e out none some =
-    let p = parses t (Ok n) (rw e at (some t refl)) in
-    elim (cases_Bool (is_unsigned_in range.low range.high t)) [
-      | inl passes ↦
-          let fits = accepts-Accepts false (vp.Unsigned range.low range.high) t passes in
-          absurd (out (rw p.1 fits.2) (rw p.1 fits.3))
-      | inr fails ↦ rw fails refl
-    ]
-
 pub number_none : {E : Type 0} (G : List ℕ → Result ℕ E → Type 0) → ((t : List ℕ) (r : Result ℕ E) → G t r → ParsesUnsigned 32 10 t r)
     → (range : Range) (o : Option (List ℕ)) (r : Option ℕ) → r ≡ None → range.high < 2 ^ 32
     → ((t : List ℕ) → o ≡ Some t → ReadsOne G t r) → range.low ≡ number_in range o

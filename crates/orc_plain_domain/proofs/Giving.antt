@@ -40,11 +40,6 @@ out_stays rows more row o = (o.0, get-grown o.0 rows more row o.1)
 module _ {D N : Type 0} {d : discipline.Ghosts D N} {m : machine.Ghosts Plain N (PlainShape N) PlainOp (PlainStep N) (Unit {0}) (Unit {0})}
     (domain : PlainDomain D N)
   where
-    -- what is new in a seat is new in the journal
-    pub journal_later : (p q : PlainPass D N (PlainShape N) PlainOp (PlainStep N) (Unit {0}) (Unit {0}) d m) (own : List (Event N))
-        → IsPassOf domain p → IsPassOf domain q → Puts (seat_of domain p) own (seat_of domain q) → IsPrefix (journal_of p) (journal_of q)
-    journal_later p q own h x puts = (puts.part, ap (λ es. es ++ puts.part) (sym (seen_by domain p h)) ∙ (sym puts.is ∙ seen_by domain q x))
-
     -- the rows that were tried, from `begin` on, were out
     pub record Tried (p q : PlainPass D N (PlainShape N) PlainOp (PlainStep N) (Unit {0}) (Unit {0}) d m) (rows begin offset : ℕ) : Type 0 where
       pub pass : IsPassOf domain q
@@ -155,9 +150,6 @@ module _ {D N : Type 0} {d : discipline.Ghosts D N} {m : machine.Ghosts Plain N 
                 node = subst (λ a. slice_get (run_heap (domain_numbers domain) (seat_of domain w).seen).nodes id ≡ Some (given_node a first second))
                     agent_is f.node;
               })
-
-          pub gives_later : IsPassOf domain p → IsPassOf domain w → IsPrefix (journal_of p) (journal_of w)
-          gives_later h y = let hold : Hold = record { row = row; slot = slot } in let g = gives hold refl in journal_later p w _ h y g.puts
 
     pub tried_all : (p q : PlainPass D N (PlainShape N) PlainOp (PlainStep N) (Unit {0}) (Unit {0}) d m) (rows begin offset : ℕ) → offset ≡ rows
         → Tried p q rows begin offset → IsLacking (domain_bounds domain).rows (journal_of q) (length (journal_of q))

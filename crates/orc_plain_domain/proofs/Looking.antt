@@ -92,9 +92,6 @@ module _ {D N : Type 0} {d : discipline.Ghosts D N} {m : machine.Ghosts Plain N 
     pub there_still : HoldsPlace (domain_numbers domain) (seat_of domain p1).slots at
     there_still = subst (λ (z : Slots). HoldsPlace (domain_numbers domain) z at) (sym slots_still) first.there
 
-    pub known_first : KnowsPlace b s word
-    known_first = subst (λ w. KnowsPlace b s w) (sym first.word_is) (place_known domain p first.before at first.there)
-
     pub known_again : KnowsPlace b t word
     known_again = subst (λ w. KnowsPlace b t w) (sym first.word_is) (place_known domain p1 first.load.after at there_still)
 

@@ -4,7 +4,6 @@ use Rattle.orc_shared_words.proofs.Seats.{among_behind}
 use Rattle.std.proofs.lemmas.List.{append_cancel_left, nil_from_length}
 use Rattle.std.proofs.lemmas.List.Elements.{All-from_recursion, filter-append}
 use Rattle.std.specs.List.{AllByRecursion}
-use Rattle.orc_words.specs.Bounds.{Bounds, bounds_of}
 use Rattle.orc_heap.specs.Allowed.{events_by}
 use Rattle.orc_heap.specs.Journals.{run_heap}
 use Rattle.orc_heap.specs.OwnEvents.{IsBelow}
@@ -90,11 +89,6 @@ module _ {D N : Type 0} {d : discipline.Ghosts D N} {m : machine.Ghosts Plain N 
       pub pass : IsPassOf domain q
       pub others : AllByRecursion (λ w. IsPassOf domain w) rest
       pub to_go : (u : PlainView N) → TakesInEvents view (view q) u rest → TakesInEvents view (view p) u all
-
-    pub taking_all : (p : PlainPass D N (PlainShape N) PlainOp (PlainStep N) (Unit {0}) (Unit {0}) d m)
-        (all : List (PlainPass D N (PlainShape N) PlainOp (PlainStep N) (Unit {0}) (Unit {0}) d m)) → IsPassOf domain p
-        → AllByRecursion (λ w. IsPassOf domain w) all → Taking p p all all
-    taking_all p all h o = record { pass = h; others = o; to_go = λ u t. t }
 
     pub taking_next : (p q : PlainPass D N (PlainShape N) PlainOp (PlainStep N) (Unit {0}) (Unit {0}) d m)
         (all rest : List (PlainPass D N (PlainShape N) PlainOp (PlainStep N) (Unit {0}) (Unit {0}) d m)) → Taking p q all rest
@@ -182,11 +176,6 @@ module _ {D N : Type 0} {d : discipline.Ghosts D N} {m : machine.Ghosts Plain N 
       pub rows_same : (view q).rows ≡ (view p).rows
       pub inside : rows ≡ (domain_bounds domain).rows
       pub count : given ≡ outs (view p).rows row
-
-    pub counted_none : (p : PlainPass D N (PlainShape N) PlainOp (PlainStep N) (Unit {0}) (Unit {0}) d m) (rows : ℕ) → IsPassOf domain p
-        → rows ≡ (bounds_of p.shape).rows → Counted p p rows 0 0
-    counted_none p rows h e =
-        record { pass = h; agent = refl; absorbed = refl; events = refl; rows_same = refl; inside = e ∙ ap (λ (b : Bounds). b.rows) h.shape; count = refl }
 
     module _ (p q : PlainPass D N (PlainShape N) PlainOp (PlainStep N) (Unit {0}) (Unit {0}) d m) (rows row given : ℕ) (c : Counted p q rows row given) where
       pub count_low : given ≤ row

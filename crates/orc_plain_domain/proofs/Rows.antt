@@ -1,4 +1,4 @@
--- Rows in slots, and their nodes as more rows are given.
+-- Rows in slots, and their nodes as more rows are given; the fresh row, unless it was linked.
 use Rattle.std.proofs.Common.{Bool, List, None, Option, Some, [], ap, cond, eq-eqb, length, ne_eqb, refl, slice_get, slice_set, subst, suc, sym, zero, ℕ, ◌++◌, ◌<◌, ◌∙◌, ◌∷◌, ◌≡◌}
 use Rattle.orc_heap.specs.Acts.{IsKnown}
 use Rattle.orc_heap.specs.Heap.{Heap}

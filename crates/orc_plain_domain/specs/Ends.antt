@@ -1,6 +1,7 @@
 -- What all passes of a domain have seen together.
 use Rattle.std.specs.Prelude.{All, List, [], length, ℕ, ◌∷◌, ◌≡◌, ◌≤◌}
-use Rattle.orc_any_domain.specs.Learning.{HearsAll, Pairwise}
+use Rattle.orc_any_domain.specs.Learning.{HearsAll}
+use Rattle.orc_history.specs.Lists.{Pairwise}
 use Rattle.orc_heap.specs.Allowed.{events_by}
 use Rattle.orc_heap.specs.Seats.{IsIdle, Seat}
 use Rattle.orc_heap.specs.declared.discipline.Discipline as discipline

@@ -38,10 +38,6 @@ module _ {D N : Type 0} {d : discipline.Ghosts D N} {m : machine.Ghosts Plain N 
   abbrev pub rest_journal : PlainRest D N d m → List (Event N)
   rest_journal r = (seat_of r.domain r.pass).seen
 
-  -- the rows that its Gives gave, in their order
-  abbrev pub rest_rows : PlainRest D N d m → List ℕ
-  rest_rows r = (shows r.domain.board r.pass.pass).rows
-
   -- the pass that is left is one of the domain's, so its board has shown this list; and it took in all others, so the list is whole
   pub record IsShown (r : PlainRest D N d m) : Type 0 where
     pub belongs : IsPassOf r.domain r.pass

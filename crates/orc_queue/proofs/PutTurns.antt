@@ -54,9 +54,6 @@ module _ (n : HeapNumbers) (s : Seat FifoNote) (one : Link) (tail next : ℕ) wh
   abbrev swing : Event FifoNote
   swing = event_of s (Move (Root 1) (link_to tail) (link_to next)) (Some Swing)
 
-  looks_change_nothing : (es : List (Event FifoNote)) → run_heap n (es ++ at_first ∷ at_tail ∷ at_next ∷ at_next ∷ []) ≡ run_heap n es
-  looks_change_nothing es = run_from-append (new_heap n) es (at_first ∷ at_tail ∷ at_next ∷ at_next ∷ [])
-
   helped_settles : (es : List (Event FifoNote)) → FifoHolds n es → has_begun es ≡ true
       → AllAllowed (FifoMay n) es (at_first ∷ at_tail ∷ at_next ∷ at_next ∷ swing ∷ [])
       → TailIsLast (run_heap n (es ++ at_first ∷ at_tail ∷ at_next ∷ at_next ∷ swing ∷ []))

@@ -14,7 +14,7 @@ use Rattle.orc_core.specs.declared.records.Agent.{Agent}
 use Rattle.orc_core.specs.declared.records.Reading.{Reading}
 use Rattle.orc_core.specs.declared.records.Scan.{Scan}
 use Rattle.orc_core.specs.declared.records.SlotUse.TheVariants.{Empty, Held}
-use Rattle.orc_rest.proofs.Stages.{allowed, dec_row, scanned_row, went_join}
+use Rattle.orc_rest.proofs.Stages.{allowed, dec_row, scanned_row}
 use Rattle.orc_rest.specs.Records.{DueFits, IsDoomOf, IsScanOf, IsSettling, IsStill, SameTasks}
 use Rattle.orc_rest.specs.Rounds.{AfterStep, Went}
 use Rattle.orc_rest.specs.Turns.{IsReachedState}
@@ -38,9 +38,6 @@ allowed_at : (n : Machine) (a : ℕ) (op : Op) (d : Agent) → record_at n a ≡
     → fits n.bounds (word_in n Enrolled) a op d ≡ true → is_allowed n a op ≡ true
 allowed_at n a op d e h s f t = allowed n a op h (subst (λ x. stands op x ≡ true) (sym e) s) (subst (λ x. forced x op ≡ true) (sym e) f)
     (subst (λ x. fits n.bounds (word_in n Enrolled) a op x ≡ true) (sym e) t)
-
-pub went_is : (a x y : ℕ) (m n : Machine) → x ≡ y → Went a x m n → Went a y m n
-went_is a x y m n e w = subst (λ k. Went a k m n) e w
 
 -- the scanned row is held in slot 0
 pub arm_scanned : (m : Machine) (a r : ℕ) → IsReachedState m → a < m.bounds.agents → IsStill (record_at m a) → scans (record_at m a).scan r ≡ true
@@ -87,13 +84,6 @@ pub scan_some : (o : Option Scan) (r : ℕ) → scans o r ≡ true → bit (is_s
 scan_some None r h = absurd (false≢true h)
 scan_some (Some s) r h = refl
 
-pub unretired_went : (m n o p q : Machine) (a r : ℕ) → scans (record_at m a).scan r ≡ true → AfterStep a (Arm r) m n → Went a 0 m n
-    → Went a (bit (is_some (record_at n a).scan)) n o → Went a 0 o p → Went a 0 p q → Went a 1 m q
-unretired_went m n o p q a r e w t u v x =
-    let one : bit (is_some (record_at n a).scan) ≡ 1 = scan_some (record_at n a).scan r (ap (λ (d : Agent). scans d.scan r) w.is ∙ e) in
-    went_is a (0 + bit (is_some (record_at n a).scan) + 0 + 0) 1 m q (omega arith)
-    (went_join a _ 0 m p q (went_join a _ 0 m o p (went_join a 0 _ m n o t u) v) x)
-
 -- the pending decrement
 pub arm_dec : (m : Machine) (a r : ℕ) → IsReachedState m → a < m.bounds.agents → IsSettling (record_at m a) → slot_of (record_at m a) 0 ≡ Empty
     → (record_at m a).due ≡ None → (record_at m a).dec ≡ Some r → is_allowed m a (Arm r) ≡ true
@@ -115,9 +105,6 @@ due_decremented m n o a r k e d b c w v =
   where
     below : (w : ℕ) → word_add w 16777215 < 18446744073709551616
     below w = omega arith
-
-pub four_went : (a : ℕ) (m n o p q : Machine) → Went a 0 m n → Went a 0 n o → Went a 0 o p → Went a 0 p q → Went a 0 m q
-four_went a m n o p q t u v x = went_join a 0 0 m p q (went_join a 0 0 m o p (went_join a 0 0 m n o t u) v) x
 
 -- a doomed row
 pub doomed_row : (m : Machine) (a r cuts : ℕ) → IsReachedState m → IsDoomOf r cuts (record_at m a).doom → r < m.bounds.rows

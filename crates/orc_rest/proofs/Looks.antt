@@ -1,19 +1,16 @@
 -- A look at a slot, by what the scan was.
-use Rattle.std.proofs.Common.{ap, cond, false, refl, subst, sym, true, ℕ, ◌%◌, ◌*◌, ◌+◌, ◌/◌, ◌<◌, ◌∙◌, ◌≡◌}
+use Rattle.std.proofs.Common.{ap, cond, false, refl, subst, sym, true, ℕ, ◌*◌, ◌+◌, ◌<◌, ◌∙◌, ◌≡◌}
 use Rattle.std.proofs.lemmas.Bool.{eq-eqb, eqb-true, lt-ltb}
 use Rattle.std.specs.Prelude.{Some, ◌==◌}
 use Rattle.orc_core.specs.After.{scan_on}
-use Rattle.orc_core.specs.Machine.{Machine, is_allowed, record_at, word_in}
-use Rattle.orc_core.specs.RecordParts.{scan_found, scanned}
+use Rattle.orc_core.specs.Machine.{Machine, is_allowed, record_at}
+use Rattle.orc_core.specs.RecordParts.{scan_found}
 use Rattle.orc_core.specs.declared.ops.Op.TheVariants.{Hand, SlotLook}
 use Rattle.orc_core.specs.declared.records.Agent.{Agent}
-use Rattle.orc_rest.proofs.Calls.{all_empty}
 use Rattle.orc_rest.proofs.Stages.{allowed}
 use Rattle.orc_rest.specs.Records.{IsFoundScan, IsScanOf, IsStill}
 use Rattle.orc_rest.specs.Rounds.{LookedAt, Looks}
-use Rattle.orc_rest.specs.Work.{IsSettlingStep}
 use Rattle.orc_words.specs.Packed.{count_bits}
-use Rattle.orc_words.specs.declared.place.Word.TheVariants.{Slot}
 
 pub look_allowed : (m : Machine) (a r k : ℕ) → a < m.bounds.agents → IsStill (record_at m a) → IsScanOf r k (record_at m a).scan → k < 8 * m.bounds.agents
     → is_allowed m a (SlotLook k) ≡ true
@@ -53,7 +50,3 @@ pub hand_allowed : (n : Machine) (a r k : ℕ) → a < n.bounds.agents → IsSti
     → is_allowed n a (Hand k) ≡ true
 hand_allowed n a r k h s f l = allowed n a (Hand k) h s.calm.enrolled (rw (s.due, s.calm.inc, s.dec) refl)
     (rw (lt-ltb k (8 * n.bounds.agents) l, f.is, eq-eqb k k refl) refl)
-
-pub hand_settles : (n : Machine) (a r k : ℕ) → IsStill (record_at n a) → IsFoundScan r k (record_at n a).scan → word_in n (Slot (k / 8) (k % 8)) ≡ r + 1
-    → IsSettlingStep (word_in n) (Hand k) (record_at n a)
-hand_settles n a r k s f e = (all_empty (record_at n a) s, e ∙ ap (λ o. scanned o + 1) (sym f.is))

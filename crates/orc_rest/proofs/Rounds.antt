@@ -1,6 +1,6 @@
 -- Rounds of settling.
-use Rattle.std.proofs.Common.{Bool, List, [], ap, arith, false, refl, subst, sym, true, ℕ, ⊎_elim, ◌*◌, ◌+◌, ◌<◌, ◌∙◌, ◌∷◌, ◌≡◌, ◌≤◌}
-use Rattle.std.proofs.lemmas.Bool.{eq-eqb, false≢true, lt-ltb}
+use Rattle.std.proofs.Common.{Bool, List, [], ap, arith, false, refl, subst, sym, true, ℕ, ⊎_elim, ◌*◌, ◌+◌, ◌<◌, ◌∷◌, ◌≡◌, ◌≤◌}
+use Rattle.std.proofs.lemmas.Bool.{false≢true, lt-ltb}
 use Rattle.std.specs.Prelude.{None, Option, Some, is_none, is_some, ◌&&◌, ◌==◌, ◌||◌}
 use Rattle.orc_core.specs.Listed.{first_is}
 use Rattle.orc_core.specs.Machine.{Machine, is_allowed, new_machine, record_at}
@@ -54,21 +54,6 @@ start_allowed m a r k h d n e =
         left : (t : Bool) → (t || false) ≡ true → t ≡ true
         left true h = h
         left false h = h
-
--- where no row of the table is the first entry, none is
-pub list_empty : (m : Machine) (a : ℕ) → IsReachedState m → ((r : ℕ) → r < m.bounds.rows → first_is (record_at m a).list.items r ≡ false)
-    → (record_at m a).list.items ≡ []
-list_empty m a k h = cases (record_at m a).list.items refl
-  where
-    cases : (xs : List ℕ) → (record_at m a).list.items ≡ xs → xs ≡ []
-    cases [] e = refl
-    cases (x ∷ xs) e =
-        let first : first_is (record_at m a).list.items x ≡ true = subst (λ ys. first_is ys x ≡ true) (sym e) (eq-eqb x x refl) in
-        absurd (false≢true (sym (h x (listed_row m a x k (first_listed (record_at m a).list.items x first))) ∙ first))
-
-pub done_here : (m : Machine) (a : ℕ) → IsReachedState m → ((r : ℕ) → r < m.bounds.rows → first_is (record_at m a).list.items r ≡ false)
-    → (record_at m a).scan ≡ None → (record_at m a).hand ≡ None → IsDone (record_at m a)
-done_here m a k h s d = record { list = list_empty m a k h; hand = d; scan = s }
 
 pub positive : (o : Option Doom) → 1 ≤ uncut o
 positive None = omega arith

@@ -3,9 +3,8 @@ use Rattle.std.proofs.Common.{Bool, List, [], ap, arith, cond, false, get_or-set
 use Rattle.std.proofs.Common.{◌+◌, ◌/◌, ◌<◌, ◌∙◌, ◌∷◌, ◌≡◌}
 use Rattle.std.proofs.lemmas.Bool.{eq-eqb, lt-ltb}
 use Rattle.std.proofs.lemmas.List.{length-set}
-use Rattle.std.specs.Prelude.{None, Option, Some, slice_index_or, slice_set, ◌==◌}
+use Rattle.std.specs.Prelude.{None, Option, Some, slice_index_or, slice_set}
 use Rattle.orc_core.proofs.Steps.{every_run_whole, its_word, run-append}
-use Rattle.orc_core.specs.Actions.{clear_word}
 use Rattle.orc_core.specs.After.{after}
 use Rattle.orc_core.specs.Allowed.{fits, forced, stands}
 use Rattle.orc_core.specs.Machine.{IsWhole, Machine, is_allowed, new_machine, nobody, record_at, step, word_in, word_read}
@@ -141,27 +140,12 @@ steps a op m P h s f t g p =
     let go = allowed m a op h s f t in
     (go, λ n r k. let w = made_record m n a op r h k in left_by a (drop_of op (record_at m a)) m n P (made_went m n a op r go g k) op w (p w.word))
 
--- two turns, the record of the second being told from that of the first
-pub left_join : (a x y : ℕ) (m n k : Machine) (P : Agent → Type 0) → Went a x m n → Left a y n k P → Left a (x + y) m k P
-left_join a x y m n k P t u = record { went = went_join a x y m n k t u.went; so = u.so }
-
 pub first_cleared : (m : Machine) (a : ℕ) → a < m.bounds.agents → IsSettling (record_at m a) → is_empty (slot_of (record_at m a) 0) ≡ false
     → (record_at m a).dec ≡ None → (record_at m a).due ≡ None → Steps a 0 (Clear 0) m (StillKept (record_at m a))
 first_cleared m a h c u d e = (clear_allowed m a h c u d e, λ n r k. clear_made m n a r h c u d e k)
 
 pub kept_join : (d e f : Agent) → SameTasks d e → StillKept e f → StillKept d f
 kept_join d e f k s = record { still = s.still; kept = record { hand = s.kept.hand ∙ k.hand; scan = s.kept.scan ∙ k.scan; doom = s.kept.doom ∙ k.doom } }
-
-pub then_taken : (m : Machine) (a : ℕ) → a < m.bounds.agents → IsSettling (record_at m a) → is_empty (slot_of (record_at m a) 0) ≡ false
-    → (record_at m a).dec ≡ None → (record_at m a).due ≡ None → (n : Machine) → IsReachedState m → Made a (Clear 0) m n
-    → (is_allowed n a (TakeIn 0) ≡ true) × ((k : Machine) → Made a (TakeIn 0) n k → Left a 0 m k (StillKept (record_at m a)))
-then_taken m a h c u d e n r k =
-    let l = clear_made m n a r h c u d e k in
-    let i : a < n.bounds.agents = subst (λ (b : Bounds). a < b.agents) (sym l.went.bounds) h in (
-      take_allowed n a i l.so.still,
-      λ o j. let t = take_made n o a l.went.reached i l.so.still j in record
-          { went = went_join a 0 0 m n o l.went t.went; so = kept_join (record_at m a) (record_at n a) (record_at o a) l.so.kept t.so },
-    )
 
 -- the bit of a due row
 due_fits : (m : Machine) (a : ℕ) → a < m.bounds.agents → IsSettling (record_at m a) → (record_at m a).dec ≡ None → (s : Reading)
@@ -175,19 +159,12 @@ pub due_allowed : (m : Machine) (a : ℕ) → a < m.bounds.agents → IsSettling
     → (record_at m a).due ≡ Some s → DueFits m.bounds (record_at m a).due → is_allowed m a (SetRetired s.row s.number) ≡ true
 due_allowed m a h c d s e f = due_fits m a h c d s e f
 
-pub due_settles : (m : Machine) (a : ℕ) (s : Reading) → (record_at m a).scan ≡ None → (record_at m a).due ≡ Some s
-    → IsSettlingStep (word_in m) (SetRetired s.row s.number) (record_at m a)
-due_settles m a s n e = (n, rw (e, eq-eqb s.row s.row refl, eq-eqb s.number s.number refl) refl)
-
 no_fresh : (o : Option ℕ) (q : ℕ) (t : Bool) → o ≡ None → cond t (cond (names o q) None o) o ≡ None
 no_fresh o q t e = rw e (nothing t)
   where
     nothing : (t : Bool) → (let x : Option ℕ = cond t None None in x) ≡ None
     nothing true = refl
     nothing false = refl
-
-pub tried_calm : (d : Agent) (q n w : ℕ) → IsSettling d → IsSettling (after (SetRetired q n) d w)
-tried_calm d q n w c = record { enrolled = c.enrolled; slots = c.slots; eight = c.eight; fresh = no_fresh d.fresh q (w == clear_word n) c.fresh; inc = c.inc }
 
 abbrev pub went_none : (a : ℕ) (m : Machine) → IsReachedState m → Went a 0 m m
 went_none a m r = record { turn = no_turn a m; reached = r; bounds = refl }

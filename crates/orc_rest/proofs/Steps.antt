@@ -49,11 +49,6 @@ work_in b z a = work_of b z.memory a (z.seats a)
 abbrev pub work_after : Bounds → World → ℕ → Op → ℕ
 work_after b z a op = work_of b (step_world z a op).memory a (record_by z a op)
 
--- a counter word that is read stays
-stale_read : (m : Word → ℕ) (q : ℕ) (s : Option Scan) → staleness (write m (Counter q) (m (Counter q))) s ≡ staleness m s
-stale_read m q None = refl
-stale_read m q (Some s) = ap (λ w. cond (w == s.word) 0 2) (write_same m (Counter q) (Counter s.row))
-
 slot_read : (m : Word → ℕ) (x j y i : ℕ) → write m (Slot x j) (m (Slot x j)) (Slot y i) ≡ m (Slot y i)
 slot_read m x j y i = write_same m (Slot x j) (Slot y i)
 
@@ -121,10 +116,6 @@ open_zero m a = rw (eq-eqb a a refl)
 look_entries : (o : Option Scan) (w : ℕ) → bit (is_some (scan_on o w)) ≡ bit (is_some o)
 look_entries None w = refl
 look_entries (Some s) w = refl
-
-look_stale : (m : Word → ℕ) (o : Option Scan) (w : ℕ) → staleness m (scan_on o w) ≡ staleness m o
-look_stale m None w = refl
-look_stale m (Some s) w = refl
 
 pub look_work : (b : Bounds) (z : World) (a k : ℕ) → LawfulStep b z a (SlotLook k) → work_after b z a (SlotLook k) ≡ work_in b z a
 look_work b z a k p =
@@ -278,9 +269,6 @@ cut_work b z a q (suc k) l p c t =
     let d : bit (is_some (z.seats a).dec) ≡ 0 = rw n.2 refl in
     let s = stale_cut z.memory q (suc k) (link_word l) (z.seats a).scan in
     rw t (omega arith)
-
-due_one : (r w : ℕ) (o : Option Reading) → o ≡ None → bit (is_some (due_after r w o)) ≤ 1
-due_one r w o e = one_of (due_after r w o)
 
 dec_named : (o : Option ℕ) (q : ℕ) → names o q ≡ true → bit (is_some o) ≡ 1
 dec_named None q h = absurd (false≢true h)

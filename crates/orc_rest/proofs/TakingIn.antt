@@ -10,9 +10,9 @@ use Rattle.orc_core.specs.declared.ops.Op.{Op}
 use Rattle.orc_core.specs.declared.ops.Op.TheVariants.{TakeIn}
 use Rattle.orc_sound.proofs.AllFits.{run_bounds}
 use Rattle.orc_rest.specs.Drains.{TookIn}
-use Rattle.orc_rest.proofs.Calls.{agents_on, all_empty}
+use Rattle.orc_rest.proofs.Calls.{all_empty}
 use Rattle.orc_rest.proofs.Stages.{allowed, made_record, whole}
-use Rattle.orc_rest.proofs.Turns.{all_left, all_right, lawful_join, none_all, reached_on, zero_join}
+use Rattle.orc_rest.proofs.Turns.{all_left, all_right, lawful_join, none_all, zero_join}
 use Rattle.orc_rest.specs.Records.{IsBetweenRounds}
 use Rattle.orc_rest.specs.Turns.{IsReachedState, Made}
 
@@ -23,12 +23,6 @@ take_slot m a k h r l =
 
 pub made_bounds : (m n : Machine) (a : ℕ) (op : Op) → Made a op m n → n.bounds ≡ m.bounds
 made_bounds m n a op k = ap (λ (x : Machine). x.bounds) k.is ∙ run_bounds m (k.others ++ (a, op) ∷ [])
-
-pub made_reached : (m n : Machine) (a : ℕ) (op : Op) → IsReachedState m → Made a op m n → IsReachedState n
-made_reached m n a op r k = reached_on m n (k.others ++ (a, op) ∷ []) r k.lawful k.is
-
-pub made_agent : (m n : Machine) (a : ℕ) (op : Op) → a < m.bounds.agents → Made a op m n → a < n.bounds.agents
-made_agent m n a op h k = agents_on m n a (made_bounds m n a op k) h
 
 pub made_between : (m n : Machine) (a k : ℕ) → IsReachedState m → a < m.bounds.agents → IsBetweenRounds (record_at m a) → Made a (TakeIn k) m n
     → IsBetweenRounds (record_at n a)

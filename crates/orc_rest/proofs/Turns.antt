@@ -3,7 +3,7 @@ use Rattle.std.proofs.Common.{List, [], ap, arith, get_or-set_other, refl, subst
 use Rattle.std.specs.Prelude.{slice_index_or, slice_set}
 use Rattle.orc_core.proofs.Steps.{IsLawful-append, run-append}
 use Rattle.orc_core.specs.After.{after}
-use Rattle.orc_core.specs.Machine.{LeavesRoom, Machine, is_allowed, new_machine, nobody, record_at, step, word_in, word_read}
+use Rattle.orc_core.specs.Machine.{Machine, is_allowed, new_machine, nobody, record_at, step, word_in, word_read}
 use Rattle.orc_core.specs.RecordParts.{is_empty, slot_of}
 use Rattle.orc_core.specs.Runs.{IsLawful, run}
 use Rattle.orc_core.specs.declared.ops.Op.{Op}
@@ -11,7 +11,6 @@ use Rattle.orc_rest.proofs.ForRuns.{other_handovers, own_words, work_falls}
 use Rattle.orc_rest.specs.Turns.{AllOf, IsReachedState, Made, NoSlotsBut, NoneHanded, NoneOf, StaysZero, Turn}
 use Rattle.orc_rest.specs.Work.{IsSettlingStep, drop_of, work_left}
 use Rattle.orc_sound.proofs.AllFits.{run_bounds}
-use Rattle.orc_sound.proofs.ForRuns.{room_left}
 use Rattle.orc_words.specs.Bounds.{Bounds}
 use Rattle.orc_words.specs.declared.place.Word.TheVariants.{Handover}
 
@@ -69,12 +68,6 @@ reached_on m n steps r l e = record {
   lawful = lawful_join (new_machine r.bounds) r.steps steps r.lawful (subst (λ w. IsLawful w steps) r.is l);
   is = e ∙ (ap (λ w. run w steps) r.is ∙ sym (run-append (new_machine r.bounds) r.steps steps));
 }
-
-pub turn_reached : (a x : ℕ) (m n : Machine) → IsReachedState m → Turn a x m n → IsReachedState n
-turn_reached a x m n r t = reached_on m n t.steps r t.lawful t.is
-
-pub reached_room : (m : Machine) (a : ℕ) (op : Op) → IsReachedState m → LeavesRoom m a op
-reached_room m a op r = subst (λ w. LeavesRoom w a op) (sym r.is) (room_left r.bounds r.steps a op r.shape r.lawful)
 
 -- none of the others' steps is the agent's
 pub none_all : (a : ℕ) (xs : List (ℕ × Op)) → NoneOf a xs → AllOf a xs → xs ≡ []

@@ -8,7 +8,6 @@ use Rattle.orc_core.specs.Runs.{run}
 use Rattle.orc_core.specs.declared.records.Agent.{Agent}
 use Rattle.orc_heap.specs.Allowed.{AllAllowed}
 use Rattle.orc_heap.specs.declared.events.Event.{Event}
-use Rattle.orc_projection.specs.Mirror.{numbers_of}
 use Rattle.orc_projection.specs.Projection.{StoresUnmarked, project}
 use Rattle.orc_sound.specs.Journals.{IsLawfulJournal, plain}
 use Rattle.orc_sound.specs.declared.steps.Step.{Step}

@@ -1,5 +1,5 @@
 -- A queue and the sets over any domain, and over a reclaiming one, as the definition of replies that follow three journals sees them.
-use Rattle.std.specs.Prelude.{ℕ, ◌<◌}
+use Rattle.std.specs.Prelude.{◌<◌}
 use Rattle.orc_words.specs.Bounds.{Bounds}
 use Rattle.orc_sound.specs.declared.steps.Step.{Step}
 use Rattle.orc_heap.specs.Journals.{run_heap}

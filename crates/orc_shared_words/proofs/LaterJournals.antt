@@ -1,20 +1,18 @@
 -- What a pass knows of the journal: at the start, after it learned, and once it took in all others.
-use Rattle.std.proofs.Common.{List, Option, Some, [], append-nil, append_assoc, ap, inl, inr, refl, subst, sym, ℕ, ◌++◌, ◌∙◌, ◌≡◌, ◌∷◌, ⊎_elim}
+use Rattle.std.proofs.Common.{List, Some, [], append-nil, append_assoc, ap, inl, refl, subst, sym, ℕ, ◌++◌, ◌∙◌, ◌≡◌, ◌∷◌, ⊎_elim}
 use mathlib.Core.Logic.{dite}
 use native.Mathlib.Decide.{ℕ_discrete}
 use Rattle.orc_heap.specs.Allowed.{AllAllowed}
 use Rattle.orc_heap.specs.declared.events.Event.{Event}
 use Rattle.orc_shared_words.specs.declared.journal.View.{View}
-use Rattle.orc_shared_words.specs.Ends.{Opens, OwnsAll}
+use Rattle.orc_shared_words.specs.Ends.{Opens}
 use Rattle.orc_shared_words.specs.Learning.{Learned, SameButSeen}
 use mathlib.Core.List.{IsPrefix}
-use Rattle.orc_shared_words.specs.Lists.{Among}
 use Rattle.orc_shared_words.specs.Runs.{AgentsBelow, Obeys, Rules}
 use Rattle.orc_history.specs.Journals.{own_of}
-use Rattle.orc_shared_words.specs.Steps.{Extends, LaterJournal}
+use Rattle.orc_shared_words.specs.Steps.{LaterJournal}
 use Rattle.orc_heap.proofs.Prefixes.{prefix_same}
-use Rattle.orc_shared_words.proofs.Runs.{below-front, below-tail, by_other, by_own, cons_nil, none_behind, none_left}
-use Rattle.orc_shared_words.proofs.Seats.{one_number}
+use Rattle.orc_shared_words.proofs.Runs.{by_other, by_own, cons_nil, none_behind}
 
 module _ {K S Op Rec N : Type 0} (r : Rules K S Op Rec N) (k : K) (holds : List (Event N) → Type 0) (may : List (Event N) → Event N → Type 0) where
   -- a pass that was just made
@@ -78,15 +76,3 @@ module _ {K S Op Rec N : Type 0} (r : Rules K S Op Rec N) (k : K) (holds : List 
         same_later u x b other (learned.both ∙ p.1) learned.from,
       ))
       learned.longer
-
-  -- a pass that took in all others goes on alone: nothing stands between what it had seen and its step
-  pub nothing_between : (op : Op) (said : Option N) (v : View S Rec) (n : ℕ) (w : View S Rec) → OwnsAll r k v
-      → (x : Extends r k holds may op said v n w) → x.between ≡ []
-  nothing_between op said v n w all x = none_left r.by (r.agents k) x.between
-      (below-tail r.by (r.agents k) v.seen x.between
-      (below-front r.by (r.agents k) (v.seen ++ x.between) (r.step x.agent op said ∷ []) (subst (AgentsBelow r.by (r.agents k)) x.seen x.now.below)))
-      (λ a lt. ⊎_elim (λ e. subst (λ b. own_of r.by b x.between ≡ []) (one_number v.agent a x.agent e x.is) x.others) (x.retired a) (all a lt))
-
-  pub still_owns_all : (op : Op) (said : Option N) (v : View S Rec) (n : ℕ) (w : View S Rec) → OwnsAll r k v → Extends r k holds may op said v n w
-      → OwnsAll r k w
-  still_owns_all op said v n w all x a lt = ⊎_elim (λ e. inl (x.same ∙ (sym x.is ∙ e))) (λ q. inr (subst (Among a) (sym x.also) q)) (all a lt)

@@ -338,10 +338,6 @@ pub past_dooms : (o : Option Doom) (r n : ℕ) → cuts_past o r n ≡ true → 
 past_dooms None r n h = h
 past_dooms (Some d) r n h = (and_both _ _ h).0
 
-pub cut_dooms_row : (links : ℕ) (o : Option Doom) (r : ℕ) → dooms_cut links o r ≡ true → dooms o r ≡ true
-cut_dooms_row links None r h = h
-cut_dooms_row links (Some d) r h = (and_both _ _ h).0
-
 -- the links below the next one are out
 past_below : (o : Option Doom) (r n k : ℕ) → doom_at o r k ≡ true → cuts_past o r n ≡ true → n < k
 past_below None r n k h g = absurd (false≢true h)

@@ -1,10 +1,10 @@
 -- Desks that give up the passes of their first queue.
-use Rattle.std.proofs.Common.{◌≡◌, ℕ, zero, suc, ◌+◌, ◌<◌, List, [], ◌∷◌, ◌++◌, length, refl, ap, sym, ◌∙◌, subst, arith, append-nil, append_assoc, slice_index_or}
+use Rattle.std.proofs.Common.{◌≡◌, ℕ, zero, suc, ◌+◌, ◌<◌, List, [], ◌∷◌, length, refl, ap, sym, ◌∙◌, subst, arith, slice_index_or}
 use Rattle.std.specs.List.{AllByRecursion, remove}
 use Rattle.orc_history.specs.declared.queue.SharedQueue.{Ghosts as QueueOf}
 use Rattle.orc_stages.specs.declared.replies.StageDesk.{StageDesk}
 use Rattle.orc_stages.specs.Desks.{ArePasses, seen_at}
-use Rattle.orc_stages.specs.Run.{AreIdle, HasPass, HaveSeen, StandAhead, TookFirst}
+use Rattle.orc_stages.specs.Run.{AreIdle, HasPass, HaveSeen, StandAhead}
 
 -- what stood at place 0, ahead of what is left
 pub first_and_rest : {X : Type 0} (all rest : List X) (x : X) → 0 < length all → x ≡ slice_index_or all 0 x → rest ≡ remove all 0 → all ≡ x ∷ rest

@@ -4,7 +4,6 @@ use Rattle.std.specs.List.{AllByRecursion, remove}
 use Rattle.std.proofs.lemmas.List.Elements.{All-head, All-tail}
 use Rattle.orc_cell.specs.CellCalls.{IsUsable, history}
 use Rattle.orc_heap.specs.Domains.{agent}
-use Rattle.orc_board.proofs.ListFacts.{AllByRecursion-append}
 use Rattle.orc_board.proofs.PairLists.{records_fewer}
 use Rattle.orc_board.specs.Follows.{own_records}
 use Rattle.orc_board.specs.ListWithRoom.{ListWithRoom}
@@ -20,12 +19,6 @@ use Rattle.orc_watch_run.specs.declared.team.Worker.{Worker}
 
 abbrev pub Room : Type 0
 Room = ListWithRoom WatchReply
-
--- one room more
-pub one_room_more : (lines : ℕ) (rooms : List Room) (room : Room) → AllByRecursion (IsRoom lines) rooms → (room.items ≡ []) → room.spare ≡ lines
-    → AllByRecursion (IsRoom lines) (rooms ++ room ∷ [])
-one_room_more lines rooms room all none spare =
-    AllByRecursion-append (IsRoom lines) rooms (room ∷ []) all (record { none = none; spare = spare }, tt)
 
 -- one worker more
 seated-snoc : {P : Type 0} (k : ℕ) (ps : List P) (rs : List Room) (p : P) (r : Room) → length rs ≡ length ps

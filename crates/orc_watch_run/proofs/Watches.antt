@@ -1,13 +1,12 @@
 -- What a worker's replies stand for grows reply by reply.
 use Rattle.std.proofs.Common.{◌≡◌, ℕ, List, [], ◌∷◌, ◌++◌, Option, Some, ap, refl, slice_get, subst, ◌∙◌}
-use Rattle.orc_board.specs.Stretches.{Stretch, View, just, refusal, Did}
+use Rattle.orc_board.specs.Stretches.{Stretch, View, just}
 use Rattle.orc_board.proofs.Shares.{Did-just, Did-nothing, DidAll-snoc}
 use Rattle.orc_board.proofs.Workers.{Pairwise-snoc}
-use Rattle.orc_fault.specs.declared.Spent.{Spent as SpentRow}
 use Rattle.orc_cell.specs.declared.refused.CellRefused.{CellRefused}
 use Rattle.orc_cell.specs.declared.refused.CellRefused.TheVariants as refused
 use Rattle.orc_pairs_rule.specs.declared.entry.CellEntry.{CellEntry}
-use Rattle.orc_pairs_rule.specs.declared.entry.CellEntry.TheVariants.{Published, Seen}
+use Rattle.orc_pairs_rule.specs.declared.entry.CellEntry.TheVariants.{Published}
 use Rattle.orc_watch.specs.declared.line.WatchLine.{WatchLine}
 use Rattle.orc_watch.specs.declared.line.WatchLine.TheVariants as line
 use Rattle.orc_watch.specs.declared.reply.WatchReply.{WatchReply}
@@ -40,18 +39,3 @@ was_set x agent l left right a b j k asks s = record {
   is = record { left = left; right = right; asks = asks; is = refl };
   did = Did-just of_cell x agent (Published agent left right a b ∷ []) j k s;
 }
-
-pub was_spent : {A : Type 0} (x : View A CellEntry CellRefused) (agent : ℕ) (l : WatchLine) (left right : Option ℕ) (why : SpentRow) (j k : List A)
-    → AsksToPublish l left right → Did of_cell x agent (refusal (refused.Spent why)) j k → DidLine x agent l word.Spent j k
-was_spent x agent l left right why j k asks d =
-    record { share = refusal (refused.Spent why); is = (why, record { left = left; right = right; asks = asks; is = refl }); did = d }
-
-pub had_no_node : {A : Type 0} (x : View A CellEntry CellRefused) (agent : ℕ) (l : WatchLine) (left right : Option ℕ) (why : CellRefused) (j k : List A)
-    → AsksToPublish l left right → why ≡ refused.NoNode → Did of_cell x agent (refusal why) j k → DidLine x agent l word.NoNode j k
-had_no_node x agent l left right why j k asks is d =
-    record { share = refusal why; is = record { left = left; right = right; asks = asks; is = ap (λ (w : CellRefused). refusal w) is }; did = d }
-
-pub was_seen : {A : Type 0} (x : View A CellEntry CellRefused) (agent : ℕ) (l : WatchLine) (a b : ℕ) (j k : List A)
-    → l ≡ line.See → Stretch of_cell x agent (Seen agent a b ∷ []) j k → DidLine x agent l (word.Saw a b) j k
-was_seen x agent l a b j k is s =
-    record { share = just (Seen agent a b ∷ []); is = (is, refl); did = Did-just of_cell x agent (Seen agent a b ∷ []) j k s }

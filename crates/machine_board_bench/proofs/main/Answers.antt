@@ -1,7 +1,6 @@
 use Rattle.std.proofs.Common.{subst}
 use Rattle.std.proofs.lemmas.List.Elements.{All-pop}
 use Rattle.std.specs.Option.{IfSome}
-use Rattle.machine_board_bench.specs.Quiet.{IsQuiet}
 use Rattle.orc_machine_board.specs.Passes.{HasNothing}
 use Rattle.orc_machine_board.specs.Views.{Belongs, shows}
 use Rattle.machine_board_bench.proofs.main.Goals as goal

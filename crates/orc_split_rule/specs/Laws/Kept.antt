@@ -18,7 +18,7 @@ use Rattle.orc_heap.specs.declared.events.Act.TheVariants.{Look, Move}
 use Rattle.orc_heap.specs.declared.events.Event.{Event}
 use Rattle.orc_heap.specs.declared.events.Link.{Link}
 use Rattle.orc_heap.specs.declared.events.Place.{Place}
-use Rattle.orc_heap.specs.declared.events.Place.TheVariants.{Next, Root, Side}
+use Rattle.orc_heap.specs.declared.events.Place.TheVariants.{Next, Root}
 use Rattle.orc_history.proofs.SetHistories.{IsLegalSetFrom-snoc}
 use Rattle.orc_history.specs.SetHistory.{IsLegalSet, IsLegalSetFrom, has}
 use Rattle.orc_history.specs.declared.set.SetEntry.{SetEntry}

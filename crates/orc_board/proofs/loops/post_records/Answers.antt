@@ -1,4 +1,4 @@
-use Rattle.std.proofs.Common.{◌≡◌, ◌<◌, ℕ, length, ap, ◌∙◌, arith, map, [], ◌∷◌, ◌++◌, List, length-append}
+use Rattle.std.proofs.Common.{◌≡◌, ◌<◌, length, ap, ◌∙◌, arith, map, [], ◌∷◌, length-append}
 use Rattle.orc_board.specs.declared.replies.PostReply.{PostReply}
 use Rattle.orc_board.specs.Stretches.{queue_views, set_view}
 use Rattle.orc_board.proofs.Workers.{posting_none, posting_more, own-more, own-no, own-spare}

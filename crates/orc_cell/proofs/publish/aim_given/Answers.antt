@@ -1,6 +1,5 @@
 -- A given part is staged, so it isn't the fresh node.
 use Rattle.std.proofs.Common.{subst, sym}
-use Rattle.orc_heap.specs.Slots.{id_in}
 use Rattle.orc_cell.specs.Publishes.{AimsGiven, IsHalfReady, SideHeld, staging_root}
 use Rattle.orc_cell.specs.declared.publish.New.{New}
 use Rattle.orc_cell.proofs.Aiming.{staged_not_fresh}

@@ -11,7 +11,7 @@ use Rattle.orc_cell.proofs.Pieces.{Known, pass_known}
 use Rattle.orc_cell.proofs.Readying.{right_stays_ready}
 use Rattle.orc_cell.proofs.Swinging.{before_kept, follows_pair, may_publish, right_kept, spent_right, was_missed, was_published}
 use Rattle.orc_cell.proofs.publish.publish_next.Given.{Over}
-use Rattle.orc_cell.proofs.publish.publish_next.Goals.{After-swing_pair, In-Ok, In-Ok-aim_next}
+use Rattle.orc_cell.proofs.publish.publish_next.Goals.{After-swing_pair, In-Ok-aim_next}
 use Rattle.orc_cell.proofs.publish.publish_next.Goals as goal
 
 pub aim_next-requires-clause-ready : goal.aim_next-requires-clause-ready

@@ -1,4 +1,4 @@
-use Rattle.std.proofs.Common.{ap, arith, ℕ, ◌≡◌}
+use Rattle.std.proofs.Common.{ap, arith, ◌≡◌}
 use Rattle.orc_pairs_rule.specs.CellHistory.{Parts}
 use Rattle.orc_pairs_rule.proofs.tests.a_read_of_two_versions.Goals as goal
 

@@ -1,4 +1,4 @@
-use Rattle.std.proofs.Common.{◌≡◌, ◌<◌, length, ap, refl, ◌∙◌, arith, map, [], ◌∷◌, ◌++◌, length-append}
+use Rattle.std.proofs.Common.{◌≡◌, ◌<◌, length, ap, refl, ◌∙◌, arith, map, [], ◌∷◌, length-append}
 use Rattle.orc_watch.specs.declared.reply.WatchReply.{WatchReply}
 use Rattle.orc_board.proofs.Workers.{own-more, own-no, own-spare}
 use Rattle.orc_watch_run.specs.CellView.{cell_view}

@@ -1,5 +1,5 @@
 -- The pass that was taken is put back in its place, as usable as before and of the same agent.
-use Rattle.std.proofs.Common.{List, [], ℕ, subst, sym, ◌++◌, ◌∙◌, ◌∷◌, ◌≡◌}
+use Rattle.std.proofs.Common.{[], ℕ, subst, sym, ◌++◌, ◌∙◌, ◌∷◌, ◌≡◌}
 use Rattle.orc_cell.specs.CellCalls.{IsUsable}
 use Rattle.orc_heap.specs.Domains.{agent}
 use Rattle.orc_shared_words.specs.Lists.{EachAt}

@@ -1,5 +1,4 @@
 use Rattle.std.proofs.Common.{List, drop, refl, sym, ap, ◌+◌, ◌∙◌}
-use Rattle.std.specs.Prelude.{slice_index_or}
 use Rattle.orc_core.specs.Machine.{Machine}
 use Rattle.orc_core.specs.Runs.{run}
 use Rattle.orc_core.specs.declared.ops.Op.{Op}

@@ -1,4 +1,4 @@
-use Rattle.std.proofs.Common.{None, refl, ◌∙◌}
+use Rattle.std.proofs.Common.{None, ◌∙◌}
 use Rattle.domain_tests.proofs.JobRun.{played_on}
 use Rattle.orc_machine_board.specs.Kinds.{asks}
 use Rattle.orc_machine_board.specs.Views.{board_bounds, shows}

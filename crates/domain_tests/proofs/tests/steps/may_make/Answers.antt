@@ -1,4 +1,4 @@
-use Rattle.std.proofs.Common.{refl, sym, ◌∙◌}
+use Rattle.std.proofs.Common.{sym, ◌∙◌}
 use Rattle.domain_tests.proofs.JobRun.{played_may}
 use Rattle.orc_machine_board.specs.Views.{board_bounds, shows}
 use Rattle.domain_tests.proofs.tests.steps.may_make.Goals as goal
