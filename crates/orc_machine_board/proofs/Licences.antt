@@ -31,7 +31,7 @@ use Rattle.orc_machine_board.specs.Kinds.{asks, wants}
 use Rattle.orc_machine_board.specs.Laws.Steps.{bounds_run, counted_obeys, in_range}
 use Rattle.orc_machine_board.specs.Licences.{AimAllowed, LookAllowed, MoveAllowed}
 use Rattle.orc_machine_board.specs.Rules.{RequestAllowed, bounds_in, counted_rules, events_after, heap_numbers, run_of, step_of}
-use Rattle.orc_machine_board.specs.Views.{view_of}
+use Rattle.orc_machine_board.specs.Views.{Keeps, view_of}
 use Rattle.orc_machine_board.specs.declared.machine.Request.{Request}
 use Rattle.orc_machine_board.specs.declared.machine.MachineShape.{MachineShape}
 use Rattle.orc_shared_words.proofs.Events.{AllBy, others_add}
@@ -162,13 +162,12 @@ module _ {N : Type 0} where
         choice true f = h at refl f.0
         choice false f = plain _ f (refl, tt)
 
-  pub cas_licensed : (k : MachineShape N) (holds : List (Event N) → Type 0) (may : List (Event N) → Event N → Type 0)
+  pub cas_licensed : {k : MachineShape N} {holds : List (Event N) → Type 0} {may : List (Event N) → Event N → Type 0}
       → ((past : List (Event N)) (e : Event N) → holds past → FitsAfter (heap_numbers k) past e → IsPlainEvent e → may past e)
-      → (v : View (Step N) Agent) (a : ℕ) (place : Word) (from to : RowLink) (note : Option N) → a < (bounds_in k).agents
-      → LaterJournal counted_rules k holds may v.seen v a
+      → {v : View (Step N) Agent} {a : ℕ} → Keeps k holds may v a → (place : Word) (from to : RowLink) (note : Option N)
       → RequestAllowed (bounds_in k) a (asks (LinkCas place from to)) v.own → MoveAllowed may (bounds_in k) (view_of a v) place from to note
       → Licensed counted_rules k holds may v a (asks (LinkCas place from to)) note
-  cas_licensed k holds may law v a place from to note number now can allowed between none later =
+  cas_licensed {k} {holds} {may} law {v} {a} kept place from to note can allowed between none later =
       let b = bounds_in k in
       let j = v.seen ++ between in
       let s : Step N = step_of a (asks (LinkCas place from to)) note in
@@ -178,7 +177,7 @@ module _ {N : Type 0} where
       let q : PresentIds = present_ids b j in
       let w : ℕ = word_read (run_of b j) a (LinkCas place from to) in
       let has = cas_has b a v.own place from to can.may in
-      let stays = stays_for k holds may v a number now between none later in
+      let stays = stays_for k holds may v a kept.number kept.now between none later in
       let sp : node_place q place ≡ node_place p place = same_place p q v.own stays place has.place_is in
       let sf : node_link q from ≡ node_link p from = same_link p q v.own stays from has.from_is in
       let st : node_link q to ≡ node_link p to = same_link p q v.own stays to has.to_is in
@@ -254,9 +253,9 @@ module _ {N : Type 0} where
     aim_may true (suc number) row to h f = h refl f
     aim_may false number row to h f = tt
 
-  module _ (k : MachineShape N) (holds : List (Event N) → Type 0) (may : List (Event N) → Event N → Type 0)
+  module _ {k : MachineShape N} {holds : List (Event N) → Type 0} {may : List (Event N) → Event N → Type 0}
       (law : (past : List (Event N)) (e : Event N) → holds past → FitsAfter (heap_numbers k) past e → IsPlainEvent e → may past e)
-      (v : View (Step N) Agent) (a : ℕ) (number : a < (bounds_in k).agents) (now : LaterJournal counted_rules k holds may v.seen v a) where
+      {v : View (Step N) Agent} {a : ℕ} (kept : Keeps k holds may v a) where
     noted_licensed : (place : Word) (slot : Option ℕ) (link : RowLink) (note : Option N)
         → RequestAllowed (bounds_in k) a (wants (LinkLoad place slot) (Some link)) v.own → LookAllowed may (bounds_in k) (view_of a v) place link note
         → Licensed counted_rules k holds may v a (wants (LinkLoad place slot) (Some link)) note
@@ -270,13 +269,13 @@ module _ {N : Type 0} where
         let q : PresentIds = present_ids b j in
         let w : ℕ = word_read (run_of b j) a (LinkLoad place slot) in
         let target : HasTarget v.own link.to = wanted_has v.own link.to can.wanted in
-        let stays = stays_for k holds may v a number now between none later in
+        let stays = stays_for k holds may v a kept.number kept.now between none later in
         let sp : node_place q place ≡ node_place p place = same_place p q v.own stays place
         (load_has b a v.own place slot (may_parts b 0 a (LinkLoad place slot) v.own can.may).fits) in
         let sl : node_link q link ≡ node_link p link = same_link p q v.own stays link target in
         let met = meets k holds may v a between none later in
         let small : (r : ℕ) → link.to ≡ Some r → r < 65535 = λ r e.
-        let out = has_out b j a r (in_range k.shape) later.lawful.0 number (subst (λ d. HasRow d r) (sym later.mine) (subst (HasTarget v.own) e target)) in
+        let out = has_out b j a r (in_range k.shape) later.lawful.0 kept.number (subst (λ d. HasRow d r) (sym later.mine) (subst (HasTarget v.own) e target)) in
         let under : r < b.rows = subst (λ (c : Bounds). r < c.rows) (bounds_run b j) out.0 in
         let few = k.shape.few_rows in
         omega arith in
@@ -311,7 +310,7 @@ module _ {N : Type 0} where
         let p : PresentIds = present_ids b v.seen in
         let q : PresentIds = present_ids b j in
         let d : Agent = record_at (run_of b j) a in
-        let stays = stays_for k holds may v a number now between none later in
+        let stays = stays_for k holds may v a kept.number kept.now between none later in
         let st : option_map q.node link.to ≡ option_map p.node link.to = same_target p q v.own stays link.to
         (store_has b a v.own row which link (may_parts b 0 a (LinkStore row link which) v.own can.may).fits) in
         let met = meets k holds may v a between none later in

@@ -38,9 +38,9 @@ answered (Sub v) word n e = e
 answered (CompareExchange x v) word n e = ap (answer_of (CompareExchange x v)) e
 
 -- a pass's work list has room for all rows
-pub room_of : {N : Type 0} (k : MachineShape N) (holds : List (Event N) → Type 0) (may : List (Event N) → Event N → Type 0) (v : View (Step N) Agent) (a : ℕ)
+pub room_of : {N : Type 0} {k : MachineShape N} {holds : List (Event N) → Type 0} {may : List (Event N) → Event N → Type 0} {v : View (Step N) Agent} {a : ℕ}
     → Keeps k holds may v a → v.own.list.room ≡ (bounds_in k).rows
-room_of k holds may v a kept =
+room_of {N} {k} {holds} {may} {v} {a} kept =
     let b = bounds_in k in
     let whole = every_run_whole b (plain v.seen) (in_range k.shape) in
     let there : a < length (run_of b v.seen).agents = subst (λ n. a < n) (sym (long_run b v.seen (in_range k.shape))) kept.number in

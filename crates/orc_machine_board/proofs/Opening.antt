@@ -245,17 +245,27 @@ module _ {N : Type 0} where
         ),
       )
 
+  -- the state in which all are enrolled
+  enrolled_world : (b : Bounds) → IsShape b → world_of (run_of b (enrolments {N = N} b.agents)) ≡ ready b
+  enrolled_world b shape =
+      let rows : 0 < b.rows = let r = shape.rows.0 in omega arith in
+      let agents : 0 < b.agents = let r = shape.agents.0 in omega arith in
+      (all_enroll b b.agents shape (omega arith)).world ∙ is_ready b rows agents
+
+  -- the seeding may follow
+  seeding_lawful : (b : Bounds) (seed : Seed N) → IsShape b → HasRoots (numbers_of b) seed
+      → LawfulSteps (run_of b (enrolments {N = N} b.agents)).bounds (world_of (run_of b (enrolments {N = N} b.agents))) (seeding seed)
+  seeding_lawful b seed shape roots =
+      let m = run_of b (enrolments {N = N} b.agents) in
+      subst (λ (c : Bounds). LawfulSteps c (world_of m) (seeding seed)) (sym (bounds_run b (enrolments {N = N} b.agents)))
+      (subst (λ z. LawfulSteps b z (seeding seed)) (sym (enrolled_world b shape)) (seed_lawful b seed shape roots))
+
   pub opening_lawful : (b : Bounds) (seed : Seed N) → IsShape b → HasRoots (numbers_of b) seed
       → IsLawfulJournal (new_machine b) (machine_opening b.agents seed)
   opening_lawful b seed shape roots =
       let all = all_enroll b b.agents shape (omega arith) in
-      let m = run_of b (enrolments {N = N} b.agents) in
-      let rows : 0 < b.rows = let r = shape.rows.0 in omega arith in
-      let agents : 0 < b.agents = let r = shape.agents.0 in omega arith in
-      let world : world_of m ≡ ready b = all.world ∙ is_ready b rows agents in
-      let steps : LawfulSteps m.bounds (world_of m) (seeding seed) = subst (λ (c : Bounds). LawfulSteps c (world_of m) (seeding seed))
-      (sym (bounds_run b (enrolments {N = N} b.agents))) (subst (λ z. LawfulSteps b z (seeding seed)) (sym world) (seed_lawful b seed shape roots)) in
-      (IsLawfulJournal-append (new_machine b) (enrolments {N = N} b.agents) (seeding seed)).1 (all.lawful, steps_lawful m (seeding seed) all.full steps)
+      (IsLawfulJournal-append (new_machine b) (enrolments {N = N} b.agents) (seeding seed)).1
+      (all.lawful, steps_lawful (run_of b (enrolments {N = N} b.agents)) (seeding seed) all.full (seeding_lawful b seed shape roots))
 
   -- the events of steps, by the state as functions
   abbrev project_world : World → PresentIds → List (Step N) → List (Event N)
@@ -312,15 +322,11 @@ module _ {N : Type 0} where
   opened_events b seed shape roots =
       let all = all_enroll b b.agents shape (omega arith) in
       let m = run_of b (enrolments {N = N} b.agents) in
-      let rows : 0 < b.rows = let r = shape.rows.0 in omega arith in
-      let agents : 0 < b.agents = let r = shape.agents.0 in omega arith in
-      let world : world_of m ≡ ready b = all.world ∙ is_ready b rows agents in
-      let steps : LawfulSteps m.bounds (world_of m) (seeding seed) = subst (λ (c : Bounds). LawfulSteps c (world_of m) (seeding seed))
-      (sym (bounds_run b (enrolments {N = N} b.agents))) (subst (λ z. LawfulSteps b z (seeding seed)) (sym world) (seed_lawful b seed shape roots)) in
       let quiet = quiet_enrolments (new_machine b) no_ids b.agents in
       project-append (new_machine b) no_ids (enrolments b.agents) (seeding seed)
       ∙ ((λ i. quiet.0 i ++ project_from m (quiet.1 i) (seeding seed))
-      ∙ (steps_project m no_ids (seeding seed) all.full steps ∙ (ap (λ z. project_world z no_ids (seeding seed)) world ∙ seed_events b seed)))
+      ∙ (steps_project m no_ids (seeding seed) all.full (seeding_lawful b seed shape roots)
+      ∙ (ap (λ z. project_world z no_ids (seeding seed)) (enrolled_world b shape) ∙ seed_events b seed)))
 
   plain_seeding : (seed : Seed N) → StoresUnmarked (seeding seed)
   plain_seeding Empty = tt
@@ -365,11 +371,7 @@ module _ {N : Type 0} where
   opening_nothing b seed zero shape roots lt =
       let all = all_enroll b b.agents shape (omega arith) in
       let m = run_of b (enrolments {N = N} b.agents) in
-      let rows : 0 < b.rows = let r = shape.rows.0 in omega arith in
-      let world : world_of m ≡ ready b = all.world ∙ is_ready b rows lt in
-      let steps : LawfulSteps m.bounds (world_of m) (seeding seed) = subst (λ (c : Bounds). LawfulSteps c (world_of m) (seeding seed))
-      (sym (bounds_run b (enrolments {N = N} b.agents))) (subst (λ z. LawfulSteps b z (seeding seed)) (sym world) (seed_lawful b seed shape roots)) in
-      let left = steps_run m (seeding seed) all.full steps ∙ ap (λ z. run_world z (seeding seed)) world in
+      let left = steps_run m (seeding seed) all.full (seeding_lawful b seed shape roots) ∙ ap (λ z. run_world z (seeding seed)) (enrolled_world b shape) in
       let whole = run_more b (enrolments {N = N} b.agents) (seeding seed) in
       subst (λ (z : Machine). HasNothing (record_at z 0)) (sym whole) (subst (λ (z : World). HasNothing (z.seats 0)) (sym left) (seed_nothing b seed))
   opening_nothing b seed (suc a) shape roots lt = subst HasNothing (sym (opening_born b seed (suc a) shape (omega arith) lt)) (new_nothing b.rows)

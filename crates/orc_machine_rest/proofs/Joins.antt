@@ -101,17 +101,17 @@ module _ {N : Type 0} where
   pub goes_none : (b : Bounds) (a : ℕ) (s : MachineView N) → IsReachedState (run_of b s.journal) → Goes b a 0 s s
   goes_none b a s r = record { went = went_none a (run_of b s.journal) r; adds = adds_none b a s }
 
-  pub goes_then : (b : Bounds) (a x y : ℕ) (s t u : MachineView N) → Goes b a x s t → Goes b a y t u → Goes b a (x + y) s u
-  goes_then b a x y s t u p q = record {
+  pub goes_then : (b : Bounds) (a x y : ℕ) {s t u : MachineView N} → Goes b a x s t → Goes b a y t u → Goes b a (x + y) s u
+  goes_then b a x y {s} {t} {u} p q = record {
     went = went_join a x y (run_of b s.journal) (run_of b t.journal) (run_of b u.journal) p.went q.went;
     adds = adds_then b a p.went.turn.steps q.went.turn.steps s t u p.adds q.adds;
   }
 
-  pub goes_is : (b : Bounds) (a x y : ℕ) (s t : MachineView N) → x ≡ y → Goes b a x s t → Goes b a y s t
-  goes_is b a x y s t e p = subst (λ z. Goes b a z s t) e p
+  pub goes_is : (b : Bounds) (a x y : ℕ) {s t : MachineView N} → x ≡ y → Goes b a x s t → Goes b a y s t
+  goes_is b a x y {s} {t} e p = subst (λ z. Goes b a z s t) e p
 
-  pub opens_then : (b : Bounds) (a x y : ℕ) (s t u : MachineView N) → Opens b a x s t → Goes b a y t u → Opens b a (x + y) s u
-  opens_then b a x y s t u p q = record {
+  pub opens_then : (b : Bounds) (a x y : ℕ) {s t u : MachineView N} → Opens b a x s t → Goes b a y t u → Opens b a (x + y) s u
+  opens_then b a x y {s} {t} {u} p q = record {
     opened = opened_more a x y (run_of b s.journal) (run_of b t.journal) (run_of b u.journal) p.opened q.went;
     adds =
         let o = p.opened in
@@ -120,18 +120,18 @@ module _ {N : Type 0} where
         (adds_then b a (first ++ o.went.turn.steps) q.went.turn.steps s t u p.adds q.adds);
   }
 
-  pub opens_less : (b : Bounds) (a x y : ℕ) (s t : MachineView N) → y ≤ x → Opens b a x s t → Opens b a y s t
-  opens_less b a x y s t h p = record { opened = opened_less a x y (run_of b s.journal) (run_of b t.journal) h p.opened; adds = p.adds }
+  pub opens_less : (b : Bounds) (a x y : ℕ) {s t : MachineView N} → y ≤ x → Opens b a x s t → Opens b a y s t
+  opens_less b a x y {s} {t} h p = record { opened = opened_less a x y (run_of b s.journal) (run_of b t.journal) h p.opened; adds = p.adds }
 
   -- it is a turn as a whole
   pub opens_goes : (b : Bounds) (a x : ℕ) (s t : MachineView N) → IsReachedState (run_of b s.journal) → Opens b a x s t → Goes b a x s t
   opens_goes b a x s t r p = record { went = opened_went a x (run_of b s.journal) (run_of b t.journal) r p.opened; adds = p.adds }
 
   -- what opens a turn opens one with what was before it, if that was nothing or an opening itself
-  pub opens_next : (b : Bounds) (a y : ℕ) (s t u : MachineView N) → (t ≡ s) ⊎ Opens b a 0 s t → IsReachedState (run_of b t.journal)
+  pub opens_next : (b : Bounds) (a y : ℕ) {s t u : MachineView N} → (t ≡ s) ⊎ Opens b a 0 s t → IsReachedState (run_of b t.journal)
       → Opens b a y t u → Opens b a y s u
-  opens_next b a y s t u (inl e) r q = subst (λ z. Opens b a y z u) e q
-  opens_next b a y s t u (inr p) r q = opens_less b a (0 + y) y s u (omega arith) (opens_then b a 0 y s t u p (opens_goes b a y t u r q))
+  opens_next b a y {s} {t} {u} (inl e) r q = subst (λ z. Opens b a y z u) e q
+  opens_next b a y {s} {t} {u} (inr p) r q = opens_less b a (0 + y) y (omega arith) (opens_then b a 0 y p (opens_goes b a y t u r q))
 
   -- as many rounds as there were to make
   pub rounds_all : (b : Bounds) (a left : ℕ) (s t : MachineView N) → Goes b a left s t → MakesRounds b a left s t

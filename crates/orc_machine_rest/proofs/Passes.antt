@@ -29,6 +29,7 @@ use Rattle.orc_projection.specs.PresentIds.{PresentIds}
 use Rattle.orc_projection.specs.Projection.{act_of}
 use Rattle.orc_rest.proofs.Opening.{opened_step}
 use Rattle.orc_rest.proofs.Stages.{made_record, made_went}
+use Rattle.orc_rest.specs.Records.{IsDone}
 use Rattle.orc_rest.specs.Rounds.{AfterStep, IsNoHand}
 use Rattle.orc_rest.specs.Turns.{Made}
 use Rattle.orc_rest.specs.Work.{IsSettlingStep, drop_of}
@@ -57,7 +58,8 @@ target_left None = refl
 target_left (Some r) = refl
 
 module _ {D N : Type 0} where
-  abbrev Pass : (d : discipline.Ghosts D N) → machine.Ghosts Reclaiming N (MachineShape N) Request (Step N) Agent Agent → Type 0
+  -- a pass of a board
+  abbrev pub Pass : (d : discipline.Ghosts D N) → machine.Ghosts Reclaiming N (MachineShape N) Request (Step N) Agent Agent → Type 0
   Pass d m = MachineBoardPass D N (MachineShape N) Request (Step N) Agent Agent d m
 
 module _ {D N : Type 0} {d : discipline.Ghosts D N} {m : machine.Ghosts Reclaiming N (MachineShape N) Request (Step N) Agent Agent} where
@@ -89,36 +91,44 @@ module _ {D N : Type 0} {d : discipline.Ghosts D N} {m : machine.Ghosts Reclaimi
         → MayDo (board_bounds board) (shows p) op
     may_do op s allowed = may_here (board_bounds board) (shows p).agent (shows p).record_is (state_of board p) a op (bounds_are board p) h.agent mine s allowed
 
-  -- one step of the pass
-  module _ (board : MachineBoard D N) (a : ℕ) (op : Op) (p q : Pass d m) (n : ℕ) (h : IsPassOf board a p) (g : Belongs board q)
-      (mk : MakesPlain (board_bounds board) op (shows p) n (shows q)) where
+  -- where the state has nothing left for the agent, neither has the pass
+  pub done_so : (board : MachineBoard D N) {a x : ℕ} {p : Pass d m} → IsPassOf board a p → a ≡ x → IsDone (record_of board x p) → IsDone (shows p).record_is
+  done_so board {a} {x} {p} h its done = subst IsDone (mine board a p h) (subst (λ y. IsDone (record_of board y p)) (sym its) done)
+
+  -- the pass makes this step, and shows q
+  pub record StepOf (board : MachineBoard D N) (a : ℕ) (op : Op) (p q : Pass d m) (n : ℕ) : Type 0 where
+    pub pass : IsPassOf board a p
+    pub belongs : Belongs board q
+    pub makes : MakesPlain (board_bounds board) op (shows p) n (shows q)
+
+  module _ {board : MachineBoard D N} {a : ℕ} {op : Op} {p q : Pass d m} {n : ℕ} (e : StepOf board a op p q n) where
     pub next_pass : IsPassOf board a q
-    next_pass = pass_of board a q g (mk.agent ∙ h.agent)
+    next_pass = pass_of board a q e.belongs (e.makes.agent ∙ e.pass.agent)
 
     abbrev pub made : Made a op (state_of board p) (state_of board q)
-    made = made_by board.words.shape a op (shows p) (shows q) n h.agent g.keeps.now.lawful.0 mk
+    made = made_by board.words.shape a op (shows p) (shows q) n e.pass.agent e.belongs.keeps.now.lawful.0 e.makes
 
     pub one_step : AtMostMore a 1 (shows p).journal (shows q).journal
-    one_step = one_more board.words.shape a op (shows p) (shows q) n h.agent g.keeps.now.lawful.0 mk
+    one_step = one_more board.words.shape a op (shows p) (shows q) n e.pass.agent e.belongs.keeps.now.lawful.0 e.makes
 
     pub after_step : AfterStep a op (state_of board p) (state_of board q)
-    after_step = made_record (state_of board p) (state_of board q) a op h.reached h.low made
+    after_step = made_record (state_of board p) (state_of board q) a op e.pass.reached e.pass.low made
 
     -- where the step answers the word that it read, the record is by that word
     pub read_step : ((w : ℕ) → n ≡ answer_of (action_of (shows p).agent op (shows p).record_is).operation w → n ≡ w)
         → record_of board a q ≡ after op (record_of board a p) n
     read_step reads =
-        mine board a q next_pass ∙ (mk.record_is ∙ ((λ i. after op (shows p).record_is (sym (reads _ mk.answer) i))
-        ∙ ap (λ d. after op d n) (sym (mine board a p h))))
+        mine board a q next_pass ∙ (e.makes.record_is ∙ ((λ i. after op (shows p).record_is (sym (reads _ e.makes.answer) i))
+        ∙ ap (λ d. after op d n) (sym (mine board a p e.pass))))
 
     -- right before the step the record is what it was
-    pub before_step : record_at (run_of (board_bounds board) ((shows p).journal ++ mk.met)) (shows p).agent ≡ record_of board a p
-    before_step = record_stays (board_bounds board) (shows p).journal mk.met (shows p).agent mk.others ∙ ap (record_at (state_of board p)) h.agent
+    pub before_step : record_at (run_of (board_bounds board) ((shows p).journal ++ e.makes.met)) (shows p).agent ≡ record_of board a p
+    before_step = record_stays (board_bounds board) (shows p).journal e.makes.met (shows p).agent e.makes.others ∙ ap (record_at (state_of board p)) e.pass.agent
 
     module _ (no_act : (i : PresentIds) (w : ℕ) → act_of i (record_of board a p) w op None ≡ None) where
       pub added : Added (board_bounds board) a (made.others ++ (a, op) ∷ []) (op ∷ []) (shows p) (shows q)
-      added = added_here board.words.shape a op (shows p) (shows q) n h.agent g.keeps.now.lawful.0 mk
-          (λ i w. ap (λ e. act_of i e w op None) before_step ∙ no_act i w)
+      added = added_here board.words.shape a op (shows p) (shows q) n e.pass.agent e.belongs.keeps.now.lawful.0 e.makes
+          (λ i w. ap (λ d. act_of i d w op None) before_step ∙ no_act i w)
 
       module _ (taken : TakesInCleared (op ∷ [])) (allowed : is_allowed (state_of board p) a op ≡ true)
           (settles : IsSettlingStep (word_in (state_of board p)) op (record_of board a p)) where
@@ -126,7 +136,7 @@ module _ {D N : Type 0} {d : discipline.Ghosts D N} {m : machine.Ghosts Reclaimi
         adds = added_adds (board_bounds board) a (made.others ++ (a, op) ∷ []) (op ∷ []) (shows p) (shows q) taken added
 
         pub goes : Goes (board_bounds board) a (drop_of op (record_of board a p)) (shows p) (shows q)
-        goes = record { went = made_went (state_of board p) (state_of board q) a op h.reached allowed settles made; adds = adds }
+        goes = record { went = made_went (state_of board p) (state_of board q) a op e.pass.reached allowed settles made; adds = adds }
 
         pub opens : IsNoHand op → Opens (board_bounds board) a (drop_of op (record_of board a p)) (shows p) (shows q)
         opens kind = record {

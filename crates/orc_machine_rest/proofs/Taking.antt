@@ -6,7 +6,7 @@ use mathlib.Core.Logic.{dite}
 use Rattle.orc_machine_rest.specs.Drains.{Drains, Takes, TakesInAndSettles, TakesInFrom}
 use Rattle.orc_machine_rest.proofs.Joins.{adds_leaves, adds_none, adds_then}
 use Rattle.orc_machine_rest.proofs.Makes.{added_adds}
-use Rattle.orc_machine_rest.proofs.Passes.{added, bounds_are, made, mine}
+use Rattle.orc_machine_rest.proofs.Passes.{Pass, StepOf, added, bounds_are, made, mine}
 use Rattle.orc_machine_rest.proofs.TakenIn.{taken_since, taken_then}
 use Rattle.orc_machine_rest.specs.OwnSteps.{HasTakenIn, LeavesNothing}
 use Rattle.orc_machine_rest.specs.Parts.{Adds, NoEvents, Settles}
@@ -36,28 +36,26 @@ use Rattle.orc_words.specs.Bounds.{Bounds}
 use Rattle.orc_machine_rest.proofs.Alone.{Parts, alone_done, alone_parts}
 use Rattle.orc_history.specs.Parts.{IsAlone}
 
-module _ {D N : Type 0} {d : discipline.Ghosts D N} {m : machine.Ghosts Reclaiming N (MachineShape N) Request (Step N) Agent Agent} (board : MachineBoard D N)
-    (a k : ℕ) (p : MachineBoardPass D N (MachineShape N) Request (Step N) Agent Agent d m) (h : IsPassOf board a p)
-    (between : IsBetweenRounds (record_of board a p)) where
-  pub may_take : k < 8 → MayDo (board_bounds board) (shows p) (TakeIn k)
-  may_take low =
+module _ {D N : Type 0} {d : discipline.Ghosts D N} {m : machine.Ghosts Reclaiming N (MachineShape N) Request (Step N) Agent Agent}
+    {board : MachineBoard D N} {a k : ℕ} {p : Pass d m} where
+  pub may_take : IsPassOf board a p → IsBetweenRounds (record_of board a p) → k < 8 → MayDo (board_bounds board) (shows p) (TakeIn k)
+  may_take h between low =
       (λ i. may (sym (bounds_are board p) i) 0 (h.agent i) (TakeIn k) (sym (mine board a p h) i)) ∙ take_slot (state_of board p) a k h.low between low
 
-  module _ (q : MachineBoardPass D N (MachineShape N) Request (Step N) Agent Agent d m) (n : ℕ) (g : Belongs board q)
-      (mk : MakesPlain (board_bounds board) (TakeIn k) (shows p) n (shows q)) where
+  module _ {q : Pass d m} {n : ℕ} (e : StepOf board a (TakeIn k) p q n) where
     pub takes : Takes (board_bounds board) a k (shows p) (shows q)
     takes = record {
-      made = made board a (TakeIn k) p q n h g mk;
-      adds = added_adds (board_bounds board) a _ (TakeIn k ∷ []) (shows p) (shows q) tt (added board a (TakeIn k) p q n h g mk (λ i w. refl));
+      made = made e;
+      adds = added_adds (board_bounds board) a _ (TakeIn k ∷ []) (shows p) (shows q) tt (added e (λ i w. refl));
     }
 
     pub taken_in : HasTakenIn a k (shows p).journal (shows q).journal
     taken_in =
-        let one = added board a (TakeIn k) p q n h g mk (λ i w. refl) in
+        let one = added e (λ i w. refl) in
         record { earlier = []; later = []; done = record { part = one.part; is = one.journal; own = one.own } }
 
-    pub still_between : IsBetweenRounds (record_of board a q)
-    still_between = made_between (state_of board p) (state_of board q) a k h.reached h.low between (made board a (TakeIn k) p q n h g mk)
+    pub still_between : IsBetweenRounds (record_of board a p) → IsBetweenRounds (record_of board a q)
+    still_between between = made_between (state_of board p) (state_of board q) a k e.pass.reached e.pass.low between (made e)
 
 module _ {N : Type 0} (b : Bounds) (a : ℕ) where
   pub takes_none : (s : MachineView N) → IsReachedState (run_of b s.journal) → TakesInFrom b a 8 s s

@@ -211,6 +211,15 @@ module _ {D N : Type 0} {d : discipline.Ghosts D N} {m : machine.Ghosts Plain N 
           found : link_by u.rows two ≡ record { to = Some (index_of row u.rows); mark = one.mark }
           found = ap (link_by u.rows) twice ∙ ap (λ (z : Option ℕ). record { to = id_by u.rows z; mark = one.mark }) is
 
+          -- the Looks of both loads, by what the link is marked
+          put_found : (mark : Bool) → one.mark ≡ mark
+              → Puts (seat_of domain p) (event_by s.agent (Look (place_in (seat_of domain p).slots at) (link_by t.rows one)) None ∷ event_by s.agent
+              (Look (place_in (seat_of domain p).slots at) (record { to = Some (index_of row u.rows); mark = mark })) None ∷ []) (seat_by u (slice_set p2.slots slot (Some row)))
+          put_found mark e =
+              subst (λ (z : Link). Puts (seat_of domain p) (event_by s.agent (Look (place_in (seat_of domain p).slots at) (link_by t.rows one)) None
+              ∷ event_by s.agent (Look (place_in (seat_of domain p).slots at) z) None ∷ []) (seat_by u (slice_set p2.slots slot (Some row))))
+              (found ∙ ap (λ (m : Bool). record { to = Some (index_of row u.rows); mark = m }) e) (put_both (slice_set p2.slots slot (Some row)))
+
           pub looks_held : (hold : Hold) → hold ≡ record { row = row; slot = slot }
               → Looks (place_in (seat_of domain p).slots at) slot (seat_of domain p) (Stable (record { null = false; mark = one.mark }) (Some hold))
               (seat_by u (slice_set p2.slots slot (Some row)))
@@ -227,9 +236,7 @@ module _ {D N : Type 0} {d : discipline.Ghosts D N} {m : machine.Ghosts Plain N 
                   refl,
                   slots_set u.rows p2.slots slot (Some row)
                       ∙ ap (λ (z : Slots). slice_set z slot (Some (record { row = row; id = index_of row u.rows }))) slots_last,
-                  subst (λ (z : Link). Puts (seat_of domain p) (event_by s.agent (Look (place_in (seat_of domain p).slots at) (link_by t.rows one)) None
-                      ∷ event_by s.agent (Look (place_in (seat_of domain p).slots at) z) None ∷ []) (seat_by u (slice_set p2.slots slot (Some row))))
-                      found (put_both (slice_set p2.slots slot (Some row))),
+                  put_found one.mark refl,
                 );
               }
 
@@ -255,9 +262,7 @@ module _ {D N : Type 0} {d : discipline.Ghosts D N} {m : machine.Ghosts Plain N 
                   its,
                   slots_set u.rows p2.slots slot (Some row)
                       ∙ (λ i. slice_set (slots_last i) (its i) (Some (record { row = row; id = index_of row u.rows }))),
-                  subst (λ (z : Link). Puts (seat_of domain p) (event_by s.agent (Look (place_in (seat_of domain p).slots at) (link_by t.rows one)) None
-                      ∷ event_by s.agent (Look (place_in (seat_of domain p).slots at) z) None ∷ []) (seat_by u (slice_set p2.slots slot (Some row))))
-                      (found ∙ ap (λ (m : Bool). record { to = Some (index_of row u.rows); mark = m }) bare) (put_both (slice_set p2.slots slot (Some row))),
+                  put_found false bare,
                 );
               }
 

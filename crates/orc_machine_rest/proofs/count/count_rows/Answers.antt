@@ -6,74 +6,47 @@ pub overflow_add-given : goal.overflow_add-given
 overflow_add-given g c =
     let i = c.loop-row.invariant in
     let row = c.loop-row-test.true in
-    let low = given_low c.args.board.now c.args.p.now c.loop-row.p c.rows-row-end.result c.loop-row.row c.loop-row.given c.loop-row.linked i
-    c.requires.belongs (omega arith) in
-    let one = gate_low c.args.board.now c.args.p.now c.loop-row.p c.rows-row-end.result c.loop-row.row c.loop-row.given c.loop-row.linked i
-    c.requires.all c.gate_look-gate.new.p c.gate_look-gate.ensures.belongs c.gate_look-gate.result c.gate_look-gate.ensures.made c.requires.belongs row in
+    let low = given_low c.args.board.now i c.requires.belongs (omega arith) in
+    let one = gate_low c.args.board.now i c.requires.all c.gate_look-gate.ensures.belongs c.gate_look-gate.ensures.made c.requires.belongs row in
     let rows = i.inside in
     let few = c.args.board.now.words.shape.shape.few_rows in
     omega (arith, low, one, row, rows, few)
 
 pub overflow_add-linked : goal.overflow_add-linked
 overflow_add-linked g c =
-    let i = c.loop-row.invariant in
     let row = c.loop-row-test.true in
-    let low = linked_low c.args.board.now c.args.p.now c.loop-row.p c.rows-row-end.result c.loop-row.row c.loop-row.given c.loop-row.linked i in
-    let rows = i.inside in
+    let low = linked_low c.args.board.now c.loop-row.invariant in
+    let rows = c.loop-row.invariant.inside in
     let few = c.args.board.now.words.shape.shape.few_rows in
     omega (arith, low, row, rows, few)
 
 pub loop-row-preserved : goal.loop-row-preserved
 loop-row-preserved g c =
-    counted_one c.args.board.now c.args.p.now c.loop-row.p c.rows-row-end.result c.loop-row.row c.loop-row.given c.loop-row.linked c.loop-row.invariant
-    c.requires.all c.gate_look-gate.new.p c.gate_look-gate.ensures.belongs c.gate_look-gate.result c.gate_look-gate.ensures.made
+    counted_one c.args.board.now c.loop-row.invariant c.requires.all c.gate_look-gate.ensures.belongs c.gate_look-gate.ensures.made
 
 pub overflow_sub-reused : goal.overflow_sub-reused
 overflow_sub-reused g c =
-    let low = c.loop-row-test.false in
-    let high = c.loop-row.auto.row-end in
-    let e = balance_end c.args.board.now c.args.p.now c.loop-row.p c.rows-row-end.result c.loop-row.row c.loop-row.given c.loop-row.linked
-    c.loop-row.invariant (omega (arith, low, high)) in
+    let e = balance_end c.args.board.now c.loop-row.invariant c.loop-row-test.false c.loop-row.auto.row-end in
     omega arith
 
 pub returns-clause-journal : goal.returns-clause-journal
-returns-clause-journal g c =
-    let low = c.loop-row-test.false in
-    let high = c.loop-row.auto.row-end in
-    journal_end c.args.board.now c.args.p.now c.loop-row.p c.rows-row-end.result c.loop-row.row c.loop-row.given c.loop-row.linked
-    c.loop-row.invariant (omega (arith, low, high))
+returns-clause-journal g c = journal_end c.args.board.now c.loop-row.invariant c.loop-row-test.false c.loop-row.auto.row-end
 
 pub returns-clause-given : goal.returns-clause-given
-returns-clause-given g c =
-    let low = c.loop-row-test.false in
-    let high = c.loop-row.auto.row-end in
-    given_end c.args.board.now c.args.p.now c.loop-row.p c.rows-row-end.result c.loop-row.row c.loop-row.given c.loop-row.linked
-    c.loop-row.invariant (omega (arith, low, high))
+returns-clause-given g c = given_end c.args.board.now c.loop-row.invariant c.loop-row-test.false c.loop-row.auto.row-end
 
 pub returns-clause-reused : goal.returns-clause-reused
 returns-clause-reused g c =
-    let low = c.loop-row-test.false in
-    let high = c.loop-row.auto.row-end in
-    let e = balance_end c.args.board.now c.args.p.now c.loop-row.p c.rows-row-end.result c.loop-row.row c.loop-row.given c.loop-row.linked
-    c.loop-row.invariant (omega (arith, low, high)) in
+    let e = balance_end c.args.board.now c.loop-row.invariant c.loop-row-test.false c.loop-row.auto.row-end in
     omega arith
 
 pub returns-clause-linked : goal.returns-clause-linked
-returns-clause-linked g c =
-    let low = c.loop-row-test.false in
-    let high = c.loop-row.auto.row-end in
-    linked_end c.args.board.now c.args.p.now c.loop-row.p c.rows-row-end.result c.loop-row.row c.loop-row.given c.loop-row.linked
-    c.loop-row.invariant (omega (arith, low, high))
+returns-clause-linked g c = linked_end c.args.board.now c.loop-row.invariant c.loop-row-test.false c.loop-row.auto.row-end
 
 pub returns-clause-balance : goal.returns-clause-balance
 returns-clause-balance g c =
-    let low = c.loop-row-test.false in
-    let high = c.loop-row.auto.row-end in
-    let e = balance_end c.args.board.now c.args.p.now c.loop-row.p c.rows-row-end.result c.loop-row.row c.loop-row.given c.loop-row.linked
-    c.loop-row.invariant (omega (arith, low, high)) in
+    let e = balance_end c.args.board.now c.loop-row.invariant c.loop-row-test.false c.loop-row.auto.row-end in
     omega arith
 
 pub returns-clause-all : goal.returns-clause-all
-returns-clause-all g c =
-    still_all c.args.board.now c.args.p.now c.loop-row.p c.rows-row-end.result c.loop-row.row c.loop-row.given c.loop-row.linked c.loop-row.invariant
-    c.requires.all
+returns-clause-all g c = still_all c.args.board.now c.loop-row.invariant c.requires.all

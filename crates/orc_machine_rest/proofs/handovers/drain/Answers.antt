@@ -1,11 +1,9 @@
 use Rattle.std.proofs.Common.{subst, sym, ◌*◌, ◌+◌}
 use Rattle.orc_machine_rest.proofs.Taking.{alone_drained, alone_taken}
 use Rattle.orc_machine_rest.specs.Drains.{Drains}
-use Rattle.orc_machine_rest.proofs.Passes.{mine, pass_of}
+use Rattle.orc_machine_rest.proofs.Passes.{done_so, pass_of}
 use Rattle.orc_machine_rest.specs.OwnSteps.{AtMostMore, TakesInAll, most_rounds, steps_a_round}
-use Rattle.orc_machine_rest.specs.Passes.{record_of}
 use Rattle.orc_machine_board.specs.Views.{board_bounds, shows}
-use Rattle.orc_rest.specs.Records.{IsDone}
 use Rattle.orc_machine_rest.proofs.handovers.drain.Goals as goal
 
 pub drain_own-requires-clause-pass : goal.drain_own-requires-clause-pass
@@ -13,14 +11,12 @@ drain_own-requires-clause-pass g c = pass_of c.args.board.now c.agent-agent.resu
 
 pub returns-clause-done : goal.returns-clause-done
 returns-clause-done g c = λ alone.
-    let board = c.args.board.now in
-    let b = board_bounds board in
+    let b = board_bounds c.args.board.now in
     let s = shows c.args.p.now in
     let t = shows c.drain_own.new.p in
     let its = c.agent-agent.ensures in
-    let drains = subst (λ a. Drains b a s t) its c.drain_own.ensures.drains in
-    subst IsDone (mine board c.agent-agent.result c.drain_own.new.p c.drain_own.ensures.pass)
-    (subst (λ a. IsDone (record_of board a c.drain_own.new.p)) (sym its) (alone_drained b s.agent s t drains alone))
+    done_so c.args.board.now c.drain_own.ensures.pass its
+    (alone_drained b s.agent s t (subst (λ a. Drains b a s t) its c.drain_own.ensures.drains) alone)
 
 pub returns-clause-handovers : goal.returns-clause-handovers
 returns-clause-handovers g c = λ alone.

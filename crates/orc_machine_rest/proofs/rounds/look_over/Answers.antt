@@ -2,7 +2,7 @@ use Rattle.std.proofs.Common.{ap, arith, inl, inr, refl, sym, ◌∙◌}
 use Rattle.orc_machine_rest.proofs.Joins.{opens_less, opens_next, opens_then}
 use Rattle.orc_machine_rest.proofs.Passes.{bounds_are}
 use Rattle.orc_machine_rest.specs.Passes.{state_of}
-use Rattle.orc_machine_board.specs.Views.{board_bounds, shows}
+use Rattle.orc_machine_board.specs.Views.{board_bounds}
 use Rattle.orc_rest.proofs.Calls.{end_allowed}
 use Rattle.orc_rest.proofs.Looks.{hand_allowed}
 use Rattle.orc_words.specs.Bounds.{Bounds}
@@ -50,8 +50,8 @@ pub returns-then-look_step-clause-opens : goal.returns-then-look_step-clause-ope
 returns-then-look_step-clause-opens g c =
     let b = board_bounds c.args.board.now in
     let i = c.loop-k.invariant in
-    opens_next b c.args.agent 1 (shows c.args.p.now) (shows c.loop-k.p) (shows c.settle_step.new.p) i.opens i.pass.reached
-    (opens_then b c.args.agent 0 1 (shows c.loop-k.p) (shows c.look_step.new.p) (shows c.settle_step.new.p) c.look_step.ensures.opens
+    opens_next b c.args.agent 1 i.opens i.pass.reached
+    (opens_then b c.args.agent 0 1 c.look_step.ensures.opens
     c.settle_step.ensures.goes)
 
 pub returns-then-look_step-clause-few : goal.returns-then-look_step-clause-few
@@ -73,7 +73,7 @@ loop-k-preserved g c =
     let before = i.few in
     record {
       pass = c.look_step.ensures.pass;
-      opens = inr (opens_next b c.args.agent 0 (shows c.args.p.now) (shows c.loop-k.p) (shows c.look_step.new.p) i.opens i.pass.reached
+      opens = inr (opens_next b c.args.agent 0 i.opens i.pass.reached
           c.look_step.ensures.opens);
       still = looks.still;
       doom = looks.doom ∙ i.doom;
@@ -98,9 +98,9 @@ returns-then-is_none-clause-opens g c =
     let b = board_bounds c.args.board.now in
     let a = c.args.agent in
     let i = c.loop-k.invariant in
-    opens_next b a 1 (shows c.args.p.now) (shows c.loop-k.p) (shows c.free_doomed.new.p) i.opens i.pass.reached
-    (opens_less b a 2 1 (shows c.loop-k.p) (shows c.free_doomed.new.p) (omega arith)
-    (opens_then b a 1 1 (shows c.loop-k.p) (shows c.settle_step-2.new.p) (shows c.free_doomed.new.p)
+    opens_next b a 1 i.opens i.pass.reached
+    (opens_less b a 2 1 (omega arith)
+    (opens_then b a 1 1
     (c.settle_step-2.ensures.opens tt) c.free_doomed.ensures.goes))
 
 pub returns-then-is_none-clause-few : goal.returns-then-is_none-clause-few
@@ -117,7 +117,7 @@ returns-then-is_none-clause-few g c =
 pub returns-else-is_none-clause-opens : goal.returns-else-is_none-clause-opens
 returns-else-is_none-clause-opens g c =
     let i = c.loop-k.invariant in
-    opens_next (board_bounds c.args.board.now) c.args.agent 1 (shows c.args.p.now) (shows c.loop-k.p) (shows c.settle_step-2.new.p) i.opens
+    opens_next (board_bounds c.args.board.now) c.args.agent 1 i.opens
     i.pass.reached (c.settle_step-2.ensures.opens tt)
 
 pub returns-else-is_none-clause-few : goal.returns-else-is_none-clause-few

@@ -19,7 +19,7 @@ pub returns-clause-opens : goal.returns-clause-opens
 returns-clause-opens g c =
     let b = board_bounds c.args.board.now in
     let a = c.args.agent in
-    opens_then b a 0 1 (shows c.args.p.now) (shows c.settle_step.new.p) (shows c.scan_round-2.new.p) (c.settle_step.ensures.opens tt)
+    opens_then b a 0 1 (c.settle_step.ensures.opens tt)
     (opens_goes b a 1 (shows c.settle_step.new.p) (shows c.scan_round-2.new.p) c.settle_step.ensures.pass.reached c.scan_round-2.ensures.opens)
 
 pub returns-clause-few : goal.returns-clause-few

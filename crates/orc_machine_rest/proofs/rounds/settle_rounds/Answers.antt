@@ -20,7 +20,7 @@ loop-turn-preserved g c =
     let e = c.round.ensures in
     record {
       pass = e.pass;
-      goes = goes_then b a c.loop-turn._turn 1 (shows c.args.p.now) (shows c.loop-turn.p) (shows c.round.new.p) i.goes
+      goes = goes_then b a c.loop-turn._turn 1 i.goes
           (opens_goes b a 1 (shows c.loop-turn.p) (shows c.round.new.p) i.pass.reached e.opens);
       between = e.between;
       few = rounds_last c.loop-turn._turn (steps_a_round b) _ _ _ i.few e.few;
@@ -38,7 +38,7 @@ returns-clause-rounds g c =
     let high = c.loop-turn.auto._turn-end in
     let end : c.loop-turn._turn ≡ c.args.left = omega (arith, low, high) in
     rounds_all b c.args.agent c.args.left (shows c.args.p.now) (shows c.loop-turn.p)
-    (goes_is b c.args.agent c.loop-turn._turn c.args.left (shows c.args.p.now) (shows c.loop-turn.p) end c.loop-turn.invariant.goes)
+    (goes_is b c.args.agent c.loop-turn._turn c.args.left end c.loop-turn.invariant.goes)
 
 pub returns-in_default-clause-few : goal.returns-in_default-clause-few
 returns-in_default-clause-few g c =

@@ -3,7 +3,7 @@ use Rattle.std.specs.Prelude.{is_some}
 use Rattle.orc_machine_rest.proofs.Joins.{goes_is, goes_then}
 use Rattle.orc_machine_rest.proofs.Passes.{links_are}
 use Rattle.orc_machine_rest.specs.Passes.{record_of, state_of}
-use Rattle.orc_machine_board.specs.Views.{board_bounds, shows}
+use Rattle.orc_machine_board.specs.Views.{board_bounds}
 use Rattle.orc_rest.proofs.Calls.{free_bare, unretire_cut}
 use Rattle.orc_words.specs.Packed.{bit}
 use Rattle.orc_machine_rest.proofs.steps.free_doomed.Goals as goal
@@ -26,14 +26,10 @@ pub returns-clause-goes : goal.returns-clause-goes
 returns-clause-goes g c =
     let b = board_bounds c.args.board.now in
     let a = c.args.agent in
-    let s = shows c.args.p.now in
-    let u = shows c.take_links_out.new.p in
-    let v = shows c.settle_step.new.p in
-    let w = shows c.settle_step-2.new.p in
     let d = record_of c.args.board.now a c.take_links_out.new.p in
     let zero : bit (is_some d.scan) ≡ 0 = ap (λ o. bit (is_some o)) c.take_links_out.ensures.scan in
-    goes_then b a 0 1 s u w c.take_links_out.ensures.goes
-    (goes_then b a 0 1 u v w (goes_is b a (bit (is_some d.scan)) 0 u v zero c.settle_step.ensures.goes) c.settle_step-2.ensures.goes)
+    goes_then b a 0 1 c.take_links_out.ensures.goes
+    (goes_then b a 0 1 (goes_is b a (bit (is_some d.scan)) 0 zero c.settle_step.ensures.goes) c.settle_step-2.ensures.goes)
 
 pub returns-clause-few : goal.returns-clause-few
 returns-clause-few g c =

@@ -35,13 +35,8 @@ pub returns-in-Some-clause-goes : goal.returns-in-Some-clause-goes
 returns-in-Some-clause-goes g c =
     let b = board_bounds c.args.board.now in
     let a = c.args.agent in
-    let s = shows c.args.p.now in
-    let t = shows c.settle_step.new.p in
-    let u = shows c.settle_step-word.new.p in
-    let v = shows c.settle_due.new.p in
-    let w = shows c.leave_slot_zero.new.p in
-    goes_then b a 0 0 s t w c.settle_step.ensures.goes
-    (goes_then b a 0 0 t u w c.settle_step-word.ensures.goes (goes_then b a 0 0 u v w c.settle_due.ensures.goes c.leave_slot_zero.ensures.goes))
+    goes_then b a 0 0 c.settle_step.ensures.goes
+    (goes_then b a 0 0 c.settle_step-word.ensures.goes (goes_then b a 0 0 c.settle_due.ensures.goes c.leave_slot_zero.ensures.goes))
 
 pub returns-in_default-clause-goes : goal.returns-in_default-clause-goes
 returns-in_default-clause-goes g c =

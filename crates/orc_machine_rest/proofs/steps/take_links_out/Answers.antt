@@ -35,16 +35,12 @@ loop-number-preserved g c =
     let i = c.loop-number.invariant in
     let out = c.take_link_out-target.ensures in
     let down = c.settle_decrement.ensures in
-    let s = shows c.args.p.now in
-    let t = shows c.loop-number.p in
-    let u = shows c.take_link_out-target.new.p in
-    let v = shows c.settle_decrement.new.p in
     let one = i.few in
     let two = out.few in
     let three = down.few in
     record {
       pass = down.pass;
-      goes = goes_then b a 0 0 s t v i.goes (goes_then b a 0 0 t u v out.goes down.goes);
+      goes = goes_then b a 0 0 i.goes (goes_then b a 0 0 out.goes down.goes);
       still = down.still;
       scan = down.kept.scan ∙ (ap (λ (d : Agent). d.scan) out.after.is ∙ i.scan);
       doom = doom_is_cut (state_of board c.loop-number.p) (state_of board c.take_link_out-target.new.p) (state_of board c.settle_decrement.new.p) a c.args.row

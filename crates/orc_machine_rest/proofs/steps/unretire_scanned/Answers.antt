@@ -8,7 +8,7 @@ use Rattle.orc_machine_rest.proofs.Joins.{goes_is, goes_then, opens_then}
 use Rattle.orc_machine_rest.specs.Passes.{record_of, state_of}
 use Rattle.orc_core.specs.RecordParts.{scans}
 use Rattle.orc_core.specs.declared.records.Agent.{Agent}
-use Rattle.orc_machine_board.specs.Views.{board_bounds, shows}
+use Rattle.orc_machine_board.specs.Views.{board_bounds}
 use Rattle.orc_rest.proofs.Calls.{arm_scanned, due_unretired, scan_some, unretire_armed}
 use Rattle.orc_words.specs.Packed.{bit}
 use Rattle.orc_machine_rest.proofs.steps.unretire_scanned.Goals as goal
@@ -35,17 +35,12 @@ pub returns-clause-opens : goal.returns-clause-opens
 returns-clause-opens g c =
     let b = board_bounds c.args.board.now in
     let a = c.args.agent in
-    let s = shows c.args.p.now in
-    let t = shows c.settle_step.new.p in
-    let u = shows c.settle_step-word.new.p in
-    let v = shows c.settle_due.new.p in
-    let w = shows c.leave_slot_zero.new.p in
     let d = record_of c.args.board.now a c.settle_step.new.p in
     let one : bit (is_some d.scan) ≡ 1 = scan_some d.scan c.args.row (ap (λ (e : Agent). scans e.scan c.args.row) c.settle_step.ensures.after.is
     ∙ c.requires.scans) in
-    opens_then b a 0 1 s t w (c.settle_step.ensures.opens tt)
-    (goes_then b a 1 0 t u w (goes_is b a (bit (is_some d.scan)) 1 t u one c.settle_step-word.ensures.goes)
-    (goes_then b a 0 0 u v w c.settle_due.ensures.goes c.leave_slot_zero.ensures.goes))
+    opens_then b a 0 1 (c.settle_step.ensures.opens tt)
+    (goes_then b a 1 0 (goes_is b a (bit (is_some d.scan)) 1 one c.settle_step-word.ensures.goes)
+    (goes_then b a 0 0 c.settle_due.ensures.goes c.leave_slot_zero.ensures.goes))
 
 pub returns-clause-few : goal.returns-clause-few
 returns-clause-few g c =

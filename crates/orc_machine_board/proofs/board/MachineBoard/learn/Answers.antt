@@ -9,31 +9,23 @@ pub returns-clause-into : goal.returns-clause-into
 returns-clause-into g c =
     let k = c.args.self.now.words.shape in
     let l = c.learn.ensures in
-    let holds = g.D.Discipline.holds (heap_numbers k) in
-    let may = g.D.Discipline.may (heap_numbers k) in
-    let both = both_keep k holds may c.args.into.now.pass.seat.me.0 c.args.from.now.pass.seat.me.0 c.learn.new.into.seat.me.0 c.learn.new.from.seat.me.0
-    c.args.into.now.pass.agent c.args.from.now.pass.agent c.requires.into.keeps c.requires.from.keeps l.learned in
-    record { table = l.table.0 ∙ c.requires.into.table; keeps = subst (Keeps k holds may c.learn.new.into.seat.me.0) (sym l.agents.0) both.0 }
+    let kept = (both_keep c.requires.into.keeps c.requires.from.keeps l.learned).0 in
+    let d = g.D.Discipline in
+    record { table = l.table.0 ∙ c.requires.into.table; keeps = subst (Keeps k (d.holds (heap_numbers k)) (d.may (heap_numbers k)) c.learn.new.into.seat.me.0) (sym l.agents.0) kept }
 
 pub returns-clause-from : goal.returns-clause-from
 returns-clause-from g c =
     let k = c.args.self.now.words.shape in
     let l = c.learn.ensures in
-    let holds = g.D.Discipline.holds (heap_numbers k) in
-    let may = g.D.Discipline.may (heap_numbers k) in
-    let both = both_keep k holds may c.args.into.now.pass.seat.me.0 c.args.from.now.pass.seat.me.0 c.learn.new.into.seat.me.0 c.learn.new.from.seat.me.0
-    c.args.into.now.pass.agent c.args.from.now.pass.agent c.requires.into.keeps c.requires.from.keeps l.learned in
-    record { table = l.table.1 ∙ c.requires.from.table; keeps = subst (Keeps k holds may c.learn.new.from.seat.me.0) (sym l.agents.1) both.1 }
+    let kept = (both_keep c.requires.into.keeps c.requires.from.keeps l.learned).1 in
+    let d = g.D.Discipline in
+    record { table = l.table.1 ∙ c.requires.from.table; keeps = subst (Keeps k (d.holds (heap_numbers k)) (d.may (heap_numbers k)) c.learn.new.from.seat.me.0) (sym l.agents.1) kept }
 
 pub returns-clause-learns : goal.returns-clause-learns
 returns-clause-learns g c =
-    let k = c.args.self.now.words.shape in
     let l = c.learn.ensures in
     let v = c.args.into.now.pass in
     let u = c.args.from.now.pass in
-    let w = c.learn.new.into.seat.me.0 in
-    let x = c.learn.new.from.seat.me.0 in
-    subst (λ (z : ℕ × ℕ). LearnsSteps (view_of v.agent v.seat.me.0) (view_of u.agent u.seat.me.0) (view_of z.0 w) (view_of z.1 x))
-    (λ i. (sym l.agents.0 i, sym l.agents.1 i))
-    (learns k (g.D.Discipline.holds (heap_numbers k))
-    (g.D.Discipline.may (heap_numbers k)) v.seat.me.0 u.seat.me.0 w x v.agent u.agent c.requires.into.keeps c.requires.from.keeps l.learned)
+    subst (λ (z : ℕ × ℕ). LearnsSteps (view_of v.agent v.seat.me.0) (view_of u.agent u.seat.me.0) (view_of z.0 c.learn.new.into.seat.me.0)
+    (view_of z.1 c.learn.new.from.seat.me.0))
+    (λ i. (sym l.agents.0 i, sym l.agents.1 i)) (learns c.requires.into.keeps c.requires.from.keeps l.learned)

@@ -8,16 +8,14 @@ use Rattle.orc_machine_board.proofs.machine.ReclaimingMachine.keep.Goals as goal
 pub keep_parts-requires-clause-packable : goal.keep_parts-requires-clause-packable
 keep_parts-requires-clause-packable g c =
     let s = c.args.shape.now.shape in
-    let op = c.args.op.now.op in
     let q = c.requires.room in
-    same_packable op q.0 c.args.own.now q.2 (may_packable (bounds_of s) 0 c.args.agent op q.0 q.3.may s.few_rows s.low_limit)
+    same_packable c.args.op.now.op q.0 c.args.own.now q.2 (may_packable (bounds_of s) 0 c.args.agent c.args.op.now.op q.0 q.3.may s.few_rows s.low_limit)
 
 pub keep_parts-requires-clause-recordable : goal.keep_parts-requires-clause-recordable
 keep_parts-requires-clause-recordable g c =
     let s = c.args.shape.now.shape in
-    let op = c.args.op.now.op in
     let q = c.requires.room in
-    same_recordable op q.0 c.args.own.now q.2 (may_recordable (bounds_of s) 0 c.args.agent op q.0 q.3.may s.few_agents s.few_links)
+    same_recordable c.args.op.now.op q.0 c.args.own.now q.2 (may_recordable (bounds_of s) 0 c.args.agent c.args.op.now.op q.0 q.3.may s.few_agents s.few_links)
 
 pub keep_parts-requires-clause-in_use : goal.keep_parts-requires-clause-in_use
 keep_parts-requires-clause-in_use g c =
