@@ -1,5 +1,5 @@
 -- What passes learn from each other, in one round and in two.
-use Rattle.std.specs.Prelude.{List, [], length, slice_index_or, ℕ, ◌<◌, ◌∷◌, ◌≡◌}
+use Rattle.std.specs.Prelude.{List, length, slice_index_or, ℕ, ◌<◌, ◌∷◌, ◌≡◌}
 use mathlib.Core.List.{IsPrefix}
 use Rattle.orc_heap.specs.Seats.{Seat}
 use Rattle.orc_history.specs.Journals.{own_of}

@@ -8,7 +8,7 @@ use Rattle.orc_heap.specs.Seats.{heap_of}
 use Rattle.orc_heap.specs.declared.events.Event.{Event}
 use Rattle.orc_heap.specs.declared.links.Links.{Ghosts as LinksOf}
 use Rattle.orc_history.specs.Journals.{Adds}
-use Rattle.orc_history.specs.Parts.{IsAlone}
+use Rattle.orc_history.specs.Parts.{InPart, IsAlone}
 
 module _ {L D P S N : Type 0} (members : LinksOf L D P S N) (links : L) where
   -- the number of the pass's agent
@@ -38,6 +38,10 @@ module _ {L D P S N : Type 0} (members : LinksOf L D P S N) (links : L) where
   -- no other agent has a step in the call's part of the journal
   abbrev pub IsCallAlone : P → P → Type 0
   IsCallAlone old new = IsAlone members.agent_of (agent old) (members.journal old) (members.journal new)
+
+  -- a fact of the two places between which the call's part of the journal stands
+  abbrev pub InCall : P → P → (ℕ → ℕ → Type 0) → Type 0
+  InCall old new fact = InPart members.agent_of (agent old) (members.journal old) (members.journal new) fact
 
   module _ {E : Type 0} (agent_of_entry : E → ℕ) (entries_in : Option N → List E) where
     -- the history that the pass has seen

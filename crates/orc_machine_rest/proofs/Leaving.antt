@@ -8,10 +8,9 @@ use Rattle.orc_machine_rest.specs.Passes.{IsPassOf, record_of, state_of}
 use Rattle.orc_core.specs.RecordParts.{is_empty, slot_of}
 use Rattle.orc_core.specs.declared.ops.Op.TheVariants.{Clear, TakeIn}
 use Rattle.orc_core.specs.declared.records.Agent.{Agent}
-use Rattle.orc_machine_board.specs.Kinds.{MakesPlain, MayDo}
-use Rattle.orc_machine_board.specs.Views.{Belongs, board_bounds, shows}
+use Rattle.orc_machine_board.specs.Kinds.{MayDo}
+use Rattle.orc_machine_board.specs.Views.{board_bounds, shows}
 use Rattle.orc_machine_board.specs.declared.board.MachineBoard.{MachineBoard}
-use Rattle.orc_machine_board.specs.declared.board.MachineBoardPass.{MachineBoardPass}
 use Rattle.orc_machine_board.specs.declared.machine.MachineShape.{MachineShape}
 use Rattle.orc_machine_board.specs.declared.machine.Reclaiming.{Reclaiming}
 use Rattle.orc_machine_board.specs.declared.machine.Request.{Request}

@@ -20,11 +20,10 @@ use Rattle.orc_rest.proofs.Draining.{drained}
 use Rattle.orc_rest.proofs.TakingIn.{made_between, take_slot, took_more, took_none}
 use Rattle.orc_heap.proofs.Steps.{alone_later}
 use Rattle.orc_heap.specs.declared.discipline.Discipline as discipline
-use Rattle.orc_machine_board.specs.Kinds.{MakesPlain, MayDo}
+use Rattle.orc_machine_board.specs.Kinds.{MayDo}
 use Rattle.orc_machine_board.specs.Rules.{run_of}
-use Rattle.orc_machine_board.specs.Views.{Belongs, MachineView, board_bounds, shows}
+use Rattle.orc_machine_board.specs.Views.{MachineView, board_bounds, shows}
 use Rattle.orc_machine_board.specs.declared.board.MachineBoard.{MachineBoard}
-use Rattle.orc_machine_board.specs.declared.board.MachineBoardPass.{MachineBoardPass}
 use Rattle.orc_machine_board.specs.declared.machine.MachineShape.{MachineShape}
 use Rattle.orc_machine_board.specs.declared.machine.Reclaiming.{Reclaiming}
 use Rattle.orc_machine_board.specs.declared.machine.Request.{Request}
