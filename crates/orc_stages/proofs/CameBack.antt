@@ -21,7 +21,8 @@ use Rattle.orc_workers.specs.Learning.{IsWhole}
 use Rattle.orc_workers.proofs.CameBack.{none_at_start, all_below, crowd_in_run}
 use Rattle.orc_workers.proofs.Learned.{since, none_since, still_last, zero_last}
 use Rattle.orc_workers.proofs.Resting.{ends_last}
-use Rattle.orc_workers.proofs.Teams.{AllByRecursion-next}
+use Rattle.orc_workers.proofs.Numbered.{numbered_next}
+use Rattle.orc_workers.proofs.Teams.{AllByRecursion-next, Pairwise-length}
 use Rattle.orc_stages.specs.declared.replies.StageDesk.{StageDesk}
 use Rattle.orc_stages.specs.declared.replies.StageReply.{StageReply}
 use Rattle.orc_stages.specs.declared.team.Worker.{Worker}
@@ -33,7 +34,7 @@ use Rattle.orc_stages.specs.Ran.{CallerRan, in_run, unseen}
 use Rattle.orc_stages.specs.Run.{AllCameBack, AreNumbered, CallerMovedFor, HasRoomForMoves, IsBack, IsNew}
 use Rattle.orc_stages.proofs.Shares.{shares_stretch}
 use Rattle.orc_stages.proofs.Told.{Laws, OthersDid, others_first, shares_among, shares_after, shares_until, told_first, told_until}
-use Rattle.orc_stages.proofs.Crew.{Moved, SameDesk, find, spare_behind, moved_for, moves_at, nth_next, numbered_next, posts_at, same_length}
+use Rattle.orc_stages.proofs.Crew.{Moved, SameDesk, find, spare_behind, moved_for, moves_at, nth_next, posts_at}
 
 -- what learning twice over has made of a worker: its passes have seen these journals
 pub record Learnt {Q P A : Type 0} (q : QueueOf Q P A) (queues : List Q) (k : ℕ → List A) (w v : Worker P) : Type 0 where
@@ -171,13 +172,13 @@ module _ {Q P A : Type 0} (q : QueueOf Q P A) (queues : List Q) (lines : List Li
           (AllByRecursion-next (Begins q queues lines posters) (Tells q queues lines posters stages) (DidWork q queues lines posters) ws vs worked begins did) one
 
       num_vs : AreNumbered 1 vs
-      num_vs = numbered_next (DidWork q queues lines posters) 1 ws vs (λ w v d. d.agent_is) num did
+      num_vs = numbered_next (λ (w : Worker P). w.agent) (DidWork q queues lines posters) 1 ws vs (λ w v d. d.agent_is) num did
 
       num_us : AreNumbered 1 us
-      num_us = numbered_next SameWorker 1 vs us (λ w v d. d.agent_is) num_vs same1
+      num_us = numbered_next (λ (w : Worker P). w.agent) SameWorker 1 vs us (λ w v d. d.agent_is) num_vs same1
 
       long_us : length us ≡ posters + stages
-      long_us = same_length SameWorker vs us same1 ∙ (same_length (DidWork q queues lines posters) ws vs did ∙ many)
+      long_us = Pairwise-length SameWorker vs us same1 ∙ (Pairwise-length (DidWork q queues lines posters) ws vs did ∙ many)
 
       before_many : length moved.before ≡ stages
       before_many = omega (arith, long_us, ap length moved.is_before, length-append moved.front moved.before, moved.many)
@@ -189,16 +190,16 @@ module _ {Q P A : Type 0} (q : QueueOf Q P A) (queues : List Q) (lines : List Li
       moves = moved_for m.more posters stages moved.front moved.before moved.after us ts moved.is_before moved.is_after moved.many before_many m.moved
 
       num_ts : AreNumbered 1 ts
-      num_ts = numbered_next SameDesk 1 us ts (λ w v d. d.agent_is) num_us moves.desks
+      num_ts = numbered_next (λ (w : Worker P). w.agent) SameDesk 1 us ts (λ w v d. d.agent_is) num_us moves.desks
 
       num_zs : AreNumbered 1 zs
-      num_zs = numbered_next SameWorker 1 ts zs (λ w v d. d.agent_is) num_ts same3
+      num_zs = numbered_next (λ (w : Worker P). w.agent) SameWorker 1 ts zs (λ w v d. d.agent_is) num_ts same3
 
       long_ts : length ts ≡ posters + stages
-      long_ts = same_length SameDesk us ts moves.desks ∙ long_us
+      long_ts = Pairwise-length SameDesk us ts moves.desks ∙ long_us
 
       long_zs : length zs ≡ posters + stages
-      long_zs = same_length SameWorker ts zs same3 ∙ long_ts
+      long_zs = Pairwise-length SameWorker ts zs same3 ∙ long_ts
 
       seen_ts : AllByRecursion (λ (w : Worker P). (i : ℕ) → seen_at q w.desk.passes.items i ≡ seen_at q d1 i) ts
       seen_ts =

@@ -39,19 +39,6 @@ find F k (suc i) (w ∷ ws) num h low =
       spare_is = rest.spare_is;
     }
 
-pub numbered_next : {P : Type 0} (R : Worker P → Worker P → Type 0) (k : ℕ) (ws vs : List (Worker P)) → ((w v : Worker P) → R w v → v.agent ≡ w.agent)
-    → AreNumbered k ws → Pairwise R ws vs → AreNumbered k vs
-numbered_next R k [] [] f a p = tt
-numbered_next R k [] (v ∷ vs) f a p = absurd p
-numbered_next R k (w ∷ ws) [] f a p = absurd p
-numbered_next R k (w ∷ ws) (v ∷ vs) f a p = (f w v p.0 ∙ a.0, numbered_next R (suc k) ws vs f a.1 p.1)
-
-pub same_length : {X : Type 0} (R : X → X → Type 0) (xs ys : List X) → Pairwise R xs ys → length ys ≡ length xs
-same_length R [] [] p = refl
-same_length R [] (y ∷ ys) p = absurd p
-same_length R (x ∷ xs) [] p = absurd p
-same_length R (x ∷ xs) (y ∷ ys) p = ap suc (same_length R xs ys p.1)
-
 -- items that stay the same, place by place
 pub nth_next : {W X : Type 0} (items : W → List X) (R : W → W → Type 0) (ws vs : List W) → ((w v : W) → R w v → items v ≡ items w) → Pairwise R ws vs → (i : ℕ)
     → nth_of items vs i ≡ nth_of items ws i

@@ -13,6 +13,7 @@ use Rattle.orc_stages.specs.declared.run.StagesDone.{StagesDone}
 use Rattle.orc_stages.specs.declared.team.Worker.{Worker}
 use Rattle.orc_stages.specs.Desks.{ArePasses, view_at, seen_at}
 use Rattle.orc_stages.specs.Team.{ToldByReplies}
+use Rattle.orc_workers.specs.Team.{NumberedFrom}
 use Rattle.orc_stages.specs.Learning.{AreKnown}
 use Rattle.orc_stages.specs.Caller.{CallerMoved}
 use Rattle.orc_stages.specs.Pipeline.{IsPipeline}
@@ -77,8 +78,7 @@ IsRunOf q queues lines posters desks done =
 
 -- workers of the agents in order from this one
 abbrev pub AreNumbered : {P : Type 0} → ℕ → List (Worker P) → Type 0
-AreNumbered agent [] = Unit {0}
-AreNumbered agent (w ∷ ws) = (w.agent ≡ agent) × AreNumbered (suc agent) ws
+AreNumbered agent ws = NumberedFrom (λ (w : Worker P). w.agent) agent ws
 
 -- a worker that has room for as many moves as there are lines, if it is a stage's
 abbrev pub HasRoomForMoves : {P : Type 0} → ℕ → List Line → Worker P → Type 0

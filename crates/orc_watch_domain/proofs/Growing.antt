@@ -1,8 +1,8 @@
 -- Replies that follow a journal follow it also where its domain comes to rest.
-use Rattle.std.proofs.Common.{List, [], ap, append-nil, refl, subst, sym, ℕ, ◌<◌, ◌∙◌, ◌≡◌}
+use Rattle.std.proofs.Common.{List, [], ap, subst, sym, ℕ, ◌<◌, ◌≡◌}
 use mathlib.Core.List.{IsPrefix}
-use Rattle.orc_board.proofs.Shares.{Did-just, DidAll-more}
-use Rattle.orc_board.specs.Stretches.{Did, View, beside, nothing}
+use Rattle.orc_board.proofs.Shares.{DidAll-more}
+use Rattle.orc_board.specs.Stretches.{View, beside}
 use Rattle.orc_cell.specs.declared.refused.CellRefused.{CellRefused}
 use Rattle.orc_cell.specs.declared.refused.CellRefused.TheVariants.{Again, NoNode, Spent}
 use Rattle.orc_fault.specs.declared.Spent.{Spent as SpentRow}
@@ -15,21 +15,11 @@ use Rattle.orc_projection.specs.Projection.{project}
 use Rattle.orc_sound.specs.declared.steps.Step.{Step}
 use Rattle.orc_watch.specs.declared.line.WatchLine.{WatchLine}
 use Rattle.orc_watch.specs.declared.reply.WatchReply.{WatchReply}
+use Rattle.orc_at_rest.proofs.Silent.{did_nothing}
 use Rattle.orc_watch_domain.specs.Cells.{LicensesOver, cell_over}
 use Rattle.orc_watch_run.specs.CellView.{of_cell}
 use Rattle.orc_watch_run.specs.Follows.{CellShare, EndsWithRead, IsInRun, WatchRepliesFollow}
 use Rattle.orc_words.specs.Bounds.{Bounds}
-
--- where a journal goes on without an entry, a worker does nothing
-did_nothing : {A : Type 0} (x : View A CellEntry CellRefused) (k l : List A) → IsPrefix k l → x.history l ≡ x.history k → (worker : ℕ)
-    → Did of_cell x worker nothing k l
-did_nothing x k l later same worker = Did-just of_cell x worker [] k l record {
-  later = later;
-  part = [];
-  is = same ∙ sym (append-nil (x.history k));
-  own_is = refl;
-  others = tt;
-}
 
 module _ {A : Type 0} (x : View A CellEntry CellRefused) (lines : List WatchLine) (workers : ℕ) (replies : List WatchReply) (left right : ℕ) (k l : List A)
     (later : IsPrefix k l) (same : x.history l ≡ x.history k)
@@ -44,7 +34,7 @@ module _ {A : Type 0} (x : View A CellEntry CellRefused) (lines : List WatchLine
           record {
             shares = one.shares;
             table = one.table;
-            did = DidAll-more of_cell y w (λ (share : CellShare). share) one.shares [] k l one.did (did_nothing y k l later same w);
+            did = DidAll-more of_cell y w (λ (share : CellShare). share) one.shares [] k l one.did (did_nothing of_cell y w k l (record { later = later; same = same }));
           };
       last = subst (λ (h : List CellEntry). EndsWithRead h left right) (sym same) f.last;
     }

@@ -1,10 +1,10 @@
 -- What all workers and the caller have come to, once the caller's pass has learned from all others, read, and learned again.
-use Rattle.std.proofs.Common.{◌≡◌, ◌==◌, ◌+◌, ◌<◌, ◌≤◌, ℕ, suc, List, [], ◌∷◌, ◌++◌, ap, arith, inl, inr, length, refl, subst, sym, ◌∙◌}
+use Rattle.std.proofs.Common.{◌≡◌, ◌==◌, ◌+◌, ◌<◌, ◌≤◌, ℕ, List, [], ◌∷◌, ◌++◌, ap, arith, length, subst, sym, ◌∙◌}
 use mathlib.Core.List.{IsPrefix}
 use Rattle.std.proofs.lemmas.List.Elements.{filter-append}
 use Rattle.std.specs.List.{AllByRecursion}
 use Rattle.orc_board.proofs.Shares.{prefix_trans}
-use Rattle.orc_board.proofs.ListFacts.{AllByRecursion-all, AllByRecursion-map, filter-all, filter-none, le-cases}
+use Rattle.orc_board.proofs.ListFacts.{AllByRecursion-all, AllByRecursion-map, filter-all, filter-none}
 use Rattle.orc_board.proofs.Wholes.{Below}
 use Rattle.orc_history.specs.Lists.{Pairwise}
 use Rattle.orc_board.specs.Follows.{ZeroLast}
@@ -29,7 +29,8 @@ use Rattle.orc_watch_run.specs.Team.{DidWork}
 use Rattle.orc_watch_run.specs.declared.team.Worker.{Worker}
 use Rattle.orc_watch_run.proofs.Beside.{told_first, told_more}
 use Rattle.orc_workers.proofs.Learned.{Grows, since, zero_last}
-use Rattle.orc_workers.proofs.Teams.{AllByRecursion-next}
+use Rattle.orc_workers.proofs.Numbered.{each_number, numbered_next}
+use Rattle.orc_workers.proofs.Teams.{AllByRecursion-next, Pairwise-length}
 use Rattle.orc_workers.specs.Learning.{IsWhole}
 
 -- what is known of the cell
@@ -66,29 +67,6 @@ tells_more : {P A : Type 0} (x : View A CellEntry CellRefused) (C : ℕ → Type
 tells_more x C journal lines workers k w v laws below t l =
     told_as (beside x C) lines workers w.agent v.agent w.replies v.replies k (journal v.pass) l.same.agent_is l.same.replies_are l.whole.is
     (told_more x C lines workers w.agent w.replies.items (journal w.pass) k laws.grows l.whole.begins l.whole.own_is below t)
-
-numbered_next : {P : Type 0} (R : Worker P → Worker P → Type 0) (k : ℕ) (ws vs : List (Worker P)) → ((w v : Worker P) → R w v → v.agent ≡ w.agent)
-    → AreNumbered k ws → Pairwise R ws vs → AreNumbered k vs
-numbered_next R k [] [] f a p = tt
-numbered_next R k [] (v ∷ vs) f a p = absurd p
-numbered_next R k (w ∷ ws) [] f a p = absurd p
-numbered_next R k (w ∷ ws) (v ∷ vs) f a p = (f w v p.0 ∙ a.0, numbered_next R (suc k) ws vs f a.1 p.1)
-
--- what holds of the agents of all workers holds of each number in their range
-each_agent : {P : Type 0} (F : ℕ → Type 0) (k : ℕ) (ws : List (Worker P)) → AreNumbered k ws → AllByRecursion (λ (w : Worker P). F w.agent) ws
-    → (a : ℕ) → k ≤ a → a < k + length ws → F a
-each_agent F k [] num h a low high = absurd (omega (arith, low, high))
-each_agent F k (w ∷ ws) num h a low high =
-    elim (le-cases a k) as (λ _. F a) [
-      | inl less ↦ let e : w.agent ≡ a = omega (arith, num.0, low, less) in subst F e h.0
-      | inr more ↦ each_agent F (suc k) ws num.1 h.1 a (omega (arith, more)) (omega (arith, high))
-    ]
-
-same_length : {X : Type 0} (R : X → X → Type 0) (xs ys : List X) → Pairwise R xs ys → length ys ≡ length xs
-same_length R [] [] p = refl
-same_length R [] (y ∷ ys) p = absurd p
-same_length R (x ∷ xs) [] p = absurd p
-same_length R (x ∷ xs) (y ∷ ys) p = ap suc (same_length R xs ys p.1)
 
 -- what follows from what the first of each pair is, and what it has become
 all_left : {X : Type 0} (P Q : X → Type 0) (R : X → X → Type 0) (xs ys : List X) → ((x y : X) → P x → R x y → Q x) → AllByRecursion P xs
@@ -169,9 +147,9 @@ came_back {P = P} {S = S} m links lines workers p0 p1 p2 p3 a b ws vs us ts laws
     (λ w v t l. tells_more x C m.journal lines workers k1 w v laws below1 t l) t1 one in
     let t3 : AllByRecursion T ts = AllByRecursion-next T T (Learnt x m.journal k3) us ts
     (λ w v t l. tells_more x C m.journal lines workers k3 w v laws below3 t l) t2 two in
-    let num2 : AreNumbered 1 us = numbered_next SameWorker 1 vs us (λ w v d. d.agent_is)
-    (numbered_next (DidWork m links lines workers) 1 ws vs (λ w v d. d.agent_is) num did) same1 in
-    let long : length us ≡ workers = same_length SameWorker vs us same1 ∙ (same_length (DidWork m links lines workers) ws vs did ∙ many) in
+    let num2 : AreNumbered 1 us = numbered_next (λ (w : Worker P). w.agent) SameWorker 1 vs us (λ w v d. d.agent_is)
+    (numbered_next (λ (w : Worker P). w.agent) (DidWork m links lines workers) 1 ws vs (λ w v d. d.agent_is) num did) same1 in
+    let long : length us ≡ workers = Pairwise-length SameWorker vs us same1 ∙ (Pairwise-length (DidWork m links lines workers) ws vs did ∙ many) in
     let at1 : AllByRecursion (λ (w : Worker P). m.journal w.pass ≡ k1) us =
     AllByRecursion-next (λ w. Unit {0}) (λ w. m.journal w.pass ≡ k1) (Learnt x m.journal k1) vs us (λ w v t l. l.whole.is)
     (AllByRecursion-all (λ w. Unit {0}) (λ w. tt) vs) one in
@@ -182,7 +160,7 @@ came_back {P = P} {S = S} m links lines workers p0 p1 p2 p3 a b ws vs us ts laws
     let kept : AllByRecursion (λ (w : Worker P). F w.agent) us =
     all_left (λ w. m.journal w.pass ≡ k1) (λ w. F w.agent) (Learnt x m.journal k3) us ts
     (λ w v is l. l.whole.own_is ∙ ap (λ (j : List S). own w.agent j) is) at1 two in
-    let each : (n : ℕ) → 1 ≤ n → n ≤ workers → F n = λ n low high. each_agent F 1 us num2 kept n low (omega (arith, high, long)) in
+    let each : (n : ℕ) → 1 ≤ n → n ≤ workers → F n = λ n low high. each_number (λ (w : Worker P). w.agent) F 1 us num2 kept n low (omega (arith, high, long)) in
     let later : IsPrefix k1 k3 = prefix_trans k1 (m.journal p2) k3 read.later l2.grows in
     let more = since x.history laws.grows k1 k3 later in
     let none1 : own 0 k1 ≡ [] = l1.own_is ∙ ap (own_of agent_of_entry 0) new in
@@ -195,7 +173,7 @@ came_back {P = P} {S = S} m links lines workers p0 p1 p2 p3 a b ws vs us ts laws
     ∙ (ap (λ u. u ++ own_of agent_of_entry 0 read.part) none1 ∙ read.own_is))) in
     record {
       caller = pass;
-      numbered = numbered_next SameWorker 1 us ts (λ w v d. d.agent_is) num2 same2;
+      numbered = numbered_next (λ (w : Worker P). w.agent) SameWorker 1 us ts (λ w v d. d.agent_is) num2 same2;
       back = backs m links k3 ts others at3;
       told = told_at x C lines workers k3 m.journal ts at3 t3;
       legal = known.legal;

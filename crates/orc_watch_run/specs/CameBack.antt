@@ -1,5 +1,5 @@
 -- What the caller and its workers have come to at the end of a run.
-use Rattle.std.specs.Prelude.{List, [], length, map, suc, ℕ, ◌∷◌, ◌≡◌}
+use Rattle.std.specs.Prelude.{List, [], length, map, ℕ, ◌≡◌}
 use Rattle.std.specs.List.{AllByRecursion}
 use Rattle.orc_board.specs.Follows.{own_records}
 use Rattle.orc_board.specs.Stretches.{View, beside}
@@ -15,11 +15,11 @@ use Rattle.orc_watch_run.specs.CellView.{cell_view}
 use Rattle.orc_watch_run.specs.Follows.{EndsWithRead, IsInRun, Watching}
 use Rattle.orc_watch_run.specs.Passes.{IsPassOf}
 use Rattle.orc_watch_run.specs.declared.team.Worker.{Worker}
+use Rattle.orc_workers.specs.Team.{NumberedFrom}
 
 -- workers of the agents in order from this one
 abbrev pub AreNumbered : {P : Type 0} → ℕ → List (Worker P) → Type 0
-AreNumbered agent [] = Unit {0}
-AreNumbered agent (w ∷ ws) = (w.agent ≡ agent) × AreNumbered (suc agent) ws
+AreNumbered agent ws = NumberedFrom (λ (w : Worker P). w.agent) agent ws
 
 -- what a worker did, as this journal tells of it from its beginning
 pub record IsTold {A : Type 0} (x : View A CellEntry CellRefused) (lines : List WatchLine) (workers agent : ℕ) (replies : List WatchReply) (k : List A)

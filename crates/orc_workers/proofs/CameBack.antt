@@ -26,11 +26,12 @@ use Rattle.orc_board.specs.Follows.{TakingRest, LastIsEmpty, IsWorker, none}
 use Rattle.orc_workers.specs.Team.{DidWork, DidPost, DidTake}
 use Rattle.orc_workers.specs.Learning.{LawsTell, IsOther, SameWorker, IsWhole, LearnsAllOfQueues, LearnsAllOfSet}
 use Rattle.orc_workers.specs.CameBack.{IsNew, IsTold, IsBack, AreNumbered, AllCameBack}
-use Rattle.orc_board.proofs.ListFacts.{le-cases, AllByRecursion-map}
+use Rattle.orc_board.proofs.ListFacts.{AllByRecursion-map}
 use Rattle.orc_board.proofs.Shares.{Did-just, Works-more, Stands-after, prefix_trans}
 use Rattle.orc_board.proofs.Wholes.{Works-before, Works-beside, Stands-beside, Below}
 use Rattle.orc_workers.proofs.Resting.{Stands-both, skip_row, resting_stretch, resting_set, ends_last}
-use Rattle.orc_workers.proofs.Teams.{AllByRecursion-next}
+use Rattle.orc_workers.proofs.Numbered.{each_number, numbered_next}
+use Rattle.orc_workers.proofs.Teams.{AllByRecursion-next, Pairwise-length}
 use Rattle.orc_workers.proofs.Learned.{Grows, since, none_since, quiet, zero_last, still_last}
 
 -- the journals at the start, whose histories are empty
@@ -209,23 +210,6 @@ tells_more {P} {R} {A} {B} qs s C jq js lines posters k n w v laws below t l =
           (sym l.same.takes_are) d;
     }
 
-numbered_next : {P R : Type 0} (X : Worker P R → Worker P R → Type 0) (k : ℕ) (ws vs : List (Worker P R)) → ((w v : Worker P R) → X w v → v.agent ≡ w.agent)
-    → AreNumbered k ws → Pairwise X ws vs → AreNumbered k vs
-numbered_next X k [] [] f a p = tt
-numbered_next X k [] (v ∷ vs) f a p = absurd p
-numbered_next X k (w ∷ ws) [] f a p = absurd p
-numbered_next X k (w ∷ ws) (v ∷ vs) f a p = (f w v p.0 ∙ a.0, numbered_next X (suc k) ws vs f a.1 p.1)
-
--- what holds of the agents of all workers holds of each number in their range
-each_agent : {P R : Type 0} (F : ℕ → Type 0) (k : ℕ) (ws : List (Worker P R)) → AreNumbered k ws → AllByRecursion (λ (w : Worker P R). F w.agent) ws
-    → (a : ℕ) → k ≤ a → a < k + length ws → F a
-each_agent F k [] num h a low high = absurd (omega (arith, low, high))
-each_agent F k (w ∷ ws) num h a low high =
-    elim (le-cases a k) as (λ _. F a) [
-      | inl less ↦ let e : w.agent ≡ a = omega (arith, num.0, low, less) in subst F e h.0
-      | inr more ↦ each_agent F (suc k) ws num.1 h.1 a (omega (arith, more)) (omega (arith, high))
-    ]
-
 pub others_after : {Q S P R A B : Type 0} (q : QueueOf Q P A) (s : SetOf S R B) (queue rush : Q) (set : S) (lines : List Line) (posters : ℕ)
     (ws vs : List (Worker P R))
     → Pairwise (DidWork q s queue rush set lines posters) ws vs → AllByRecursion (IsOther q s queue rush set 0) vs
@@ -302,12 +286,6 @@ owns_kept qs s jq js k1 k2 n1 n2 (v ∷ vs) (u ∷ us) (t ∷ ts) a b = (
   owns_kept qs s jq js k1 k2 n1 n2 vs us ts a.1 b.1,
 )
 
-same_length : {X : Type 0} (R : X → X → Type 0) (xs ys : List X) → Pairwise R xs ys → length ys ≡ length xs
-same_length R [] [] p = refl
-same_length R [] (y ∷ ys) p = absurd p
-same_length R (x ∷ xs) [] p = absurd p
-same_length R (x ∷ xs) (y ∷ ys) p = ap suc (same_length R xs ys p.1)
-
 -- the whole: d0 to d3 are the caller's desk at first, after it learned, after it took, and after it learned again
 pub came_back : {Q S P R A B : Type 0} (q : QueueOf Q P A) (s : SetOf S R B) (queue rush : Q) (set : S) (lines : List Line) (posters takers : ℕ)
     (d0 d1 d2 d3 : Desk P R) (takes : List TakeReply) (ws vs us ts : List (Worker P R))
@@ -348,13 +326,13 @@ came_back {P = P} {R = R} {A = A} {B = B} q s queue rush set lines posters taker
     let t3 : AllByRecursion T ts =
     AllByRecursion-next T T (Learnt qv sv q.journal s.journal x3 y3) us ts
     (λ w v t l. tells_more qv sv C q.journal s.journal lines posters x3 y3 w v laws below3 t l) t2 two in
-    let num1 : AreNumbered 1 vs = numbered_next (DidWork q s queue rush set lines posters) 1 ws vs (λ w v d. d.agent_is) num did in
-    let num2 : AreNumbered 1 us = numbered_next SameWorker 1 vs us (λ w v d. d.agent_is) num1 same1 in
-    let num3 : AreNumbered 1 ts = numbered_next SameWorker 1 us ts (λ w v d. d.agent_is) num2 same2 in
-    let long : length us ≡ posters + takers = same_length SameWorker vs us same1 ∙ (same_length (DidWork q s queue rush set lines posters) ws vs did ∙ many) in
+    let num1 : AreNumbered 1 vs = numbered_next (λ (w : Worker P R). w.agent) (DidWork q s queue rush set lines posters) 1 ws vs (λ w v d. d.agent_is) num did in
+    let num2 : AreNumbered 1 us = numbered_next (λ (w : Worker P R). w.agent) SameWorker 1 vs us (λ w v d. d.agent_is) num1 same1 in
+    let num3 : AreNumbered 1 ts = numbered_next (λ (w : Worker P R). w.agent) SameWorker 1 us ts (λ w v d. d.agent_is) num2 same2 in
+    let long : length us ≡ posters + takers = Pairwise-length SameWorker vs us same1 ∙ (Pairwise-length (DidWork q s queue rush set lines posters) ws vs did ∙ many) in
     let kept = owns_kept qv sv q.journal s.journal x1 x3 y1 y3 vs us ts one two in
     let F : ℕ → Type 0 = Kept qv sv x1 x3 y1 y3 in
-    let each : (a : ℕ) → 1 ≤ a → a ≤ posters + takers → F a = λ a low high. each_agent F 1 us num2 kept a low (omega (arith, high, long)) in
+    let each : (a : ℕ) → 1 ≤ a → a ≤ posters + takers → F a = λ a low high. each_number (λ (w : Worker P R). w.agent) F 1 us num2 kept a low (omega (arith, high, long)) in
     let taking1 : TakingRest (all_beside qv C) (beside sv C) lines 0 0 takes none [] x2 (s.journal d2.set) =
     rest_from qv sv C lines 0 0 takes none x1 x2 [] y1 (s.journal d2.set) laws.queues_few laws.set_few
     (Stands-after (all_beside qv C) (beside sv C) 0 empty_row none (seen_in q d0) x1 [] (s.journal d0.set) y1

@@ -1,4 +1,5 @@
 pub mod Teams
+pub mod Numbered
 pub mod Lessons
 pub mod Resting
 pub mod Learned

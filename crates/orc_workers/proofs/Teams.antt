@@ -1,6 +1,6 @@
 -- Lists of workers, popped from the end and pushed at the end.
 use denote.Param.Members.{Shared}
-use Rattle.std.proofs.Common.{◌≡◌, List, [], ◌∷◌, ◌++◌, ap, sym, ◌∙◌, subst, append_assoc}
+use Rattle.std.proofs.Common.{◌≡◌, List, [], ◌∷◌, ◌++◌, ap, length, refl, suc, sym, ◌∙◌, subst, append_assoc}
 use Rattle.std.specs.List.{AllByRecursion}
 use Rattle.orc_history.specs.Lists.{Pairwise}
 use Rattle.orc_workers.specs.Team.{Team, Worked}
@@ -14,6 +14,12 @@ Team-more R waiting before after x y t r = record {
   is = ap (λ w. w ++ y ∷ []) t.is ∙ append_assoc before t.new (y ∷ []);
   each = Pairwise-snoc R waiting t.new x y t.each r;
 }
+
+pub Pairwise-length : {X : Type 0} (R : X → X → Type 0) (xs ys : List X) → Pairwise R xs ys → length ys ≡ length xs
+Pairwise-length R [] [] p = refl
+Pairwise-length R [] (y ∷ ys) p = absurd p
+Pairwise-length R (x ∷ xs) [] p = absurd p
+Pairwise-length R (x ∷ xs) (y ∷ ys) p = ap suc (Pairwise-length R xs ys p.1)
 
 pub Pairwise-map : {X : Type 0} (R S : X → X → Type 0) (xs ys : List X) → ((x y : X) → R x y → S x y) → Pairwise R xs ys → Pairwise S xs ys
 Pairwise-map R S [] [] f r = tt

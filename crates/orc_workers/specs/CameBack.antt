@@ -1,5 +1,5 @@
 -- What the caller and its workers have come to at the end of a run.
-use Rattle.std.specs.Prelude.{◌≡◌, ℕ, suc, Bool, ◌+◌, ◌<◌, ◌≤◌, List, [], ◌∷◌, length, ◌⊎◌}
+use Rattle.std.specs.Prelude.{◌≡◌, ℕ, suc, Bool, ◌+◌, ◌<◌, ◌≤◌, List, [], length, ◌⊎◌}
 use Rattle.std.specs.List.{AllByRecursion}
 use Rattle.orc_history.specs.declared.queue.QueueEntry.{QueueEntry}
 use Rattle.orc_history.specs.declared.queue.QueueRefused.{QueueRefused}
@@ -19,13 +19,12 @@ use Rattle.orc_workers.specs.Desks.{AreIdle, HaveSeen, queue_seen, set_seen}
 use Rattle.orc_board.specs.Stretches.{View, queue_views, set_view, beside, all_beside, pick}
 use Rattle.orc_board.specs.Follows.{TakingRest, ZeroLast, LastIsEmpty, IsWorker, none}
 use Rattle.orc_workers.specs.Learning.{LawsTell}
-use Rattle.orc_workers.specs.Team.{DidPost, DidTake}
+use Rattle.orc_workers.specs.Team.{DidPost, DidTake, NumberedFrom}
 use Rattle.orc_board.specs.Runs.{Ran}
 
 -- workers of the agents in order from this one
 abbrev pub AreNumbered : {P R : Type 0} → ℕ → List (Worker P R) → Type 0
-AreNumbered agent [] = Unit {0}
-AreNumbered agent (w ∷ ws) = (w.agent ≡ agent) × AreNumbered (suc agent) ws
+AreNumbered agent ws = NumberedFrom (λ (w : Worker P R). w.agent) agent ws
 
 -- a worker's passes have seen no entry
 pub record IsNew {Q S P R A B : Type 0} (q : QueueOf Q P A) (s : SetOf S R B) (queue rush : Q) (set : S) (w : Worker P R) : Type 0 where

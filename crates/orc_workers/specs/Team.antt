@@ -1,7 +1,7 @@
 -- Workers before and after their work.
 use denote.Param.Members.{Shared}
 use Rattle.std.specs.Fn.{FnReturns}
-use Rattle.std.specs.Prelude.{◌≡◌, ℕ, Bool, ◌-◌, ◌<◌, ◌≤◌, List, [], ◌++◌, length, map}
+use Rattle.std.specs.Prelude.{◌≡◌, ℕ, Bool, ◌-◌, ◌<◌, ◌≤◌, List, [], ◌∷◌, ◌++◌, length, map, suc}
 use Rattle.orc_history.specs.declared.queue.QueueEntry.{QueueEntry}
 use Rattle.orc_history.specs.declared.queue.QueueRefused.{QueueRefused}
 use Rattle.orc_history.specs.declared.queue.SharedQueue.{Ghosts as QueueOf}
@@ -24,6 +24,11 @@ pub record Team {X : Type 0} (R : X → X → Type 0) (waiting before after : Li
   pub new : List X
   pub is : after ≡ before ++ new
   pub each : Pairwise R waiting new
+
+-- the items have these numbers in order, from this one on
+abbrev pub NumberedFrom : {W : Type 0} → (W → ℕ) → ℕ → List W → Type 0
+NumberedFrom number k [] = Unit {0}
+NumberedFrom number k (w ∷ ws) = (number w ≡ k) × NumberedFrom number (suc k) ws
 
 -- a worker may be given to this work, and another is what the work may make of it
 module _ {W F : Type 0} (g : Shared F (W × Unit {0}) W) (work : F) where
