@@ -15,7 +15,7 @@ use Rattle.orc_shared_words.specs.Runs.{AgentsBelow}
 use Rattle.std.specs.Prelude.{true, unwrap_or}
 use Rattle.orc_fifo_rule.proofs.Coming.{put_allowed, swing_allowed, took_allowed}
 use Rattle.orc_fifo_rule.specs.QueueDiscipline.{FifoHolds, FifoMay, HasJob}
-use Rattle.orc_fifo_rule.specs.Watches.{IsLeft, WasNamed}
+use Rattle.orc_fifo_rule.specs.Watches.{IsLeftBehind, WasNamed}
 use Rattle.orc_fifo_rule.specs.declared.fifo.FifoNote.{FifoNote}
 use Rattle.orc_fifo_rule.specs.declared.fifo.FifoNote.TheVariants.{Begin, Entry, Swing}
 use Rattle.orc_heap.specs.Allowed.{AllowedLater, HasLink}
@@ -115,7 +115,7 @@ took_licensed b s same is seen holds =
     let es : List (Event FifoNote) = project small before_took in
     let h : Heap = run_heap n es in
     let link : HasLink h 0 (link_to 1) = record { node = dummy (link_to 1); there = refl; linked = refl; link_is = refl } in
-    let left : IsLeft h 0 = record { next = 1; link = link; tail_apart = links_apart } in
+    let left : IsLeftBehind h 0 = record { next = 1; link = link; tail_apart = links_apart } in
     let has : HasJob h 1 6 0 = record { node = job; there = refl; linked = refl; holds = record { job_is = refl; position_is = refl; low = omega arith } } in
     same_allowed b small s 0 before_took (Root 0) row_0 row_1 (Some (Entry (Took 0 6 0))) same is seen
     (at_word n es (node_place (present_ids small before_took) (Root 0)) (at.Root 0) (link_to 0) (link_to 1) (Some (Entry (Took 0 6 0))) refl

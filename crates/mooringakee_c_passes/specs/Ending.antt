@@ -8,7 +8,7 @@ use Rattle.orc_machine_board.specs.declared.machine.MachineShape.{MachineShape}
 use Rattle.orc_machine_board.specs.declared.machine.Reclaiming.{Reclaiming}
 use Rattle.orc_machine_board.specs.declared.machine.Request.{Request}
 use Rattle.orc_domain.specs.Passes.{domain_bounds}
-use Rattle.orc_domain.specs.Rest.{EndsWith}
+use Rattle.orc_domain.specs.Rest.{ComesToRest}
 use Rattle.orc_domain.specs.declared.domain.OrcDomain.{OrcDomain}
 use Rattle.orc_domain.specs.declared.domain.OrcPass.{OrcPass}
 use Rattle.orc_shared_words.specs.declared.machine.Machine as machine
@@ -26,4 +26,4 @@ module _ {D N : Type 0} {d : discipline.Ghosts D N} {m : machine.Ghosts Reclaimi
   pub record TellsRows {K : Type 0} (domain : OrcDomain D N)
       (places : GivenBack (OrcPass D N (MachineShape N) Request (Step N) Agent Agent d m) K (OrcDomain D N)) (counts : RowCounts) : Type 0 where
     pub passes : List (OrcPass D N (MachineShape N) Request (Step N) Agent Agent d m)
-    pub ends : EndsWith domain passes counts
+    pub ends : ComesToRest domain passes counts

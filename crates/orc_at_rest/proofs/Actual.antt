@@ -31,7 +31,7 @@ use Rattle.orc_domain.specs.Rest.{IsShown, rest_domain, rest_journal}
 use Rattle.orc_domain.specs.declared.at_rest.OrcRest.{OrcRest}
 use Rattle.orc_domain.specs.declared.domain.OrcDomain.{OrcDomain}
 use Rattle.orc_at_rest.proofs.Reusing.{reuses_safely}
-use Rattle.orc_at_rest.specs.Journals.{HasJournal, IsLeft}
+use Rattle.orc_at_rest.specs.Journals.{HasJournal, IsLeftAtRest}
 use Rattle.orc_at_rest.specs.Reuse.{LeaksNothing, ReusesSafely}
 
 module _ {D N : Type 0} {d : discipline.Ghosts D N} {m : machine.Ghosts Reclaiming N (MachineShape N) Request (Step N) Agent Agent}
@@ -92,7 +92,7 @@ module _ {D N : Type 0} {d : discipline.Ghosts D N} {m : machine.Ghosts Reclaimi
 
 -- what a domain of these sizes has left
 module _ {D N : Type 0} {d : discipline.Ghosts D N} {m : machine.Ghosts Reclaiming N (MachineShape N) Request (Step N) Agent Agent}
-    (r : OrcRest D N d m) (domain : OrcDomain D N) (seen : List (Step N)) (left : IsLeft domain seen r) (b : Bounds) (sizes : domain_bounds domain ≡ b)
+    (r : OrcRest D N d m) (domain : OrcDomain D N) (seen : List (Step N)) (left : IsLeftAtRest domain seen r) (b : Bounds) (sizes : domain_bounds domain ≡ b)
   where
     same_sizes : domain_bounds (rest_domain r) ≡ b
     same_sizes = ap (λ (x : OrcDomain D N). domain_bounds x) left.domain_is ∙ sizes

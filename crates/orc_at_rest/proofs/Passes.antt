@@ -1,6 +1,6 @@
 -- The passes of a run are all passes of their domain, and what is left of it.
 use Rattle.std.proofs.Common.{All, List, length, slice_index_or, ℕ, ◌<◌, ◌≡◌}
-use Rattle.orc_at_rest.specs.Journals.{IsLeft}
+use Rattle.orc_at_rest.specs.Journals.{IsLeftAtRest}
 use Rattle.orc_core.specs.declared.records.Agent.{Agent}
 use Rattle.orc_heap.specs.declared.discipline.Discipline as discipline
 use Rattle.orc_machine_board.specs.declared.machine.MachineShape.{MachineShape}
@@ -23,5 +23,5 @@ pub record ArePasses {X : Type 0} (is_usable : X → Type 0) (agent_of : X → �
 -- what is left of a domain whose passes had all seen this journal
 pub left_of : {D N : Type 0} {d : discipline.Ghosts D N} {m : machine.Ghosts Reclaiming N (MachineShape N) Request (Step N) Agent Agent}
     (domain : OrcDomain D N) (passes : List (OrcPass D N (MachineShape N) Request (Step N) Agent Agent d m)) (seen : List (Step N)) (r : OrcRest D N d m)
-    → IsRestOf domain passes r → All (λ p. journal_of p ≡ seen) passes → IsLeft domain seen r
+    → IsRestOf domain passes r → All (λ p. journal_of p ≡ seen) passes → IsLeftAtRest domain seen r
 left_of domain passes seen r h saw = record { domain_is = h.domain_is; shown = h.shown; rest = h.at_rest; journal = h.journal seen saw }

@@ -12,7 +12,7 @@ use Rattle.orc_sound.specs.Lifetimes.{times_freed, times_taken}
 use Rattle.orc_sound.specs.Linked.{IsOut, IsUnreachable}
 use Rattle.orc_sound.specs.declared.steps.Step.{Step}
 use Rattle.orc_machine_board.specs.Rules.{run_of}
-use Rattle.orc_at_rest.specs.Reuse.{ReusesSafely, Takes}
+use Rattle.orc_at_rest.specs.Reuse.{ReusesSafely, TakesRow}
 
 module _ {N : Type 0} (b : Bounds) (journal : List (Step N)) (shape : IsShape b) (lawful : IsLawfulJournal (new_machine b) journal) where
   frees : (before after : List (Step N)) (s : Step N) (r : ℕ) → journal ≡ before ++ s ∷ after → s.op ≡ Free r
@@ -23,7 +23,7 @@ module _ {N : Type 0} (b : Bounds) (journal : List (Step N)) (shape : IsShape b)
       (subst (λ (o : Op). is_allowed (run_of b before) s.agent o ≡ true) op parts.1.0)
 
   once : (before between after : List (Step N)) (s t : Step N) (r : ℕ) → journal ≡ before ++ s ∷ (between ++ t ∷ after)
-      → Takes b journal (run_of b before) s r → Takes b journal (run_of b (before ++ s ∷ between)) t r
+      → TakesRow b journal (run_of b before) s r → TakesRow b journal (run_of b (before ++ s ∷ between)) t r
       → times_freed (plain between) r ≡ times_taken (step (run_of b before) s.agent s.op) (plain between) r + 1
   once before between after s t r is one two =
       let m = run_of b before in

@@ -29,7 +29,7 @@ use Rattle.orc_at_rest.specs.Reuse.{LeaksNothing, ReusesSafely}
 module _ {D N : Type 0} {d : discipline.Ghosts D N} {m : machine.Ghosts Reclaiming N (MachineShape N) Request (Step N) Agent Agent} where
   -- what is left of the domain, whose passes had seen this journal: it is at rest, and its board has shown a journal that went on
   -- without a heap event
-  pub record IsLeft (domain : OrcDomain D N) (seen : List (Step N)) (r : OrcRest D N d m) : Type 0 where
+  pub record IsLeftAtRest (domain : OrcDomain D N) (seen : List (Step N)) (r : OrcRest D N d m) : Type 0 where
     pub domain_is : rest_domain r ≡ domain
     pub shown : IsShown r
     pub rest : IsAtRest (run_of (domain_bounds domain) (rest_journal r))

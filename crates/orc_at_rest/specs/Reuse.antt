@@ -23,14 +23,14 @@ module _ {N : Type 0} (b : Bounds) (journal : List (Step N)) where
       → IsOut (run_of b before) r × IsUnreachable (run_of b before) r
 
   -- the step takes the row in this state
-  pub record Takes (m : Machine) (s : Step N) (r : ℕ) : Type 0 where
+  pub record TakesRow (m : Machine) (s : Step N) (r : ℕ) : Type 0 where
     pub op : s.op ≡ GateTake r
     pub done : answer m s.agent s.op ≡ 1
 
   -- between two takes of a row it is freed once more than it is taken there: exactly once, if the later take is the next
   abbrev pub FreesOnceBetweenTakes : Type 0
   FreesOnceBetweenTakes = (before between after : List (Step N)) (s t : Step N) (r : ℕ)
-      → journal ≡ before ++ s ∷ (between ++ t ∷ after) → Takes (run_of b before) s r → Takes (run_of b (before ++ s ∷ between)) t r
+      → journal ≡ before ++ s ∷ (between ++ t ∷ after) → TakesRow (run_of b before) s r → TakesRow (run_of b (before ++ s ∷ between)) t r
       → times_freed (plain between) r ≡ times_taken (step (run_of b before) s.agent s.op) (plain between) r + 1
 
   -- no row is used again while a link or a hold leads to it, nor twice in one life

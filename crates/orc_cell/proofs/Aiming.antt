@@ -22,7 +22,7 @@ use Rattle.orc_heap.specs.declared.events.Place.TheVariants.{Root}
 use Rattle.orc_pairs_rule.specs.declared.pairs.PairsNote.{PairsNote}
 use Rattle.orc_pairs_rule.specs.PairsDiscipline.{HasPart, PairsMay}
 use Rattle.orc_cell.specs.Publishes.{Aimed, KeepsStaging, NotAimed, Staged, Piece, aim_act, link_of, other}
-use Rattle.orc_cell.specs.Turns.{Finds, HoldsPart, LeadsToPart}
+use Rattle.orc_cell.specs.Turns.{OnlyLooks, HoldsPart, LeadsToPart}
 use Rattle.orc_cell.specs.declared.publish.Half.{Half}
 use Rattle.orc_cell.specs.declared.publish.Half.TheVariants.{Left, Right}
 use Rattle.orc_cell.proofs.Pieces.{Known, finds_none, part_puts}
@@ -164,7 +164,7 @@ module _ (n : HeapNumbers) (place : Place) (s a b : Seat PairsNote) (h pair : Ho
           fresh_t : t.fresh ≡ s.fresh
           fresh_t = release_fresh n c t h untouched_c linked_c w ∙ (q.fresh ∙ fresh_b)
 
-          last : Finds c [] t
+          last : OnlyLooks c [] t
           last = record { own = []; puts = w.puts; finding = tt; entries_are = refl; fresh = release_fresh n c t h untouched_c linked_c w }
 
           agent_c : c.agent ≡ s.agent

@@ -29,7 +29,7 @@ use Rattle.orc_pairs_rule.specs.declared.pairs.PairsNote.{PairsNote}
 use Rattle.orc_pairs_rule.specs.CellHistory.{Parts}
 use Rattle.orc_pairs_rule.specs.PairsDiscipline.{HasPair, HasPart, PairsHolds, PairsMay, entries_in, entries_of}
 use Rattle.orc_pairs_rule.specs.Laws.Nodes.{MovesRoot, moves_root}
-use Rattle.orc_cell.specs.Turns.{Finds, FindsOnly, IsFinding}
+use Rattle.orc_cell.specs.Turns.{OnlyLooks, FindsOnly, IsFinding}
 
 -- what a pass knows of what it has seen
 pub record Known (n : HeapNumbers) (es : List (Event PairsNote)) : Type 0 where
@@ -105,7 +105,7 @@ pub all_join : (xs ys : List (Event PairsNote)) → AllByRecursion (λ (e : Even
 all_join [] ys a b = b
 all_join (x ∷ xs) ys a b = (a.0, all_join xs ys a.1 b)
 
-pub Finds-trans : (s t u : Seat PairsNote) (xs ys : List CellEntry) → Finds s xs t → Finds t ys u → Finds s (xs ++ ys) u
+pub Finds-trans : (s t u : Seat PairsNote) (xs ys : List CellEntry) → OnlyLooks s xs t → OnlyLooks t ys u → OnlyLooks s (xs ++ ys) u
 Finds-trans s t u xs ys p q = record {
   own = p.own ++ q.own;
   puts = Puts-trans s t u p.own q.own p.puts q.puts;
@@ -122,12 +122,12 @@ pub finds_none : (s t : Seat PairsNote) → Only [] s t → FindsOnly s [] t
 finds_none s t o = record { finds = record { own = []; puts = o.puts; finding = tt; entries_are = refl; fresh = o.fresh }; slots = o.slots }
 
 -- what was put into a free slot is released, at the end of such a piece
-pub finds_released : (n : HeapNumbers) (s a b t : Seat PairsNote) (h : Hold) (es : List CellEntry) → Finds s [] a → FindsOnly a es b
+pub finds_released : (n : HeapNumbers) (s a b t : Seat PairsNote) (h : Hold) (es : List CellEntry) → OnlyLooks s [] a → FindsOnly a es b
     → ((i : ℕ) → b.fresh ≡ Some i → IsUntouched b.agent (heap_of n b) i)
     → IsLinkedNode (heap_of n b) (id_in b.slots h) → Releases b h t
     → (back : t.slots ≡ s.slots) → FindsOnly s es t
 finds_released n s a b t h es p q untouched linked w back =
-    let r : Finds b [] t = record { own = []; puts = w.puts; finding = tt; entries_are = refl; fresh = release_fresh n b t h untouched linked w } in
+    let r : OnlyLooks b [] t = record { own = []; puts = w.puts; finding = tt; entries_are = refl; fresh = release_fresh n b t h untouched linked w } in
     let whole = Finds-trans s b t es [] (Finds-trans s a b [] es p q.finds) r in
     record {
       finds = record {

@@ -20,7 +20,7 @@ use Rattle.orc_pairs_rule.specs.declared.entry.CellEntry.TheVariants.{Published}
 use Rattle.orc_pairs_rule.specs.declared.pairs.PairsNote.{PairsNote}
 use Rattle.orc_pairs_rule.specs.PairsDiscipline.{IsStaging, PairsMay}
 use Rattle.orc_cell.specs.Publishes.{Answered, HasStaged, PublishOver, PublishesFrom, PublishesTurns, SideHeld, Piece}
-use Rattle.orc_cell.specs.Turns.{Finds, FindsOnly, others_moves}
+use Rattle.orc_cell.specs.Turns.{OnlyLooks, FindsOnly, others_moves}
 use Rattle.orc_cell.specs.declared.publish.New.{New}
 use Rattle.orc_cell.specs.declared.publish.New.TheVariants.{Given, Kept, Zero}
 use Rattle.orc_cell.specs.declared.publish.PublishTurn.{PublishTurn}
@@ -45,7 +45,7 @@ null_staged n s a root Kept r all held =
     null_to now.0 (some_same (sym m.here.fits ∙ now.1))
 
 -- the side is held over a look that took a node into a slot, or none
-pub side_found : (n : HeapNumbers) (s a : Seat PairsNote) (k : ℕ) (new : New) (es : List CellEntry) → Finds s es a → AllAllowed (PairsMay n) [] a.seen
+pub side_found : (n : HeapNumbers) (s a : Seat PairsNote) (k : ℕ) (new : New) (es : List CellEntry) → OnlyLooks s es a → AllAllowed (PairsMay n) [] a.seen
     → ((agent : ℕ) → IsStaging agent (k + 2 * agent))
     → ((h : Hold) → Holds s.slots h → Holds a.slots h × (id_in a.slots h ≡ id_in s.slots h))
     → SideHeld n (k + 2 * s.agent) new s → SideHeld n (k + 2 * a.agent) new a
@@ -86,7 +86,7 @@ module _ (n : HeapNumbers) (s a b t : Seat PairsNote) (old pair : Hold) (free : 
     (untouched : (i : ℕ) → b.fresh ≡ Some i → IsUntouched b.agent (heap_of n b) i) (w : Releases b old t)
     (known_s : Known n s.seen) (known_b : Known n b.seen) (node : IsUntouched s.agent (heap_of n s) (id_in s.slots pair))
   where
-    looked : Finds s [] a
+    looked : OnlyLooks s [] a
     looked = pair_seen n 4 s a old p fresh_a
 
     old_linked : (es : List CellEntry) → Answered n 0 a es b → IsLinkedNode (heap_of n b) (id_in b.slots old)
@@ -99,7 +99,7 @@ module _ (n : HeapNumbers) (s a b t : Seat PairsNote) (old pair : Hold) (free : 
     back : (es : List CellEntry) → Answered n 0 a es b → t.slots ≡ s.slots
     back es x = slot_released s a 4 p.id old free p.in_slot b t x.slots w
 
-    last : (es : List CellEntry) → Answered n 0 a es b → Finds b [] t
+    last : (es : List CellEntry) → Answered n 0 a es b → OnlyLooks b [] t
     last es x = record { own = []; puts = w.puts; finding = tt; entries_are = refl; fresh = release_fresh n b t old untouched (old_linked es x) w }
 
     to_b : (es : List CellEntry) → Answered n 0 a es b → Piece 0 s es b

@@ -23,7 +23,7 @@ use Rattle.orc_pairs_rule.specs.declared.pairs.PairsNote.{PairsNote}
 use Rattle.orc_pairs_rule.specs.declared.pairs.PairsNote.TheVariants.{Entry}
 use Rattle.orc_pairs_rule.specs.CellHistory.{Parts}
 use Rattle.orc_pairs_rule.specs.PairsDiscipline.{HasPair, HasPart, PairsMay}
-use Rattle.orc_cell.specs.Turns.{Confirms, Finds, FindsOnly, HoldsPart, IsPairOf, LeadsToPart, IsMovedSince, MaySee, ReadsOver, ReadsPair, ReadsPart, ReadsTurns, others_moves}
+use Rattle.orc_cell.specs.Turns.{Confirms, OnlyLooks, FindsOnly, HoldsPart, IsPairOf, LeadsToPart, IsMovedSince, MaySee, ReadsOver, ReadsPair, ReadsPart, ReadsTurns, others_moves}
 use Rattle.orc_cell.proofs.Looking.{HoldsPair, RootNull, left_shows, right_shows}
 use Rattle.orc_cell.proofs.Others.{found_or_others, missed_by_others, others-append, others_from_own-append, still_or_others, turn_moved}
 use Rattle.orc_cell.proofs.Pieces.{Finds-trans, FindsOnly-trans, Known, finds_none, finds_released, pair_puts, part_puts}
@@ -157,7 +157,7 @@ null_over n s a t left right done is r fresh c all_a all_t =
 
 -- one that found a pair
 
-pub pair_seen : (n : HeapNumbers) (slot : ℕ) (s a : Seat PairsNote) (h : Hold) → HoldsPair n slot s h a → a.fresh ≡ s.fresh → Finds s [] a
+pub pair_seen : (n : HeapNumbers) (slot : ℕ) (s a : Seat PairsNote) (h : Hold) → HoldsPair n slot s h a → a.fresh ≡ s.fresh → OnlyLooks s [] a
 pair_seen n slot s a h p fresh = record { own = _; puts = p.puts; finding = (tt, (tt, tt)); entries_are = refl; fresh = fresh }
 
 pub moved_more : (s b t : Seat PairsNote) (k : ℕ) (xs ys zs : List (Event PairsNote)) (p : Puts s xs b) (q : Puts b ys t) (w : Puts s zs t)

@@ -34,7 +34,7 @@ use Rattle.orc_pairs_rule.specs.declared.pairs.PairsNote.{PairsNote}
 use Rattle.orc_pairs_rule.specs.PairsDiscipline.{IsStaging, PairsHolds, PairsMay, entries_in, entries_of}
 use Rattle.orc_pairs_rule.specs.Laws.Kept.{pairs_fits, pairs_keeps, pairs_moves_linked}
 use Rattle.orc_cell.specs.Publishes.{Answered, KeepsStaging, Piece}
-use Rattle.orc_cell.specs.Turns.{Finds, FindsOnly, IsFinding}
+use Rattle.orc_cell.specs.Turns.{OnlyLooks, FindsOnly, IsFinding}
 use Rattle.orc_cell.proofs.Pieces.{Known}
 
 -- a cause that stands in a call's part stands within what is new
@@ -141,10 +141,10 @@ finding_touches id (e ∷ es) x f = ap (touched_by id es) (cases e.act f.0) ∙ 
     cases (AimSide i to) y = absurd y
     cases (Move place from to) y = absurd y
 
-pub finds_piece : (s t : Seat PairsNote) (es : List CellEntry) → Finds s es t → Piece 0 s es t
+pub finds_piece : (s t : Seat PairsNote) (es : List CellEntry) → OnlyLooks s es t → Piece 0 s es t
 finds_piece s t es f = record { own = f.own; puts = f.puts; entries_are = f.entries_are; gives = omega (arith, finding_gives f.own f.finding) }
 
-pub finds_staging : (n : HeapNumbers) (s t : Seat PairsNote) (es : List CellEntry) → Finds s es t → AllAllowed (PairsMay n) [] t.seen → KeepsStaging n s t
+pub finds_staging : (n : HeapNumbers) (s t : Seat PairsNote) (es : List CellEntry) → OnlyLooks s es t → AllAllowed (PairsMay n) [] t.seen → KeepsStaging n s t
 finds_staging n s t es f all = λ root own. root_kept n s t f.own root f.puts all own (finding_moves root f.own f.finding)
 
 pub found_answered : (n : HeapNumbers) (s t : Seat PairsNote) (es : List CellEntry) → FindsOnly s es t → AllAllowed (PairsMay n) [] t.seen → Answered n 0 s es t

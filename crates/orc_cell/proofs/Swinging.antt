@@ -33,7 +33,7 @@ use Rattle.orc_pairs_rule.specs.declared.pairs.PairsNote.{PairsNote}
 use Rattle.orc_pairs_rule.specs.declared.pairs.PairsNote.TheVariants.{Entry}
 use Rattle.orc_pairs_rule.specs.Laws.Shown.{not_root_0, roots_kept}
 use Rattle.orc_pairs_rule.specs.PairsDiscipline.{HasPart, IsStaging, PairsMay}
-use Rattle.orc_pairs_rule.specs.Watches.{Follows, IsKept, IsOwnPair}
+use Rattle.orc_pairs_rule.specs.Watches.{MayFollow, IsKept, IsOwnPair}
 use Rattle.orc_cell.specs.Publishes.{Aimed, Answered, IsFirst, IsNewPart, IsPublished, KeepsStaging, MayPublish, NotAimed, PublishDone, PublishMissed, PublishSpent, SideHeld, SwingsPair, given_of}
 use Rattle.orc_cell.specs.Turns.{IsPairOf, others_moves}
 use Rattle.orc_cell.specs.declared.publish.Half.TheVariants.{Left, Right}
@@ -86,7 +86,7 @@ module _ (n : HeapNumbers) (s a b : Seat PairsNote) (pair : Hold) (l r x y : ℕ
         }
 
     pub may_publish : (given_left given_right : Option ℕ) (from : Link) → n.links ≡ 2
-        → Follows (heap_of n b) given_left given_right from l r (record { left = x; right = y })
+        → MayFollow (heap_of n b) given_left given_right from l r (record { left = x; right = y })
         → MayPublish n b from (id_in b.slots pair) given_left given_right x y
     may_publish given_left given_right from two follows =
         publish_own n b.agent b.seen known_b.holds given_left given_right from (id_in b.slots pair) l r (record { left = x; right = y }) two own_pair follows
@@ -166,7 +166,7 @@ first_value (Zero h) id value is = sym is
 first_value Kept id value is = absurd is
 
 pub follows_null : (h : Heap) (left right : New) (l r x y : ℕ) → IsFirst left l x → IsFirst right r y
-    → Follows h (given_of left) (given_of right) null l r (record { left = x; right = y })
+    → MayFollow h (given_of left) (given_of right) null l r (record { left = x; right = y })
 follows_null h left right l r x y one other =
     inl (
       refl,
@@ -190,7 +190,7 @@ kept_part n s b Kept place old was id value at p q is =
 pub follows_pair : (n : HeapNumbers) (s a b : Seat PairsNote) (pair : Hold) (left right : New) (old l r x y : ℕ) → n.links ≡ 2 → IsPairOf (heap_of n s) old
     → Aimed n Left pair l x s a → Aimed n Right pair r y a b → AllAllowed (PairsMay n) [] a.seen → AllAllowed (PairsMay n) [] b.seen
     → IsNewPart (heap_of n s) (Next old) left l x → IsNewPart (heap_of n a) (Side old) right r y
-    → Follows (heap_of n b) (given_of left) (given_of right) (link_to old) l r (record { left = x; right = y })
+    → MayFollow (heap_of n b) (given_of left) (given_of right) (link_to old) l r (record { left = x; right = y })
 follows_pair n s a b pair left right old l r x y two (l0, r0, was, has) one second all_a all_b is_left is_right =
     let to_a = one.answered.piece in
     let to_b = second.answered.piece in

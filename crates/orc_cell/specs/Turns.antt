@@ -42,7 +42,7 @@ IsFinding (Miss place wanted found) = Unit {0}
 IsFinding act = ⊥
 
 -- a piece of a call that only looks: its own events find links, and enter these entries
-pub record Finds (s : Seat PairsNote) (entries : List CellEntry) (t : Seat PairsNote) : Type 0 where
+pub record OnlyLooks (s : Seat PairsNote) (entries : List CellEntry) (t : Seat PairsNote) : Type 0 where
   pub own : List (Event PairsNote)
   pub puts : Puts s own t
   pub finding : AllByRecursion (λ (e : Event PairsNote). IsFinding e.act) own
@@ -51,7 +51,7 @@ pub record Finds (s : Seat PairsNote) (entries : List CellEntry) (t : Seat Pairs
 
 -- and the pass holds what it held
 pub record FindsOnly (s : Seat PairsNote) (entries : List CellEntry) (t : Seat PairsNote) : Type 0 where
-  pub finds : Finds s entries t
+  pub finds : OnlyLooks s entries t
   pub slots : t.slots ≡ s.slots
 
 -- the place is a link of a once linked node, and leads to a once linked part
@@ -69,7 +69,7 @@ pub record HoldsPart (n : HeapNumbers) (place : Place) (slot : ℕ) (s : Seat Pa
   pub id : ℕ
   pub in_slot : InSlot s slot id h t
   pub leads : shown (heap_of n s) place ≡ Some (link_to id)
-  pub finds : Finds s [] t
+  pub finds : OnlyLooks s [] t
 
 -- the value of the part to which the place leads was read
 pub record ReadsPart (n : HeapNumbers) (place : Place) (s : Seat PairsNote) (value : ℕ) (t : Seat PairsNote) : Type 0 where

@@ -23,7 +23,7 @@ use Rattle.orc_domain.proofs.Held.{hold_has, hold_low, hold_slot, mirrors}
 use Rattle.orc_domain.proofs.Seats.{ready_calm}
 use Rattle.orc_domain.proofs.Stages.{Between, Stage, Steps, seat}
 use Rattle.orc_domain.proofs.Untouched.{still_between}
-use Rattle.orc_domain.specs.Seats.{IsReady}
+use Rattle.orc_domain.specs.Seats.{IsBetweenCalls}
 use Rattle.orc_sound.specs.Linked.{IsOut}
 
 module _ {D N : Type 0} {d : discipline.Ghosts D N} {k : MachineShape N} (s : Stage d k) where
@@ -49,7 +49,7 @@ module _ {D N : Type 0} {d : discipline.Ghosts D N} {k : MachineShape N} (s : St
           subst (λ z. names s.view.record_is.fresh z ≡ true) same named
 
   module _ (h : Hold) (fresh : HoldsFresh (seat s) h) (which : ℕ) (low : which < 2) (value : ℕ) where
-    pub fill_can : IsReady s.view.record_is → MayDo (bounds_in k) s.view (FillStep h.row which value)
+    pub fill_can : IsBetweenCalls s.view.record_is → MayDo (bounds_in k) s.view (FillStep h.row which value)
     fill_can ready = fill_may (bounds_in k) s.view.agent s.view.record_is h.row which value s.number (ready_calm s.view.record_is ready) (fresh_row h fresh)
         (hold_low s h fresh.held) low
 
@@ -59,4 +59,4 @@ module _ {D N : Type 0} {d : discipline.Ghosts D N} {k : MachineShape N} (s : St
           (fill_only s t h.row which value n m (fresh_row h fresh)).0
 
       pub fills_between : Between s → Between t
-      fills_between is = still_between s t _ is fills.puts fills.fresh (λ id. refl) (subst IsReady (sym m.record_is) is.ready)
+      fills_between is = still_between s t _ is fills.puts fills.fresh (λ id. refl) (subst IsBetweenCalls (sym m.record_is) is.ready)

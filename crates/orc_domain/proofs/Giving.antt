@@ -41,7 +41,7 @@ use Rattle.orc_domain.proofs.Ending.{Ends}
 use Rattle.orc_domain.proofs.Stages.{Between, Stage, Steps, done_one, leaves_by, leaves_then, seat}
 use Rattle.orc_machine_rest.specs.OwnSteps.{LeavesNothing}
 use Rattle.orc_domain.specs.Searches.{Gets}
-use Rattle.orc_domain.specs.Seats.{IsCalm, IsReady, SetsSlot}
+use Rattle.orc_domain.specs.Seats.{IsCalm, IsBetweenCalls, SetsSlot}
 use Rattle.orc_words.specs.Bounds.{Bounds}
 
 pub no_fresh : (f : ℕ → ℕ) (o : Option ℕ) → option_map f o ≡ None → o ≡ None
@@ -101,7 +101,7 @@ module _ {D N : Type 0} {d : discipline.Ghosts D N} {k : MachineShape N} where
     agent : t.view.agent ≡ s.view.agent
     agent = took.got.puts.agent
 
-    ready1 : IsReady t.view.record_is
+    ready1 : IsBetweenCalls t.view.record_is
     ready1 = still_ready (record s.view.record_is { fresh = Some r }) t.view.record_is took.got.same record {
       enrolled = took.between.ready.enrolled;
       eight = took.between.ready.eight;
@@ -121,8 +121,8 @@ module _ {D N : Type 0} {d : discipline.Ghosts D N} {k : MachineShape N} where
     first_can first = fill_may (bounds_in k) t.view.agent t.view.record_is r 0 first t.number (ready_calm t.view.record_is ready1) fresh1 took.low (omega arith)
 
     module _ (u : Stage d k) (first n1 : ℕ) (m1 : Steps (FillStep r 0 first) t n1 u) where
-      ready2 : IsReady u.view.record_is
-      ready2 = subst IsReady (sym m1.record_is) ready1
+      ready2 : IsBetweenCalls u.view.record_is
+      ready2 = subst IsBetweenCalls (sym m1.record_is) ready1
 
       fresh2 : names u.view.record_is.fresh r ≡ true
       fresh2 = ap (λ (e : Agent). names e.fresh r) m1.record_is ∙ fresh1
@@ -134,8 +134,8 @@ module _ {D N : Type 0} {d : discipline.Ghosts D N} {k : MachineShape N} where
       one = fill_only t u r 0 first n1 m1 fresh1
 
       module _ (v : Stage d k) (second n2 : ℕ) (m2 : Steps (FillStep r 1 second) u n2 v) (slot : ℕ) (free : IsFree (seat s).slots slot) where
-        ready3 : IsReady v.view.record_is
-        ready3 = subst IsReady (sym m2.record_is) ready2
+        ready3 : IsBetweenCalls v.view.record_is
+        ready3 = subst IsBetweenCalls (sym m2.record_is) ready2
 
         fresh3 : names v.view.record_is.fresh r ≡ true
         fresh3 = ap (λ (e : Agent). names e.fresh r) m2.record_is ∙ fresh2
@@ -216,7 +216,7 @@ module _ {D N : Type 0} {d : discipline.Ghosts D N} {k : MachineShape N} where
             node = node;
           }
 
-          ready4 : IsReady w.view.record_is
+          ready4 : IsBetweenCalls w.view.record_is
           ready4 = held_ready v.view.record_is w.view.record_is slot r free.above ready3 record {
             enrolled = ap (λ (e : Agent). e.enrolled) m3.record_is;
             slots = holds3;

@@ -24,7 +24,7 @@ use Rattle.orc_sound.specs.Journals.{IsLawfulJournal}
 use Rattle.orc_domain.proofs.Seats.{same_fresh, same_slots}
 use Rattle.orc_domain.proofs.Stages.{Between, Stage, seat}
 use Rattle.orc_domain.proofs.Untouched.{still_between}
-use Rattle.orc_domain.specs.Seats.{IsReady, slot_by}
+use Rattle.orc_domain.specs.Seats.{IsBetweenCalls, slot_by}
 use Rattle.orc_shared_words.proofs.Events.{others_add}
 use Rattle.orc_shared_words.proofs.Runs.{own_of-append}
 use Rattle.orc_sound.specs.declared.steps.Step.{Step}
@@ -63,7 +63,7 @@ module _ {D N : Type 0} {d : discipline.Ghosts D N} {k : MachineShape N} where
   pub grown_between : (s t : Stage d k) → SameButSteps s.view t.view → IsPrefix s.view.journal t.view.journal → Between s → Between t
   grown_between s t same later is =
       let g = grown s t same later in
-      still_between s t [] is g.puts g.fresh (λ id. refl) (subst IsReady (sym same.record_is) is.ready)
+      still_between s t [] is g.puts g.fresh (λ id. refl) (subst IsBetweenCalls (sym same.record_is) is.ready)
 
   own_kept : (s t : Stage d k) → Only [] (seat s) (seat t) → events_by s.view.agent (seat t).seen ≡ events_by s.view.agent (seat s).seen
   own_kept s t o = ap (events_by s.view.agent) o.puts.is

@@ -43,7 +43,7 @@ use Rattle.orc_domain.proofs.Seats.{calm_forced, ready_calm, slot_holds}
 use Rattle.orc_domain.proofs.Stages.{Between, Stage, before_lawful, before_out, before_unmarked, seat}
 use Rattle.orc_domain.proofs.Untouched.{untouched_before}
 use Rattle.orc_domain.specs.Changes.{Stores}
-use Rattle.orc_domain.specs.Seats.{IsReady}
+use Rattle.orc_domain.specs.Seats.{IsBetweenCalls}
 use Rattle.orc_sound.specs.declared.steps.Step.{Step}
 use Rattle.orc_words.specs.Bounds.{Bounds}
 use Rattle.orc_words.specs.Packed.{link_of}
@@ -92,7 +92,7 @@ module _ {D N : Type 0} {d : discipline.Ghosts D N} {k : MachineShape N} (s : St
       let older : not (names s.view.record_is.fresh h.now.row) ≡ true = ap not (not_fresh h.now there.0 other) in
       λ i. (low i && two i) && (has i && older i)
 
-  pub cas_can : (at : At) (from to : Want) → IsReady s.view.record_is → HoldsPlace (heap_numbers k) (seat s).slots at → IsNotFresh (seat s) at
+  pub cas_can : (at : At) (from to : Want) → IsBetweenCalls s.view.record_is → HoldsPlace (heap_numbers k) (seat s).slots at → IsNotFresh (seat s) at
       → HoldsWant (seat s).slots from → HoldsWant (seat s).slots to
       → may_change s.view.record_is ((bounds_in k).limit + 64) (row_link from).to (row_link to).to ≡ true
       → MayDo (bounds_in k) s.view (LinkCas (word_at at) (row_link from) (row_link to))
@@ -122,7 +122,7 @@ module _ {D N : Type 0} {d : discipline.Ghosts D N} {k : MachineShape N} (s : St
       (λ i. (same i, sym old i, sym new i)) allowed
 
   -- each link of the fresh row may be set
-  pub store_can : (r number : ℕ) (to : Option ℕ) → number < (bounds_in k).links → IsReady s.view.record_is → names s.view.record_is.fresh r ≡ true
+  pub store_can : (r number : ℕ) (to : Option ℕ) → number < (bounds_in k).links → IsBetweenCalls s.view.record_is → names s.view.record_is.fresh r ≡ true
       → may_target (bounds_in k) s.view.record_is to ≡ true → may_change s.view.record_is ((bounds_in k).limit + 64) None to ≡ true
       → MayDo (bounds_in k) s.view (LinkStore r (without_mark to) number)
   store_can r number to there ready fresh target change =

@@ -24,7 +24,7 @@ use Rattle.orc_machine_board.specs.declared.machine.Request.{Request}
 use Rattle.orc_projection.specs.Mirror.{numbers_of}
 use Rattle.orc_projection.specs.Projection.{project}
 use Rattle.orc_domain.specs.Passes.{IsPassOf, domain_bounds, seat_of}
-use Rattle.orc_domain.specs.Seats.{IsReady, slot_by}
+use Rattle.orc_domain.specs.Seats.{IsBetweenCalls, slot_by}
 use Rattle.orc_domain.specs.declared.domain.OrcDomain.{OrcDomain}
 use Rattle.orc_domain.specs.declared.domain.OrcPass.{OrcPass}
 use Rattle.orc_shared_words.specs.Lists.{EachAt, EachFrom}
@@ -33,7 +33,7 @@ use Rattle.orc_sound.specs.declared.steps.Step.{Step}
 use Rattle.orc_words.specs.Bounds.{Bounds, bounds_of}
 use Rattle.orc_words.specs.declared.shape.Shape.{Shape}
 
-nothing_ready : (d : Agent) → HasNothing d → IsReady d
+nothing_ready : (d : Agent) → HasNothing d → IsBetweenCalls d
 nothing_ready d h = record {
   enrolled = h.enrolled;
   eight = ap length h.slots;

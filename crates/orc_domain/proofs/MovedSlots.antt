@@ -4,7 +4,7 @@ use mathlib.Core.Logic.{dite}
 use native.Mathlib.Decide.{ℕ_discrete}
 use Rattle.orc_core.specs.declared.ops.Op.{Op}
 use Rattle.orc_core.specs.declared.ops.Op.TheVariants.{Clear, MoveOn, TakeIn}
-use Rattle.orc_machine_rest.specs.OwnSteps.{BeginsWith, TakesInCleared}
+use Rattle.orc_machine_rest.specs.OwnSteps.{FirstIs, TakesInCleared}
 use Rattle.orc_domain.specs.OwnSteps.{ClearsNo, EndsTakenIn, TakesInMoved}
 
 -- so do the later ones of these ops
@@ -18,7 +18,7 @@ further : (slot : ℕ) (op : Op) (ops : List Op) → EndsTakenIn slot ops → En
 further slot op ops y = record { earlier = op ∷ y.earlier; later = y.later; is = ap (λ l. op ∷ l) y.is; last = y.last }
 
 -- the last Clear of the slot
-the_last : (slot k : ℕ) (ops : List Op) → k ≡ slot → BeginsWith (TakeIn k) ops → ClearsNo slot ops → EndsTakenIn slot (Clear k ∷ ops)
+the_last : (slot k : ℕ) (ops : List Op) → k ≡ slot → FirstIs (TakeIn k) ops → ClearsNo slot ops → EndsTakenIn slot (Clear k ∷ ops)
 the_last slot k [] e h none = absurd h
 the_last slot k (op ∷ ops) e h none = record {
   earlier = [];

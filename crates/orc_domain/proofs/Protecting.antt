@@ -22,7 +22,7 @@ use Rattle.orc_projection.specs.Projection.{StoresUnmarked, present_ids, project
 use Rattle.orc_domain.proofs.Seats.{calm_forced}
 use Rattle.orc_domain.proofs.Setting.{set_length}
 use Rattle.orc_domain.specs.Calls.{SameParts}
-use Rattle.orc_domain.specs.Seats.{IsCalm, IsReady, slot_by}
+use Rattle.orc_domain.specs.Seats.{IsCalm, IsBetweenCalls, slot_by}
 use Rattle.orc_sound.specs.Journals.{IsLawfulJournal}
 use Rattle.orc_sound.specs.Linked.{IsOut}
 use Rattle.orc_sound.specs.declared.steps.Step.{Step}
@@ -47,7 +47,7 @@ same_then d e f p q = record {
   scan = q.scan ∙ p.scan;
 }
 
-pub still_ready : (d e : Agent) → SameParts d e → IsReady d → IsReady e
+pub still_ready : (d e : Agent) → SameParts d e → IsBetweenCalls d → IsBetweenCalls e
 still_ready d e p r = record {
   enrolled = p.enrolled ∙ r.enrolled;
   eight = ap length p.slots ∙ r.eight;
@@ -85,7 +85,7 @@ set_first (s ∷ ss) zero r h = absurd (omega arith)
 set_first (s ∷ ss) (suc k) r h = refl
 
 -- a row that is held in another slot leaves the record ready
-pub held_ready : (d e : Agent) (slot r : ℕ) → 0 < slot → IsReady d → SameParts (record d { slots = slice_set d.slots slot (Held r) }) e → IsReady e
+pub held_ready : (d e : Agent) (slot r : ℕ) → 0 < slot → IsBetweenCalls d → SameParts (record d { slots = slice_set d.slots slot (Held r) }) e → IsBetweenCalls e
 held_ready d e slot r above h s = still_ready (record d { slots = slice_set d.slots slot (Held r) }) e s record {
   enrolled = h.enrolled;
   eight = set_length d.slots slot (Held r) ∙ h.eight;
@@ -117,7 +117,7 @@ same_place_ok b (Side j) p q same h = ap (λ z. (nat_lt j b.rows && nat_lt 1 b.l
 same_place_ok b w p q same h = absurd (false≢true h)
 
 -- a link that was read may be read again, with a slot in which its target was published
-pub reload_may : (b : Bounds) (a : ℕ) (d e : Agent) (w : Word) (k r : ℕ) → a < b.agents → k < 8 → IsReady d
+pub reload_may : (b : Bounds) (a : ℕ) (d e : Agent) (w : Word) (k r : ℕ) → a < b.agents → k < 8 → IsBetweenCalls d
     → may_place b w (λ q. any_holds (slice_set d.slots k (Published r)) q || names d.fresh q) ≡ true
     → SameParts (record d { slots = slice_set d.slots k (Published r) }) e → may b 0 a (LinkLoad w (Some k)) e ≡ true
 reload_may b a d e w k r h eight ready place same =

@@ -23,7 +23,7 @@ use Rattle.orc_domain.proofs.Held.{hold_has, hold_low, hold_slot}
 use Rattle.orc_domain.proofs.Seats.{before_keep, calm_forced, only, ready_calm}
 use Rattle.orc_domain.proofs.Stages.{Between, Stage, Steps, before_lawful, before_out, before_unmarked, seat}
 use Rattle.orc_domain.proofs.Untouched.{still_between}
-use Rattle.orc_domain.specs.Seats.{IsReady}
+use Rattle.orc_domain.specs.Seats.{IsBetweenCalls}
 use Rattle.orc_sound.specs.Linked.{IsOut}
 use Rattle.orc_sound.specs.declared.steps.Step.{Step}
 
@@ -34,7 +34,7 @@ there (x ∷ xs) (suc i) lt = there xs i (omega arith)
 
 module _ {D N : Type 0} {d : discipline.Ghosts D N} {k : MachineShape N} (s : Stage d k) (h : Hold) (held : Holds (seat s).slots h) (which : ℕ)
     (low : which < 2) where
-  pub may_read : IsReady s.view.record_is → MayDo (bounds_in k) s.view (Read h.row which)
+  pub may_read : IsBetweenCalls s.view.record_is → MayDo (bounds_in k) s.view (Read h.row which)
   may_read ready =
       let b = bounds_in k in
       let agent = lt-ltb s.view.agent b.agents s.number in
@@ -53,7 +53,7 @@ module _ {D N : Type 0} {d : discipline.Ghosts D N} {k : MachineShape N} (s : St
     read_only = only (asks (Read h.row which)) None s t n m (ap (λ (d : Agent). d.slots) m.record_is) (ap (λ (d : Agent). d.fresh) m.record_is)
 
     pub read_between : Between s → Between t
-    read_between is = still_between s t [] is read_only.puts read_only.fresh (λ id. refl) (subst IsReady (sym m.record_is) is.ready)
+    read_between is = still_between s t [] is read_only.puts read_only.fresh (λ id. refl) (subst IsBetweenCalls (sym m.record_is) is.ready)
 
     -- the value word of a row that is out is its node's value
     word_is : (Mirrors (run_of (bounds_in k) j) (present_ids (bounds_in k) j) (run_heap (heap_numbers k) (project (bounds_in k) j))) → (w : ℕ) (node : Node)

@@ -23,7 +23,7 @@ use Rattle.orc_domain.proofs.Stages.{Between, Stage, seat}
 use Rattle.orc_domain.proofs.Untouched.{still_between}
 use Rattle.orc_domain.specs.Calls.{SameParts, Unlocks}
 use Rattle.orc_domain.specs.Laws.Holding.{slot_at}
-use Rattle.orc_domain.specs.Seats.{IsReady}
+use Rattle.orc_domain.specs.Seats.{IsBetweenCalls}
 
 set_zero : (slots : List SlotUse) (k : ℕ) → slice_index_or slots 0 Empty ≡ Empty → slice_index_or (slice_set slots k Empty) 0 Empty ≡ Empty
 set_zero [] k e = refl
@@ -39,7 +39,7 @@ set_bare (s ∷ ss) (suc k) zero h = h
 set_bare (s ∷ ss) (suc k) (suc j) h = set_bare ss k j h
 
 -- a slot that is emptied leaves the record ready
-pub emptied_ready : (d e : Agent) (slot : ℕ) → IsReady d → SameParts (record d { slots = slice_set d.slots slot Empty }) e → IsReady e
+pub emptied_ready : (d e : Agent) (slot : ℕ) → IsBetweenCalls d → SameParts (record d { slots = slice_set d.slots slot Empty }) e → IsBetweenCalls e
 emptied_ready d e slot r same = still_ready (record d { slots = slice_set d.slots slot Empty }) e same record {
   enrolled = r.enrolled;
   eight = set_length d.slots slot Empty ∙ r.eight;

@@ -39,7 +39,7 @@ use Rattle.orc_domain.proofs.Wearing.{check_may}
 use Rattle.orc_domain.specs.Calls.{Retires, SameParts, Unlocks}
 use Rattle.orc_machine_rest.specs.OwnSteps.{HasDone, TakesInCleared}
 use Rattle.orc_domain.specs.Passes.{IsFreshUntouched}
-use Rattle.orc_domain.specs.Seats.{IsReady, seat_by, slot_by}
+use Rattle.orc_domain.specs.Seats.{IsBetweenCalls, seat_by, slot_by}
 use Rattle.orc_sound.specs.declared.steps.Step.{Step}
 use Rattle.orc_words.specs.Bounds.{Bounds}
 use Rattle.orc_words.specs.Packed.{sequence_of}
@@ -215,7 +215,7 @@ module _ {D N : Type 0} {d : discipline.Ghosts D N} {k : MachineShape N} where
           own_is = refl;
         };
         between = record {
-          ready = subst (λ (v : MachineView N). IsReady v.record_is) (sym is) between.ready;
+          ready = subst (λ (v : MachineView N). IsBetweenCalls v.record_is) (sym is) between.ready;
           untouched = subst (λ (v : MachineView N). IsFreshUntouched (heap_numbers k) (seat_by b v)) (sym is) between.untouched;
         };
         ops = [];

@@ -32,7 +32,7 @@ use Rattle.orc_domain.proofs.Searching.{found_grows, found_since, idle_none, idl
 use Rattle.orc_domain.specs.Causes.{IsLacking, IsOfDomain}
 use Rattle.orc_machine_board.specs.Laws.Steps.{counted_obeys, in_range}
 use Rattle.orc_machine_board.specs.Rules.{bounds_in, counted_rules}
-use Rattle.orc_domain.specs.Searches.{Fails, Found, Gets, Idles, Tries}
+use Rattle.orc_domain.specs.Searches.{Fails, Found, Gets, Idles, TriedRows}
 use Rattle.orc_machine_board.specs.Views.{MachineView}
 use Rattle.orc_machine_board.specs.declared.machine.MachineShape.{MachineShape}
 use Rattle.orc_shared_words.proofs.Events.{others_add}
@@ -87,19 +87,19 @@ module _ {N : Type 0} where
       none_own a c.gap in_gap.0 x c.others in_gap.1 its))
       (λ ge. let e = c.begin_is in omega (arith, e, ge))
 
-  pub tries_none : (b : Bounds) (begin rows : ℕ) (s : MachineView N) → Tries b begin rows 0 s s
+  pub tries_none : (b : Bounds) (begin rows : ℕ) (s : MachineView N) → TriedRows b begin rows 0 s s
   tries_none b begin rows s = record { idle = idle_none b s; found = λ k h. absurd (omega arith) }
 
   -- nothing came after the tries but what the pass doesn't show
-  pub tries_then : (b : Bounds) (begin rows offset : ℕ) (s t u : MachineView N) → Tries b begin rows offset s t → Idles b t u → Tries b begin rows offset s u
+  pub tries_then : (b : Bounds) (begin rows offset : ℕ) (s t u : MachineView N) → TriedRows b begin rows offset s t → Idles b t u → TriedRows b begin rows offset s u
   tries_then b begin rows offset s t u p q = record {
     idle = idle_trans b s t u p.idle q;
     found = λ k h. subst (λ z. Found b s.agent s.journal z ((begin + k) % rows)) (sym q.journal)
         (found_grows b s.agent s.journal t.journal q.more ((begin + k) % rows) (p.found k h));
   }
 
-  pub tries_one : (b : Bounds) (begin rows offset : ℕ) (s t u : MachineView N) → Tries b begin rows offset s t → Fails b ((begin + offset) % rows) t u
-      → Tries b begin rows (offset + 1) s u
+  pub tries_one : (b : Bounds) (begin rows offset : ℕ) (s t u : MachineView N) → TriedRows b begin rows offset s t → Fails b ((begin + offset) % rows) t u
+      → TriedRows b begin rows (offset + 1) s u
   tries_one b begin rows offset s t u p f = record {
     idle = idle_trans b s t u p.idle f.idle;
     found = λ k h. dite (dec_lt k offset)
@@ -114,7 +114,7 @@ module _ {N : Type 0} where
   }
 
   -- the row that is tried next, where the others couldn't be given
-  pub tries_next : (b : Bounds) (begin offset : ℕ) (s t : MachineView N) (after : List (Step N)) → Tries b begin b.rows offset s t → offset < b.rows
+  pub tries_next : (b : Bounds) (begin offset : ℕ) (s t : MachineView N) (after : List (Step N)) → TriedRows b begin b.rows offset s t → offset < b.rows
       → IsPrefix t.journal after → IsNext b.rows begin (Found b s.agent s.journal after) ((begin + offset) % b.rows)
   tries_next b begin offset s t after p low more = record {
     offset = offset;
@@ -135,7 +135,7 @@ module _ {N : Type 0} where
   }
 
   -- the row that is taken after others were tried
-  pub tries_gets : (b : Bounds) (begin rows offset r : ℕ) (s t u : MachineView N) → Tries b begin rows offset s t → Gets b r t u → Gets b r s u
+  pub tries_gets : (b : Bounds) (begin rows offset r : ℕ) (s t u : MachineView N) → TriedRows b begin rows offset s t → Gets b r t u → Gets b r s u
   tries_gets b begin rows offset r s t u p q = record {
     more = p.idle.more ++ q.more;
     journal = q.journal ∙ (ap (λ z. z ++ q.more) p.idle.journal ∙ append_assoc s.journal p.idle.more q.more);
@@ -164,7 +164,7 @@ module _ {N : Type 0} where
 
 module _ {D N : Type 0} {d : discipline.Ghosts D N} {k : MachineShape N} where
   -- where all rows were tried, none could be given
-  pub tries_all : (begin : ℕ) (s t : Stage d k) → begin < (bounds_in k).rows → Tries (bounds_in k) begin (bounds_in k).rows (bounds_in k).rows s.view t.view
+  pub tries_all : (begin : ℕ) (s t : Stage d k) → begin < (bounds_in k).rows → TriedRows (bounds_in k) begin (bounds_in k).rows (bounds_in k).rows s.view t.view
       → InPart (λ (x : Step N). x.agent) s.view.agent s.view.journal t.view.journal (IsLacking (bounds_in k) s.view.agent t.view.journal)
   tries_all begin s t inside p =
       let b = bounds_in k in

@@ -32,7 +32,7 @@ use Rattle.orc_projection.proofs.Mirrored.{ids-append}
 use Rattle.orc_projection.specs.PresentIds.{PresentIds, no_ids}
 use Rattle.orc_projection.specs.Projection.{act_of, events_of, present_ids, project}
 use Rattle.orc_domain.proofs.Stages.{Stage, before_lawful, before_out, seat}
-use Rattle.orc_domain.specs.Seats.{IsCalm, IsReady, SetsSlot, slot_by}
+use Rattle.orc_domain.specs.Seats.{IsCalm, IsBetweenCalls, SetsSlot, slot_by}
 use Rattle.orc_shared_words.proofs.Events.{others_add}
 use Rattle.orc_shared_words.proofs.Runs.{own_of-append}
 use Rattle.orc_sound.specs.declared.steps.Step.{Step}
@@ -68,7 +68,7 @@ map-set f (y ∷ ys) (suc k) x = ap (λ l. f y ∷ l) (map-set f ys k x)
 pub calm_forced : (d : Agent) (op : Op) → IsCalm d → forced d op ≡ true
 calm_forced d op h = ap (λ (z : Option Reading × Option ℕ × Option ℕ). in_order z.0 z.1 z.2 op) (λ i. (h.due i, h.inc i, h.dec i))
 
-pub ready_calm : (d : Agent) → IsReady d → IsCalm d
+pub ready_calm : (d : Agent) → IsBetweenCalls d → IsCalm d
 ready_calm d h = record { enrolled = h.enrolled; due = h.due; inc = h.inc; dec = h.dec }
 
 module _ {N : Type 0} where

@@ -19,7 +19,7 @@ use Rattle.orc_projection.specs.PresentIds.{PresentIds}
 use Rattle.orc_domain.proofs.Giving.{no_fresh}
 use Rattle.orc_domain.proofs.Retiring.{not_some}
 use Rattle.orc_domain.proofs.Stages.{Between, Stage, seat}
-use Rattle.orc_domain.specs.Seats.{IsReady, slot_by}
+use Rattle.orc_domain.specs.Seats.{IsBetweenCalls, slot_by}
 use Rattle.orc_rest.specs.Records.{IsBetweenRounds, IsDone}
 
 -- slots in which nothing is shown are empty, where none is only published
@@ -44,7 +44,7 @@ slot_empty : (d : Agent) → IsBetweenRounds d → (k : ℕ) → slot_of d k ≡
 slot_empty d h zero = h.still.zero
 slot_empty d h (suc k) = h.still.calm.slots (suc k) (omega arith)
 
-ready_between : (d : Agent) → IsBetweenRounds d → IsReady d
+ready_between : (d : Agent) → IsBetweenRounds d → IsBetweenCalls d
 ready_between d h = record {
   enrolled = h.still.calm.enrolled;
   eight = h.still.calm.eight;

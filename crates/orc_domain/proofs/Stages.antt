@@ -22,7 +22,7 @@ use Rattle.orc_machine_board.specs.declared.machine.Request.{Request}
 use Rattle.orc_projection.proofs.Mirrored.{StoresUnmarked-append}
 use Rattle.orc_projection.specs.Projection.{StoresUnmarked, project}
 use Rattle.orc_domain.specs.Passes.{IsFreshUntouched}
-use Rattle.orc_domain.specs.Seats.{IsReady, seat_by}
+use Rattle.orc_domain.specs.Seats.{IsBetweenCalls, seat_by}
 use Rattle.orc_shared_words.proofs.Runs.{by_own, own_of-append}
 use Rattle.orc_shared_words.specs.declared.journal.View.{View}
 use Rattle.orc_sound.proofs.Journals.{IsLawfulJournal-append}
@@ -72,7 +72,7 @@ module _ {D N : Type 0} where
 
     -- where a call begins or ends
     pub record Between (s : Stage d k) : Type 0 where
-      pub ready : IsReady s.view.record_is
+      pub ready : IsBetweenCalls s.view.record_is
       pub untouched : IsFreshUntouched (heap_numbers k) (seat s)
 
     -- a step without a wanted link and without a note

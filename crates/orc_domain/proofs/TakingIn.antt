@@ -25,7 +25,7 @@ use Rattle.orc_domain.specs.Calls.{SameParts}
 use Rattle.orc_machine_rest.specs.OwnSteps.{HasDone, HasTakenIn, ops_of}
 use Rattle.orc_domain.specs.OwnSteps.{TakesInFree}
 use Rattle.orc_domain.specs.Searches.{Idles}
-use Rattle.orc_domain.specs.Seats.{IsReady, slot_by}
+use Rattle.orc_domain.specs.Seats.{IsBetweenCalls, slot_by}
 use Rattle.orc_sound.specs.declared.steps.Step.{Step}
 use Rattle.orc_words.specs.Bounds.{Bounds}
 
@@ -79,7 +79,7 @@ module _ {D N : Type 0} {d : discipline.Ghosts D N} {k : MachineShape N} where
       }
 
   -- beside each slot in which a pass holds nothing, since the others hold their rows
-  pub takes_free : (s t u : Stage d k) → IsReady s.view.record_is → Idles (bounds_in k) s.view t.view
+  pub takes_free : (s t u : Stage d k) → IsBetweenCalls s.view.record_is → Idles (bounds_in k) s.view t.view
       → ((slot : ℕ) → slot < 8 → is_empty (slot_of t.view.record_is slot) ≡ true → HasTakenIn t.view.agent slot t.view.journal u.view.journal)
       → TakesInFree (seat s) s.view.journal u.view.journal
   takes_free s t u ready idle taken slot free =

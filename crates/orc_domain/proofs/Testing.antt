@@ -36,7 +36,7 @@ use Rattle.orc_domain.proofs.Loading.{load_events, load_may}
 use Rattle.orc_domain.proofs.Seats.{before_keep, only, ready_calm, slot_holds, step_events}
 use Rattle.orc_domain.proofs.Stages.{Between, Stage, its_step, seat, whole_lawful}
 use Rattle.orc_domain.proofs.Untouched.{still_between}
-use Rattle.orc_domain.specs.Seats.{IsReady}
+use Rattle.orc_domain.specs.Seats.{IsBetweenCalls}
 use Rattle.orc_shared_words.specs.Lists.{Each}
 use Rattle.orc_sound.specs.Journals.{IsHeldOrNull}
 use Rattle.orc_sound.specs.declared.steps.Step.{Step}
@@ -77,7 +77,7 @@ module _ {D N : Type 0} {d : discipline.Ghosts D N} {k : MachineShape N} (s : St
 
 module _ {D N : Type 0} {d : discipline.Ghosts D N} {k : MachineShape N} (s t : Stage d k) (at : At) (w : Want) (note : Option N) (n : ℕ)
     (m : Makes (bounds_in k) (wants (LinkLoad (word_at at) None) (Some (row_link w))) note s.view n t.view)
-    (there : HoldsPlace (heap_numbers k) (seat s).slots at) (held : HoldsWant (seat s).slots w) (ready : IsReady s.view.record_is) where
+    (there : HoldsPlace (heap_numbers k) (seat s).slots at) (held : HoldsWant (seat s).slots w) (ready : IsBetweenCalls s.view.record_is) where
   abbrev b : Bounds
   b = bounds_in k
 
@@ -138,8 +138,8 @@ module _ {D N : Type 0} {d : discipline.Ghosts D N} {k : MachineShape N} (s t : 
   tests packed is = subst (λ z. Tests at w note (seat s) (n == z) (seat t)) (sym is) (tests_so (n == link_word (row_link w)) refl)
 
   tested : (done : Bool) → Between s → Tests at w note (seat s) done (seat t) → Between t
-  tested true is x = still_between s t _ is x.puts x.fresh (λ id. refl) (subst IsReady (sym m.record_is) is.ready)
-  tested false is x = still_between s t _ is x.puts.puts x.fresh (λ id. refl) (subst IsReady (sym m.record_is) is.ready)
+  tested true is x = still_between s t _ is x.puts x.fresh (λ id. refl) (subst IsBetweenCalls (sym m.record_is) is.ready)
+  tested false is x = still_between s t _ is x.puts.puts x.fresh (λ id. refl) (subst IsBetweenCalls (sym m.record_is) is.ready)
 
   pub tests_between : Between s → Between t
   tests_between is = tested (n == link_word (row_link w)) is (tests_so (n == link_word (row_link w)) refl)

@@ -23,7 +23,7 @@ use Rattle.orc_projection.proofs.Links.{names-some}
 use Rattle.orc_projection.specs.Projection.{present_ids, project}
 use Rattle.orc_domain.proofs.Seats.{before_keep}
 use Rattle.orc_domain.proofs.Stages.{Between, Stage, seat}
-use Rattle.orc_domain.specs.Seats.{IsReady}
+use Rattle.orc_domain.specs.Seats.{IsBetweenCalls}
 use Rattle.orc_shared_words.proofs.Events.{others_add}
 use Rattle.orc_sound.specs.declared.steps.Step.{Step}
 
@@ -55,7 +55,7 @@ module _ {D N : Type 0} {d : discipline.Ghosts D N} {k : MachineShape N} where
 
   -- a call that keeps the fresh node, and makes no link to it
   pub still_between : (s t : Stage d k) (own : List (Event N)) → Between s → Puts (seat s) own (seat t) → (seat t).fresh ≡ (seat s).fresh
-      → ((id : ℕ) → list_any (λ e. points_to e.act id) own ≡ false) → IsReady t.view.record_is → Between t
+      → ((id : ℕ) → list_any (λ e. points_to e.act id) own ≡ false) → IsBetweenCalls t.view.record_is → Between t
   still_between s t own h p fresh away ready = record {
     ready = ready;
     untouched = λ id e. still_untouched s t own p away id (h.untouched id (sym fresh ∙ e));

@@ -11,7 +11,7 @@ use Rattle.orc_machine_board.specs.Views.{Belongs, board_bounds, board_numbers, 
 use Rattle.orc_machine_board.specs.declared.machine.MachineShape.{MachineShape}
 use Rattle.orc_machine_board.specs.declared.machine.Reclaiming.{Reclaiming}
 use Rattle.orc_machine_board.specs.declared.machine.Request.{Request}
-use Rattle.orc_domain.specs.Seats.{IsReady, seat_by}
+use Rattle.orc_domain.specs.Seats.{IsBetweenCalls, seat_by}
 use Rattle.orc_domain.specs.declared.domain.OrcDomain.{OrcDomain}
 use Rattle.orc_domain.specs.declared.domain.OrcPass.{OrcPass}
 use Rattle.orc_shared_words.specs.declared.machine.Machine as machine
@@ -49,6 +49,6 @@ module _ {D N : Type 0} {d : discipline.Ghosts D N} {m : machine.Ghosts Reclaimi
   -- the pass is one of the domain's: nothing is pending in it, its fresh node is untouched, and it goes on from a row of the table
   pub record IsPassOf (domain : OrcDomain D N) (p : OrcPass D N (MachineShape N) Request (Step N) Agent Agent d m) : Type 0 where
     pub board : Belongs domain.board p.pass
-    pub ready : IsReady (shows p.pass).record_is
+    pub ready : IsBetweenCalls (shows p.pass).record_is
     pub untouched : IsFreshUntouched (domain_numbers domain) (seat_of domain p)
     pub inside : p.next < (domain_bounds domain).rows

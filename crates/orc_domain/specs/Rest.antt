@@ -45,7 +45,7 @@ module _ {D N : Type 0} {d : discipline.Ghosts D N} {m : machine.Ghosts Reclaimi
     pub all : TookInAll (board_bounds r.domain.board) (shows r.pass)
 
   -- this domain, of which one of these passes has taken in all others and then looked at each gate, is at rest, with these counts
-  pub record EndsWith (domain : OrcDomain D N) (passes : List (OrcPass D N (MachineShape N) Request (Step N) Agent Agent d m))
+  pub record ComesToRest (domain : OrcDomain D N) (passes : List (OrcPass D N (MachineShape N) Request (Step N) Agent Agent d m))
       (counts : RowCounts) : Type 0 where
     pub rest : OrcRest D N d m
     pub domain_is : rest_domain rest ≡ domain

@@ -54,10 +54,10 @@ module _ {N : Type 0} where
     pub node : slice_get (run_heap (numbers_of b) (seat_by b t).seen).nodes ((ids_of b t).node r) ≡ Some (new_node s.agent)
 
   -- the rows that were tried, from `begin` on, couldn't be given
-  pub record Tries (b : Bounds) (begin rows offset : ℕ) (s t : MachineView N) : Type 0 where
+  pub record TriedRows (b : Bounds) (begin rows offset : ℕ) (s t : MachineView N) : Type 0 where
     pub idle : Idles b s t
     pub found : (k : ℕ) → k < offset → Found b s.agent s.journal t.journal ((begin + k) % rows)
 
   -- all rows were tried, once round from `begin` on, and none could be given
   abbrev pub TriesAll : Bounds → ℕ → MachineView N → MachineView N → Type 0
-  TriesAll b begin s t = Tries b begin b.rows b.rows s t
+  TriesAll b begin s t = TriedRows b begin b.rows b.rows s t

@@ -35,7 +35,7 @@ seat_by b s = record {
 
 -- the record of a pass between calls: no change is pending, no slot only names its row, slot 0 is empty, no row is to be freed,
 -- and no scan has found its row
-pub record IsReady (d : Agent) : Type 0 where
+pub record IsBetweenCalls (d : Agent) : Type 0 where
   pub enrolled : d.enrolled ≡ true
   pub eight : length d.slots ≡ 8
   pub due : d.due ≡ None

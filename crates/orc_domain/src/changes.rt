@@ -15,7 +15,7 @@ ghost use Rattle.orc_domain.specs.Changes.{Stores};
 ghost use Rattle.orc_machine_rest.specs.OwnSteps.{LeavesNothing};
 ghost use Rattle.orc_domain.specs.Passes.{IsFreshUntouched, domain_bounds, domain_numbers};
 ghost use Rattle.orc_domain.specs.Searches.{Idles};
-ghost use Rattle.orc_domain.specs.Seats.{IsReady, seat_by};
+ghost use Rattle.orc_domain.specs.Seats.{IsBetweenCalls, seat_by};
 ghost use Rattle.orc_words.specs.Bounds.{link_limit};
 
 use crate::domain::OrcDomain;
@@ -31,7 +31,7 @@ impl<D: Discipline> OrcDomain<D> {
     #[inline(always)]
     pub(crate) fn check(&self, p: &mut MachineBoardPass<D>, h: &Held) -> Result<(), Spent>
         requires belongs { Belongs self.now.board p.old }
-        requires ready { IsReady (shows p.old).record_is }
+        requires ready { IsBetweenCalls (shows p.old).record_is }
         requires held { Holds (seat_by (domain_bounds self.now) (shows p.old)).slots h.now }
         ensures belongs { Belongs self.now.board p.new }
         ensures checks { Idles (domain_bounds self.now) (shows p.old) (shows p.new) }
@@ -59,7 +59,7 @@ impl<D: Discipline> OrcDomain<D> {
         to: &Want,
     ) -> Result<(), Spent>
         requires belongs { Belongs self.now.board p.old }
-        requires ready { IsReady (shows p.old).record_is }
+        requires ready { IsBetweenCalls (shows p.old).record_is }
         requires links { HoldsWant (seat_by (domain_bounds self.now) (shows p.old)).slots from.now
             × HoldsWant (seat_by (domain_bounds self.now) (shows p.old)).slots to.now }
         ensures belongs { Belongs self.now.board p.new }
@@ -91,7 +91,7 @@ impl<D: Discipline> OrcDomain<D> {
         note: Option<D::Note>,
     ) -> bool
         requires belongs { Belongs self.now.board p.old }
-        requires ready { IsReady (shows p.old).record_is }
+        requires ready { IsBetweenCalls (shows p.old).record_is }
         requires untouched { IsFreshUntouched (domain_numbers self.now) (seat_by (domain_bounds self.now) (shows p.old)) }
         requires place { HoldsPlace (domain_numbers self.now) (seat_by (domain_bounds self.now) (shows p.old)).slots place.now }
         requires linked { IsNotFresh (seat_by (domain_bounds self.now) (shows p.old)) place.now }
@@ -101,7 +101,7 @@ impl<D: Discipline> OrcDomain<D> {
         requires allowed { MayMove (D.may (domain_numbers self.now)) (domain_numbers self.now) (seat_by (domain_bounds self.now) (shows p.old))
             place.now from.now to.now note }
         ensures belongs { Belongs self.now.board p.new }
-        ensures ready { IsReady (shows p.new).record_is }
+        ensures ready { IsBetweenCalls (shows p.new).record_is }
         ensures untouched { IsFreshUntouched (domain_numbers self.now) (seat_by (domain_bounds self.now) (shows p.new)) }
         ensures swung { Swings place.now from.now to.now note (seat_by (domain_bounds self.now) (shows p.old)) result
             (seat_by (domain_bounds self.now) (shows p.new)) }
@@ -122,7 +122,7 @@ impl<D: Discipline> OrcDomain<D> {
     // Sets the link of this number of the fresh row, and then counts what was linked and unlinked.
     pub(crate) fn store(&self, p: &mut MachineBoardPass<D>, row: u32, number: u32, to: Option<u32>)
         requires belongs { Belongs self.now.board p.old }
-        requires ready { IsReady (shows p.old).record_is }
+        requires ready { IsBetweenCalls (shows p.old).record_is }
         requires untouched { IsFreshUntouched (domain_numbers self.now) (seat_by (domain_bounds self.now) (shows p.old)) }
         requires number { number < (domain_bounds self.now).links }
         requires fresh { names (shows p.old).record_is.fresh row ≡ true }
@@ -131,7 +131,7 @@ impl<D: Discipline> OrcDomain<D> {
         requires other { (r : ℕ) → to ≡ Some r → names (shows p.old).record_is.fresh r ≡ false }
         requires licensed { AimAllowed (D.may (domain_numbers self.now)) (domain_bounds self.now) (shows p.old) row number to }
         ensures belongs { Belongs self.now.board p.new }
-        ensures ready { IsReady (shows p.new).record_is }
+        ensures ready { IsBetweenCalls (shows p.new).record_is }
         ensures untouched { IsFreshUntouched (domain_numbers self.now) (seat_by (domain_bounds self.now) (shows p.new)) }
         ensures stores { Stores (domain_bounds self.now) row number to (shows p.old) (shows p.new) }
         ensures leaves { LeavesNothing (shows p.old).agent (shows p.old).journal (shows p.new).journal }

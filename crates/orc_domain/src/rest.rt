@@ -11,7 +11,7 @@ ghost use Rattle.orc_machine_board.specs.Rules.{run_of};
 ghost use Rattle.orc_machine_board.specs.Views.{Belongs, shows};
 ghost use Rattle.orc_domain.specs.Ends.{AreAll, SawAll, whole_journal};
 ghost use Rattle.orc_domain.specs.Passes.{IsPassOf, domain_bounds};
-ghost use Rattle.orc_domain.specs.Rest.{EndsWith, IsShown, rest_domain, rest_journal};
+ghost use Rattle.orc_domain.specs.Rest.{ComesToRest, IsShown, rest_domain, rest_journal};
 ghost use Rattle.orc_rest.specs.Rest.{IsAtRest};
 ghost use Rattle.orc_rest.specs.Reuse.{given, reused, rows_out};
 ghost use Rattle.orc_sound.specs.Journals.{plain};
@@ -87,7 +87,7 @@ impl<D: Discipline> OrcDomain<D> {
         requires all { AreAll self.now passes.items }
         requires own { SawAll passes.items }
         requires rest { IsAtRest (run_of (domain_bounds self.now) (whole_journal passes.items)) }
-        ensures { EndsWith self.now passes.items result }
+        ensures { ComesToRest self.now passes.items result }
     {
         let (pass, counts) = self.count(passes);
         drop(pass);

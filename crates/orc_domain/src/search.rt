@@ -8,7 +8,7 @@ ghost use Rattle.orc_plain_domain.specs.Turns.{IsNext};
 ghost use Rattle.orc_machine_board.specs.Views.{Belongs, shows};
 ghost use Rattle.orc_domain.specs.Passes.{domain_bounds};
 ghost use Rattle.orc_domain.specs.Searches.{Fails, Found, Gets, Idles, TriesAll};
-ghost use Rattle.orc_domain.specs.Seats.{IsCalm, IsReady};
+ghost use Rattle.orc_domain.specs.Seats.{IsCalm, IsBetweenCalls};
 
 use crate::domain::OrcDomain;
 use orc_core::{CounterUse, SEQUENCE};
@@ -20,7 +20,7 @@ impl<D: Discipline> OrcDomain<D> {
     // Goes through all rows once, from this one on, until one is taken.
     pub(crate) fn search(&self, p: &mut MachineBoardPass<D>, begin: u32) -> Option<u32>
         requires belongs { Belongs self.now.board p.old }
-        requires ready { IsReady (shows p.old).record_is }
+        requires ready { IsBetweenCalls (shows p.old).record_is }
         requires no_other { (shows p.old).record_is.fresh ≡ None }
         requires begin { begin < (domain_bounds self.now).rows }
         ensures belongs { Belongs self.now.board p.new }
@@ -42,7 +42,7 @@ impl<D: Discipline> OrcDomain<D> {
     // Tries one row: it is taken if it is free, and neither its life nor its sequence is at the limit.
     pub(crate) fn try_take(&self, p: &mut MachineBoardPass<D>, row: u32) -> bool
         requires belongs { Belongs self.now.board p.old }
-        requires ready { IsReady (shows p.old).record_is }
+        requires ready { IsBetweenCalls (shows p.old).record_is }
         requires no_other { (shows p.old).record_is.fresh ≡ None }
         requires row { row < (domain_bounds self.now).rows }
         ensures belongs { Belongs self.now.board p.new }

@@ -10,7 +10,7 @@ ghost use Rattle.orc_words.specs.Packed.{link_of, link_word};
 ghost use Rattle.orc_domain.specs.Calls.{Retires, Unlocks};
 ghost use Rattle.orc_domain.specs.Passes.{IsFreshUntouched, domain_bounds, domain_numbers};
 ghost use Rattle.orc_domain.specs.Protections.{MayProtect, Protects, ReadsAgain, word_by};
-ghost use Rattle.orc_domain.specs.Seats.{IsCalm, IsReady, seat_by};
+ghost use Rattle.orc_domain.specs.Seats.{IsCalm, IsBetweenCalls, seat_by};
 
 use crate::domain::OrcDomain;
 use orc_core::{CounterUse, SEQUENCE};
@@ -160,7 +160,7 @@ impl<D: Discipline> OrcDomain<D> {
     // Retires the row, if it is the fresh one. Its bit is set at the first try, since nobody else counts it.
     pub(crate) fn give_up(&self, p: &mut MachineBoardPass<D>, row: u32)
         requires belongs { Belongs self.now.board p.old }
-        requires ready { IsReady (shows p.old).record_is }
+        requires ready { IsBetweenCalls (shows p.old).record_is }
         requires untouched { IsFreshUntouched (domain_numbers self.now) (seat_by (domain_bounds self.now) (shows p.old)) }
         ensures belongs { Belongs self.now.board p.new }
         ensures retired { names (shows p.old).record_is.fresh row ≡ true → Retires (domain_bounds self.now) row (shows p.old) (shows p.new) }

@@ -14,7 +14,7 @@ use Rattle.orc_history.specs.declared.queue.QueueEntry.TheVariants.{Empty, Put, 
 use Rattle.orc_fifo_rule.specs.declared.fifo.FifoNote.{FifoNote}
 use Rattle.orc_fifo_rule.specs.declared.fifo.FifoNote.TheVariants.{Entry, Swing}
 use Rattle.orc_fifo_rule.specs.QueueDiscipline.{FifoHolds, FifoMay, HasJob, IsRunning, entries_of, has_begun, position_of}
-use Rattle.orc_fifo_rule.specs.Watches.{IsLeft, WasNamed, node_to_put}
+use Rattle.orc_fifo_rule.specs.Watches.{IsLeftBehind, WasNamed, node_to_put}
 use Rattle.orc_fifo_rule.specs.Laws.Events.{begun_more}
 use Rattle.orc_fifo_rule.specs.Laws.Nodes.{job_linked}
 use Rattle.orc_fifo_rule.specs.Laws.Paths.{path_ends, path_step, successor_linked}
@@ -85,7 +85,7 @@ front_waits waiting front back rest put job at all first job_is at_is =
 
 -- a Took of root 0, wherever root 1 has left the node, whose link leads to the other
 pub took_allowed : (n : HeapNumbers) (agent id next job at : ℕ) (seen : List (Event FifoNote)) → FifoHolds n seen → has_begun seen ≡ true
-    → IsLeft (run_heap n seen) id
+    → IsLeftBehind (run_heap n seen) id
     → HasLink (run_heap n seen) id (link_to next) → HasJob (run_heap n seen) next job at
     → AllowedLater (FifoMay n) n agent seen (Root 0) (link_to id)
     (event_by agent (Move (Root 0) (link_to id) (link_to next)) (Some (Entry (Took agent job at))))

@@ -13,7 +13,7 @@ use Rattle.orc_history.specs.declared.queue.QueueEntry.TheVariants.{Empty, Put, 
 use Rattle.orc_fifo_rule.specs.declared.fifo.FifoNote.{FifoNote}
 use Rattle.orc_fifo_rule.specs.declared.fifo.FifoNote.TheVariants.{Entry, Swing}
 use Rattle.orc_fifo_rule.specs.QueueDiscipline.{FifoHolds, FifoMay, IsPath, IsRunning, has_begun}
-use Rattle.orc_fifo_rule.specs.Watches.{IsLeft, WasNamed}
+use Rattle.orc_fifo_rule.specs.Watches.{IsLeftBehind, WasNamed}
 use Rattle.orc_fifo_rule.specs.Laws.Events.{begun_more}
 use Rattle.orc_fifo_rule.specs.Laws.Kinds.{each_kind}
 use Rattle.orc_fifo_rule.specs.Laws.Kept.{fifo_keeps}
@@ -60,10 +60,10 @@ still_apart n es e id next run may link apart =
 
 -- root 1 doesn't come back
 pub left_later : (n : HeapNumbers) (seen more : List (Event FifoNote)) (id : ℕ) → FifoHolds n seen → has_begun seen ≡ true
-    → IsLeft (run_heap n seen) id → AllAllowed (FifoMay n) seen more
-    → IsLeft (run_heap n (seen ++ more)) id
+    → IsLeftBehind (run_heap n seen) id → AllAllowed (FifoMay n) seen more
+    → IsLeftBehind (run_heap n (seen ++ more)) id
 left_later n seen more id holds begun left all =
-    let P : List (Event FifoNote) → Type 0 = λ es. FifoHolds n es × (has_begun es ≡ true) × IsLeft (run_heap n es) id in
+    let P : List (Event FifoNote) → Type 0 = λ es. FifoHolds n es × (has_begun es ≡ true) × IsLeftBehind (run_heap n es) id in
     let r : P (seen ++ more) =
     stays (FifoMay n) P (λ es e p may. (
       fifo_keeps n es e p.0 may,
@@ -84,7 +84,7 @@ first_step es h dummy tail (put ∷ puts) (next, link, put_node, rest) apart = (
 -- a node that root 0 named, and that root 1 doesn't name, is left
 pub is_left : (n : HeapNumbers) (es : List (Event FifoNote)) (id : ℕ) → FifoHolds n es → has_begun es ≡ true → WasNamed (run_heap n es) 0 id
     → shown (run_heap n es) (Root 1) ≢ Some (link_to id)
-    → IsLeft (run_heap n es) id
+    → IsLeftBehind (run_heap n es) id
 is_left n es id holds begun w apart =
     let h : Heap = run_heap n es in
     let run = holds.running begun in

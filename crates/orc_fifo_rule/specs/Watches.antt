@@ -10,7 +10,7 @@ pub record WasNamed (h : Heap) (root id : ℕ) : Type 0 where
   pub either : (shown h (Root root) ≡ Some (link_to id)) ⊎ ((next : ℕ) × HasLink h id (link_to next))
 
 -- root 1 has gone on from the node to a later one
-pub record IsLeft (h : Heap) (id : ℕ) : Type 0 where
+pub record IsLeftBehind (h : Heap) (id : ℕ) : Type 0 where
   pub next : ℕ
   pub link : HasLink h id (link_to next)
   pub tail_apart : shown h (Root 1) ≢ Some (link_to id)

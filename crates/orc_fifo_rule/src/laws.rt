@@ -15,7 +15,7 @@ ghost use Rattle.orc_heap.specs.Calls.{links_made};
 ghost use Rattle.orc_heap.specs.Moves.{moves_in};
 ghost use Rattle.orc_fifo_rule.specs.Counts.{off_the_head, swings_in, tooks_in};
 ghost use Rattle.orc_fifo_rule.specs.QueueDiscipline.{FifoHolds, FifoMay, HasJob, entries_of, has_begun, position_of};
-ghost use Rattle.orc_fifo_rule.specs.Watches.{IsLeft, WasNamed, node_to_put};
+ghost use Rattle.orc_fifo_rule.specs.Watches.{IsLeftBehind, WasNamed, node_to_put};
 
 /// The empty list obeys the discipline, and so does each list that goes on with events that are allowed where
 /// they stand.
@@ -78,7 +78,7 @@ pub fn facts_of_nodes_stay()
     ensures named { (n : HeapNumbers) (seen more : List (Event FifoNote)) (root id : ℕ) → AllAllowed (FifoMay n) seen more
         → WasNamed (run_heap n seen) root id → WasNamed (run_heap n (seen ++ more)) root id }
     ensures left { (n : HeapNumbers) (seen more : List (Event FifoNote)) (id : ℕ) → FifoHolds n seen → has_begun seen ≡ true
-        → AllAllowed (FifoMay n) seen more → IsLeft (run_heap n seen) id → IsLeft (run_heap n (seen ++ more)) id }
+        → AllAllowed (FifoMay n) seen more → IsLeftBehind (run_heap n seen) id → IsLeftBehind (run_heap n (seen ++ more)) id }
     ensures link { (n : HeapNumbers) (seen more : List (Event FifoNote)) (id next : ℕ) → AllAllowed (FifoMay n) seen more
         → HasLink (run_heap n seen) id (link_to next) → HasLink (run_heap n (seen ++ more)) id (link_to next) }
     ensures position { (n : HeapNumbers) (seen more : List (Event FifoNote)) (id : ℕ) → AllAllowed (FifoMay n) seen more
@@ -111,11 +111,11 @@ pub fn a_swing_may_come()
 /// the job wherever root 0 names the node. A node that root 0 has named is left where root 1 names another.
 pub fn a_took_may_come()
     ensures took { (n : HeapNumbers) (agent id next job at : ℕ) (seen : List (Event FifoNote)) → FifoHolds n seen → has_begun seen ≡ true
-        → IsLeft (run_heap n seen) id → HasLink (run_heap n seen) id (link_to next) → HasJob (run_heap n seen) next job at
+        → IsLeftBehind (run_heap n seen) id → HasLink (run_heap n seen) id (link_to next) → HasJob (run_heap n seen) next job at
         → AllowedLater (FifoMay n) n agent seen (Place.Root 0) (link_to id)
         (event_by agent (Act.Move (Place.Root 0) (link_to id) (link_to next)) (Some (FifoNote.Entry (QueueEntry.Took agent job at)))) }
     ensures left { (n : HeapNumbers) (es : List (Event FifoNote)) (id : ℕ) → FifoHolds n es → has_begun es ≡ true
-        → WasNamed (run_heap n es) 0 id → shown (run_heap n es) (Place.Root 1) ≢ Some (link_to id) → IsLeft (run_heap n es) id }
+        → WasNamed (run_heap n es) 0 id → shown (run_heap n es) (Place.Root 1) ≢ Some (link_to id) → IsLeftBehind (run_heap n es) id }
 {}
 
 /// An agent that saw root 1 name a node may put its fresh node, with the values for the node's second value as

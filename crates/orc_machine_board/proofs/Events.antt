@@ -24,7 +24,7 @@ use Rattle.orc_machine_board.specs.Rules.{RequestAllowed, bounds_in, counted_rul
 use Rattle.orc_machine_board.specs.declared.machine.Request.{Request}
 use Rattle.orc_machine_board.specs.declared.machine.MachineShape.{MachineShape}
 use Rattle.orc_shared_words.specs.Lists.{Each}
-use Rattle.orc_shared_words.specs.Steps.{Licensed}
+use Rattle.orc_shared_words.specs.Steps.{IsAllowedLater}
 use Rattle.orc_shared_words.specs.declared.journal.View.{View}
 use Rattle.orc_sound.specs.Journals.{IsLawfulJournal, IsWanted}
 use Rattle.orc_sound.specs.declared.steps.Step.{Step}
@@ -106,7 +106,7 @@ module _ {N : Type 0} where
   pub plain_licensed : (k : MachineShape N) (holds : List (Event N) → Type 0) (may : List (Event N) → Event N → Type 0)
       → ((past : List (Event N)) (e : Event N) → holds past → FitsAfter (heap_numbers k) past e → IsPlainEvent e → may past e)
       → (v : View (Step N) Agent) (a : ℕ) (q : Request) → is_plain_kind q.op ≡ true → RequestAllowed (bounds_in k) a q v.own
-      → Licensed counted_rules k holds may v a q None
+      → IsAllowedLater counted_rules k holds may v a q None
   plain_licensed k holds may law v a q plain can between none later =
       let b = bounds_in k in
       let j = v.seen ++ between in

@@ -8,14 +8,14 @@ use Rattle.orc_machine_board.specs.Rules.{counted_rules}
 use Rattle.orc_machine_board.specs.Views.{Keeps, view_of}
 use Rattle.orc_machine_board.specs.declared.machine.MachineShape.{MachineShape}
 use Rattle.orc_shared_words.proofs.LaterJournals.{learned_later}
-use Rattle.orc_shared_words.specs.Learning.{Learned, SameButSeen}
+use Rattle.orc_shared_words.specs.Learning.{LearnedBoth, SameButSeen}
 use Rattle.orc_shared_words.specs.Views.{absorbing, agent_of}
 use Rattle.orc_shared_words.specs.declared.journal.View.{View}
 use Rattle.orc_sound.specs.declared.steps.Step.{Step}
 
 module _ {N : Type 0} {k : MachineShape N} {holds : List (Event N) → Type 0} {may : List (Event N) → Event N → Type 0} {v u w x : View (Step N) Agent}
     {a b : ℕ}
-    (one : Keeps k holds may v a) (two : Keeps k holds may u b) (l : Learned (λ (s : Step N). s.agent) v u w x) where
+    (one : Keeps k holds may v a) (two : Keeps k holds may u b) (l : LearnedBoth (λ (s : Step N). s.agent) v u w x) where
   same_but : (y z : View (Step N) Agent) (c : ℕ) → y.agent ≡ Some c → SameButSeen (λ (s : Step N). s.agent) y z → SameButSteps (view_of c y) (view_of c z)
   same_but y z c is same = record {
     agent = refl;

@@ -36,7 +36,7 @@ use Rattle.orc_machine_board.specs.declared.machine.Request.{Request}
 use Rattle.orc_machine_board.specs.declared.machine.MachineShape.{MachineShape}
 use Rattle.orc_shared_words.proofs.Events.{AllBy, others_add}
 use Rattle.orc_shared_words.specs.Lists.{Each}
-use Rattle.orc_shared_words.specs.Steps.{LaterJournal, Licensed}
+use Rattle.orc_shared_words.specs.Steps.{LaterJournal, IsAllowedLater}
 use Rattle.orc_shared_words.specs.declared.journal.View.{View}
 use Rattle.orc_sound.specs.declared.steps.Step.{Step}
 use Rattle.orc_words.specs.Bounds.{Bounds}
@@ -166,7 +166,7 @@ module _ {N : Type 0} where
       → ((past : List (Event N)) (e : Event N) → holds past → FitsAfter (heap_numbers k) past e → IsPlainEvent e → may past e)
       → {v : View (Step N) Agent} {a : ℕ} → Keeps k holds may v a → (place : Word) (from to : RowLink) (note : Option N)
       → RequestAllowed (bounds_in k) a (asks (LinkCas place from to)) v.own → MoveAllowed may (bounds_in k) (view_of a v) place from to note
-      → Licensed counted_rules k holds may v a (asks (LinkCas place from to)) note
+      → IsAllowedLater counted_rules k holds may v a (asks (LinkCas place from to)) note
   cas_licensed {k} {holds} {may} law {v} {a} kept place from to note can allowed between none later =
       let b = bounds_in k in
       let j = v.seen ++ between in
@@ -258,7 +258,7 @@ module _ {N : Type 0} where
       {v : View (Step N) Agent} {a : ℕ} (kept : Keeps k holds may v a) where
     noted_licensed : (place : Word) (slot : Option ℕ) (link : RowLink) (note : Option N)
         → RequestAllowed (bounds_in k) a (wants (LinkLoad place slot) (Some link)) v.own → LookAllowed may (bounds_in k) (view_of a v) place link note
-        → Licensed counted_rules k holds may v a (wants (LinkLoad place slot) (Some link)) note
+        → IsAllowedLater counted_rules k holds may v a (wants (LinkLoad place slot) (Some link)) note
     noted_licensed place slot link note can allowed between none later =
         let b = bounds_in k in
         let j = v.seen ++ between in
@@ -290,7 +290,7 @@ module _ {N : Type 0} where
     pub load_licensed : (place : Word) (slot : Option ℕ) (want : Option RowLink) (note : Option N)
         → RequestAllowed (bounds_in k) a (wants (LinkLoad place slot) want) v.own → (want ≡ None → note ≡ None)
         → ((link : RowLink) (said : N) → want ≡ Some link → note ≡ Some said → LookAllowed may (bounds_in k) (view_of a v) place link note)
-        → Licensed counted_rules k holds may v a (wants (LinkLoad place slot) want) note
+        → IsAllowedLater counted_rules k holds may v a (wants (LinkLoad place slot) want) note
     load_licensed place slot want None can bare allowed = plain_licensed k holds may law v a (wants (LinkLoad place slot) want) refl can
     load_licensed place slot None (Some said) can bare allowed = absurd (none_some (bare refl))
       where
@@ -300,7 +300,7 @@ module _ {N : Type 0} where
 
     pub store_licensed : (row which : ℕ) (link : RowLink) → RequestAllowed (bounds_in k) a (asks (LinkStore row link which)) v.own
         → (names v.own.fresh row ≡ true → AimAllowed may (bounds_in k) (view_of a v) row which link.to)
-        → Licensed counted_rules k holds may v a (asks (LinkStore row link which)) None
+        → IsAllowedLater counted_rules k holds may v a (asks (LinkStore row link which)) None
     store_licensed row which link can allowed between none later =
         let b = bounds_in k in
         let j = v.seen ++ between in

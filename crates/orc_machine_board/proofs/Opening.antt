@@ -19,7 +19,7 @@ use Rattle.orc_projection.proofs.Mirrored.{ids-append, project-append}
 use Rattle.orc_history.specs.Journals.{own_of}
 use Rattle.orc_machine_board.proofs.Holds.{record_stays}
 use Rattle.orc_shared_words.proofs.Runs.{by_other}
-use Rattle.orc_shared_words.specs.Ends.{Opens}
+use Rattle.orc_shared_words.specs.Ends.{OpensLawfully}
 use Rattle.orc_shared_words.specs.Runs.{AgentsBelow}
 use Rattle.orc_heap.specs.declared.discipline.Discipline as discipline
 use Rattle.orc_heap.proofs.Stays.{stays}
@@ -30,7 +30,7 @@ use Rattle.orc_heap.specs.declared.events.Act.TheVariants as act
 use Rattle.orc_machine_board.specs.Laws.Steps.{in_range}
 use Rattle.orc_core.specs.Runs.{IsLawful}
 use Rattle.orc_machine_board.specs.Passes.{HasNothing}
-use Rattle.orc_machine_board.specs.Plays.{GoesOn}
+use Rattle.orc_machine_board.specs.Plays.{PlaysOn}
 use Rattle.orc_machine_board.specs.Views.{Keeps}
 use Rattle.orc_shared_words.proofs.LaterJournals.{new_pass_later}
 use Rattle.orc_shared_words.specs.declared.journal.View.{View}
@@ -403,7 +403,7 @@ module _ {D N : Type 0} (d : discipline.Ghosts D N) (k : MachineShape N) (began 
   seed_roots (Dummy first begin) can = can.roots
 
   -- the opening is one with which shared words may begin
-  pub opens : SeedAllowed d.may (heap_numbers k) k.seed → Opens counted_rules k holds_so may_be
+  pub opens : SeedAllowed d.may (heap_numbers k) k.seed → OpensLawfully counted_rules k holds_so may_be
   opens can =
       let b = bounds_in k in
       let shape = in_range k.shape in
@@ -420,7 +420,7 @@ module _ {D N : Type 0} (d : discipline.Ghosts D N) (k : MachineShape N) (began 
 
 -- the next agent may enroll
 pub enrolling_goes : (shape : Shape) (m : Machine) (n : ℕ) → n < (bounds_of shape).agents → m ≡ run_of (bounds_of shape) (enrolments {N = Unit {0}} n)
-    → GoesOn (bounds_of shape) m ((n, Enroll) ∷ [])
+    → PlaysOn (bounds_of shape) m ((n, Enroll) ∷ [])
 enrolling_goes shape m n lt e =
     let b = bounds_of shape in
     let all = all_enroll {N = Unit {0}} b (suc n) (in_range shape) (omega arith) in
@@ -446,7 +446,7 @@ module _ {N : Type 0} (shape : Shape) (seed : Seed N) (roots : HasRoots (numbers
   enrolled_as = e ∙ ap (run (new_machine c)) (plain_same (Unit {0}) N c.agents)
 
   -- then the steps for the seed go on
-  pub seeding_goes : GoesOn c m (plain (seeding seed))
+  pub seeding_goes : PlaysOn c m (plain (seeding seed))
   seeding_goes = record {
     shape = in_range shape;
     before = plain (enrolments {N = N} c.agents);
@@ -459,7 +459,7 @@ module _ {N : Type 0} (shape : Shape) (seed : Seed N) (roots : HasRoots (numbers
   seeded = ap (λ (z : Machine). run z (plain (seeding seed))) enrolled_as ∙ sym (run_more c (enrolments {N = N} c.agents) (seeding seed))
 
 module _ {N : Type 0} (k r : MachineShape N) (same : r ≡ k) (holds : List (Event N) → Type 0) (may_be : List (Event N) → Event N → Type 0)
-    (o : Opens counted_rules k holds may_be) (began : holds []) (v : View (Step N) Agent) (a : ℕ)
+    (o : OpensLawfully counted_rules k holds may_be) (began : holds []) (v : View (Step N) Agent) (a : ℕ)
     (is : v.agent ≡ Some a) (below : a < (bounds_in k).agents) (seen : v.seen ≡ machine_opening (bounds_in k).agents k.seed) (also : v.also ≡ [])
     (own : v.own ≡ record_at (run_of (bounds_in k) (machine_opening (bounds_in k).agents k.seed)) a) where
   -- a new pass

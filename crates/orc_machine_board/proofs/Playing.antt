@@ -6,7 +6,7 @@ use Rattle.orc_core.proofs.Steps.{IsLawful-append, run-append}
 use Rattle.orc_core.specs.Machine.{LeavesRoom, Machine, is_allowed, new_machine, step}
 use Rattle.orc_core.specs.Runs.{IsLawful, run}
 use Rattle.orc_core.specs.declared.ops.Op.{Op}
-use Rattle.orc_machine_board.specs.Plays.{GoesOn}
+use Rattle.orc_machine_board.specs.Plays.{PlaysOn}
 use Rattle.orc_sound.proofs.ForRuns.{room_left}
 use Rattle.orc_words.specs.Bounds.{Bounds}
 
@@ -19,7 +19,7 @@ drop_none [] (suc i) le = refl
 drop_none (x ∷ xs) zero le = absurd (omega arith)
 drop_none (x ∷ xs) (suc i) le = drop_none xs i (omega arith)
 
-module _ (b : Bounds) (m : Machine) (a : ℕ) (op : Op) (rest : List (ℕ × Op)) (g : GoesOn b m ((a, op) ∷ rest)) where
+module _ (b : Bounds) (m : Machine) (a : ℕ) (op : Op) (rest : List (ℕ × Op)) (g : PlaysOn b m ((a, op) ∷ rest)) where
   parts : IsLawful (new_machine b) g.before × IsLawful (run (new_machine b) g.before) ((a, op) ∷ rest)
   parts = (IsLawful-append (new_machine b) g.before ((a, op) ∷ rest)).0 g.lawful
 
@@ -29,7 +29,7 @@ module _ (b : Bounds) (m : Machine) (a : ℕ) (op : Op) (rest : List (ℕ × Op)
   pub goes_room : LeavesRoom m a op
   goes_room = subst (λ (z : Machine). LeavesRoom z a op) (sym g.is) (room_left b g.before a op g.shape parts.0)
 
-  pub goes_on : GoesOn b (step m a op) rest
+  pub goes_on : PlaysOn b (step m a op) rest
   goes_on = record {
     shape = g.shape;
     before = g.before ++ (a, op) ∷ [];

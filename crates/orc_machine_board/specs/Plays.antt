@@ -11,7 +11,7 @@ by_agent a [] = []
 by_agent a (op ∷ ops) = (a, op) ∷ by_agent a ops
 
 -- the state is one that steps left, and these steps go on lawfully from there
-pub record GoesOn (b : Bounds) (m : Machine) (steps : List (ℕ × Op)) : Type 0 where
+pub record PlaysOn (b : Bounds) (m : Machine) (steps : List (ℕ × Op)) : Type 0 where
   pub shape : IsShape b
   pub before : List (ℕ × Op)
   pub is : m ≡ run (new_machine b) before

@@ -13,7 +13,7 @@ ghost use Rattle.orc_projection.specs.Mirror.{numbers_of};
 ghost use Rattle.orc_shared_words.specs.Lists.{EachAt, EachFrom};
 ghost use Rattle.orc_sound.specs.Journals.{plain};
 ghost use Rattle.orc_core.specs.declared.ops.Op.{Op};
-ghost use Rattle.orc_machine_board.specs.Plays.{GoesOn, by_agent};
+ghost use Rattle.orc_machine_board.specs.Plays.{PlaysOn, by_agent};
 
 use crate::board::{MachineBoard, MachineBoardPass};
 use crate::machine::{MachineShape, Reclaiming};
@@ -81,7 +81,7 @@ fn passes_of<D: Discipline>(
 
 // Makes a step that is allowed.
 fn play_one(state: &mut State, agent: u32, op: &Op)
-    requires goes { (b : Bounds) × (rest : List (ℕ × Op)) × GoesOn b state.old ((agent, op.now) ∷ rest) }
+    requires goes { (b : Bounds) × (rest : List (ℕ × Op)) × PlaysOn b state.old ((agent, op.now) ∷ rest) }
     ensures { state.new ≡ run state.old ((agent, op.now) ∷ []) }
 {
     let Ok(_) = apply(state, agent, op) else {
@@ -91,7 +91,7 @@ fn play_one(state: &mut State, agent: u32, op: &Op)
 
 // Makes these steps of one agent.
 fn play(state: &mut State, agent: u32, ops: &[Op])
-    requires goes { (b : Bounds) × GoesOn b state.old (by_agent agent ops.now) }
+    requires goes { (b : Bounds) × PlaysOn b state.old (by_agent agent ops.now) }
     ensures { state.new ≡ run state.old (by_agent agent ops.now) }
 {
     for op in ops {
@@ -126,7 +126,7 @@ const CHECK: Op = Op::CounterLoad {
 
 // Makes the steps of agent 0 for the seed.
 fn plant<N>(state: &mut State, seed: &Seed<N>)
-    requires { (b : Bounds) × GoesOn b state.old (plain (seeding seed.now)) }
+    requires { (b : Bounds) × PlaysOn b state.old (plain (seeding seed.now)) }
     ensures { state.new ≡ run state.old (plain (seeding seed.now)) }
 {
     if let Seed::Dummy { first, begin: _ } = seed {

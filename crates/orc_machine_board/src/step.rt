@@ -1,7 +1,7 @@
 //! One step of a board's machine.
 
 ghost use Rattle.std.specs.Prelude.{◌≡◌, None, true};
-ghost use Rattle.orc_shared_words.specs.Steps.{Licensed};
+ghost use Rattle.orc_shared_words.specs.Steps.{IsAllowedLater};
 ghost use Rattle.orc_sound.specs.Journals.{IsWanted};
 ghost use Rattle.orc_machine_board.specs.Kinds.{MayDo, is_plain_kind, wants};
 ghost use Rattle.orc_machine_board.specs.Rules.{RequestAllowed, counted_rules};
@@ -24,7 +24,7 @@ impl<D: Discipline> MachineBoard<D> {
     ) -> u64
         requires belongs { Belongs self.now p.old }
         requires allowed { RequestAllowed (board_bounds self.now) (shows p.old).agent request (shows p.old).record_is }
-        requires licensed { Licensed counted_rules self.now.words.shape (D.holds (board_numbers self.now)) (D.may (board_numbers self.now))
+        requires licensed { IsAllowedLater counted_rules self.now.words.shape (D.holds (board_numbers self.now)) (D.may (board_numbers self.now))
             p.old.pass.seat.me.0 p.old.pass.agent request note.now }
         ensures belongs { Belongs self.now p.new }
         ensures makes { Makes (board_bounds self.now) request note.now (shows p.old) result (shows p.new) }

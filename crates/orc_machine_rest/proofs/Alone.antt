@@ -5,7 +5,7 @@ use Rattle.std.proofs.lemmas.List.{append_cancel_left}
 use Rattle.std.specs.List.{list_all}
 use Rattle.std.specs.Prelude.{◌==◌}
 use Rattle.orc_machine_rest.proofs.Makes.{apart}
-use Rattle.orc_machine_rest.specs.Parts.{Adds, Settles}
+use Rattle.orc_machine_rest.specs.Parts.{SawSteps, Settles}
 use Rattle.orc_core.proofs.Within.{and_both}
 use Rattle.orc_core.specs.Machine.{record_at}
 use Rattle.orc_core.specs.declared.ops.Op.{Op}
@@ -35,7 +35,7 @@ module _ {N : Type 0} where
       let b = and_both (s.agent == a) (list_all (λ (x : Step N). x.agent == a) ss) h in
       (eqb-true s.agent a b.0, all_own a ss b.1)
 
-  pub alone_parts : (b : Bounds) (a : ℕ) (steps : List (ℕ × Op)) (s t : MachineView N) → Adds b a steps s t
+  pub alone_parts : (b : Bounds) (a : ℕ) (steps : List (ℕ × Op)) (s t : MachineView N) → SawSteps b a steps s t
       → IsAlone (λ (x : Step N). x.agent) a s.journal t.journal → Parts a steps
   alone_parts b a steps s t adds alone =
       let c = cut_at_part (λ (x : Step N). x.agent) a s.journal t.journal (adds.part, sym adds.journal) in

@@ -2,8 +2,8 @@
 use Rattle.std.proofs.Common.{List, [], ap, append-nil, append_assoc, arith, inl, inr, refl, suc, subst, sym, zero, ℕ, ◌*◌, ◌++◌, ◌+◌, ◌-◌, ◌<◌, ◌∙◌, ◌∷◌, ◌≡◌, ◌≢◌, ◌≤◌, ◌⊎◌}
 use Rattle.std.proofs.Math.Nat.{suc-mul}
 use Rattle.std.specs.Prelude.{map}
-use Rattle.orc_machine_rest.specs.OwnSteps.{BeginsWith, LeavesNothing, TakesInCleared, ops_of}
-use Rattle.orc_machine_rest.specs.Parts.{Adds, Goes, MakesRounds, NoEvents, Opens, Settles}
+use Rattle.orc_machine_rest.specs.OwnSteps.{FirstIs, LeavesNothing, TakesInCleared, ops_of}
+use Rattle.orc_machine_rest.specs.Parts.{SawSteps, Goes, MakesRounds, NoEvents, OpensTurn, Settles}
 use Rattle.orc_core.specs.Machine.{record_at}
 use Rattle.orc_core.specs.declared.ops.Op.{Op}
 use Rattle.orc_core.specs.declared.ops.Op.TheVariants.{Clear, TakeIn}
@@ -23,7 +23,7 @@ use Rattle.orc_sound.specs.declared.steps.Step.{Step}
 use Rattle.orc_words.specs.Bounds.{Bounds}
 
 -- what was taken in stays so as more steps are made
-begins_more : (op : Op) (xs ys : List Op) → BeginsWith op xs → BeginsWith op (xs ++ ys)
+begins_more : (op : Op) (xs ys : List Op) → FirstIs op xs → FirstIs op (xs ++ ys)
 begins_more op [] ys h = absurd h
 begins_more op (x ∷ xs) ys h = h
 
@@ -80,10 +80,10 @@ module _ {N : Type 0} where
     own = none-append a p.events q.events p.own q.own;
   }
 
-  pub adds_none : (b : Bounds) (a : ℕ) (s : MachineView N) → Adds b a [] s s
+  pub adds_none : (b : Bounds) (a : ℕ) (s : MachineView N) → SawSteps b a [] s s
   adds_none b a s = record { part = []; journal = sym (append-nil s.journal); steps_are = refl; quiet = quiet_none b a s.journal; taken_in = tt }
 
-  pub adds_then : (b : Bounds) (a : ℕ) (xs ys : List (ℕ × Op)) (s t u : MachineView N) → Adds b a xs s t → Adds b a ys t u → Adds b a (xs ++ ys) s u
+  pub adds_then : (b : Bounds) (a : ℕ) (xs ys : List (ℕ × Op)) (s t u : MachineView N) → SawSteps b a xs s t → SawSteps b a ys t u → SawSteps b a (xs ++ ys) s u
   adds_then b a xs ys s t u p q = record {
     part = p.part ++ q.part;
     journal = q.journal ∙ (ap (λ l. l ++ q.part) p.journal ∙ append_assoc s.journal p.part q.part);
@@ -92,10 +92,10 @@ module _ {N : Type 0} where
     taken_in = subst TakesInCleared (sym (ops-append a p.part q.part)) (takes_in_both (ops_of a p.part) (ops_of a q.part) p.taken_in q.taken_in);
   }
 
-  pub adds_as : (b : Bounds) (a : ℕ) (xs ys : List (ℕ × Op)) (s t : MachineView N) → xs ≡ ys → Adds b a xs s t → Adds b a ys s t
-  adds_as b a xs ys s t e p = subst (λ z. Adds b a z s t) e p
+  pub adds_as : (b : Bounds) (a : ℕ) (xs ys : List (ℕ × Op)) (s t : MachineView N) → xs ≡ ys → SawSteps b a xs s t → SawSteps b a ys s t
+  adds_as b a xs ys s t e p = subst (λ z. SawSteps b a z s t) e p
 
-  pub adds_leaves : (b : Bounds) (a : ℕ) (xs : List (ℕ × Op)) (s t : MachineView N) → Adds b a xs s t → LeavesNothing a s.journal t.journal
+  pub adds_leaves : (b : Bounds) (a : ℕ) (xs : List (ℕ × Op)) (s t : MachineView N) → SawSteps b a xs s t → LeavesNothing a s.journal t.journal
   adds_leaves b a xs s t p = record { ops = ops_of a p.part; done = record { part = p.part; is = p.journal; own = refl }; taken_in = p.taken_in }
 
   pub goes_none : (b : Bounds) (a : ℕ) (s : MachineView N) → IsReachedState (run_of b s.journal) → Goes b a 0 s s
@@ -110,7 +110,7 @@ module _ {N : Type 0} where
   pub goes_is : (b : Bounds) (a x y : ℕ) {s t : MachineView N} → x ≡ y → Goes b a x s t → Goes b a y s t
   goes_is b a x y {s} {t} e p = subst (λ z. Goes b a z s t) e p
 
-  pub opens_then : (b : Bounds) (a x y : ℕ) {s t u : MachineView N} → Opens b a x s t → Goes b a y t u → Opens b a (x + y) s u
+  pub opens_then : (b : Bounds) (a x y : ℕ) {s t u : MachineView N} → OpensTurn b a x s t → Goes b a y t u → OpensTurn b a (x + y) s u
   opens_then b a x y {s} {t} {u} p q = record {
     opened = opened_more a x y (run_of b s.journal) (run_of b t.journal) (run_of b u.journal) p.opened q.went;
     adds =
@@ -120,17 +120,17 @@ module _ {N : Type 0} where
         (adds_then b a (first ++ o.went.turn.steps) q.went.turn.steps s t u p.adds q.adds);
   }
 
-  pub opens_less : (b : Bounds) (a x y : ℕ) {s t : MachineView N} → y ≤ x → Opens b a x s t → Opens b a y s t
+  pub opens_less : (b : Bounds) (a x y : ℕ) {s t : MachineView N} → y ≤ x → OpensTurn b a x s t → OpensTurn b a y s t
   opens_less b a x y {s} {t} h p = record { opened = opened_less a x y (run_of b s.journal) (run_of b t.journal) h p.opened; adds = p.adds }
 
   -- it is a turn as a whole
-  pub opens_goes : (b : Bounds) (a x : ℕ) (s t : MachineView N) → IsReachedState (run_of b s.journal) → Opens b a x s t → Goes b a x s t
+  pub opens_goes : (b : Bounds) (a x : ℕ) (s t : MachineView N) → IsReachedState (run_of b s.journal) → OpensTurn b a x s t → Goes b a x s t
   opens_goes b a x s t r p = record { went = opened_went a x (run_of b s.journal) (run_of b t.journal) r p.opened; adds = p.adds }
 
   -- what opens a turn opens one with what was before it, if that was nothing or an opening itself
-  pub opens_next : (b : Bounds) (a y : ℕ) {s t u : MachineView N} → (t ≡ s) ⊎ Opens b a 0 s t → IsReachedState (run_of b t.journal)
-      → Opens b a y t u → Opens b a y s u
-  opens_next b a y {s} {t} {u} (inl e) r q = subst (λ z. Opens b a y z u) e q
+  pub opens_next : (b : Bounds) (a y : ℕ) {s t u : MachineView N} → (t ≡ s) ⊎ OpensTurn b a 0 s t → IsReachedState (run_of b t.journal)
+      → OpensTurn b a y t u → OpensTurn b a y s u
+  opens_next b a y {s} {t} {u} (inl e) r q = subst (λ z. OpensTurn b a y z u) e q
   opens_next b a y {s} {t} {u} (inr p) r q = opens_less b a (0 + y) y (omega arith) (opens_then b a 0 y p (opens_goes b a y t u r q))
 
   -- as many rounds as there were to make
@@ -146,7 +146,7 @@ module _ {N : Type 0} where
   pub settles_first : (b : Bounds) (a left : ℕ) (s t u : MachineView N) → IsReachedState (run_of b s.journal) → a < (run_of b s.journal).bounds.agents
       → IsBetweenRounds (record_at (run_of b s.journal) a)
       → left ≡ 4 * ((run_of b s.journal).bounds.rows + 8 * (run_of b s.journal).bounds.agents) - 1
-      → 1 ≤ 4 * ((run_of b s.journal).bounds.rows + 8 * (run_of b s.journal).bounds.agents) → Opens b a 1 s t → MakesRounds b a left t u → Settles b a s u
+      → 1 ≤ 4 * ((run_of b s.journal).bounds.rows + 8 * (run_of b s.journal).bounds.agents) → OpensTurn b a 1 s t → MakesRounds b a left t u → Settles b a s u
   settles_first b a left s t u r low between is big p q =
       let o = p.opened in
       let first = o.made.others ++ (a, o.op) ∷ [] in record {

@@ -5,7 +5,7 @@ use Rattle.std.proofs.lemmas.Bool.{false≢true}
 use Rattle.std.specs.Prelude.{None, map}
 use Rattle.orc_machine_rest.proofs.Joins.{ops-append, quiet_then}
 use Rattle.orc_machine_rest.specs.OwnSteps.{AtMostMore, TakesInCleared, ops_of}
-use Rattle.orc_machine_rest.specs.Parts.{Adds, NoEvents}
+use Rattle.orc_machine_rest.specs.Parts.{SawSteps, NoEvents}
 use Rattle.orc_core.specs.Allowed.{may}
 use Rattle.orc_core.specs.Machine.{Machine, is_allowed, new_machine, record_at, word_in, word_read}
 use Rattle.orc_core.specs.Runs.{IsLawful, run}
@@ -24,7 +24,7 @@ use Rattle.orc_machine_board.specs.Views.{MachineView, Makes}
 use Rattle.orc_machine_board.specs.declared.machine.MachineShape.{MachineShape}
 use Rattle.orc_projection.specs.PresentIds.{PresentIds}
 use Rattle.orc_projection.specs.Projection.{act_of, events_of, present_ids, project}
-use Rattle.orc_rest.specs.Turns.{Made, NoneOf}
+use Rattle.orc_rest.specs.Turns.{MadeAfterOthers, NoneOf}
 use Rattle.orc_rest.specs.Work.{IsSettlingStep}
 use Rattle.orc_shared_words.proofs.Events.{others_add}
 use Rattle.orc_shared_words.proofs.Runs.{by_other, by_own, cons_nil, own_of-append}
@@ -86,7 +86,7 @@ module _ {N : Type 0} where
     own = ops-append a p.part q.part ∙ (λ i. p.own i ++ q.own i);
   }
 
-  pub added_adds : (b : Bounds) (a : ℕ) (xs : List (ℕ × Op)) (ops : List Op) (s t : MachineView N) → TakesInCleared ops → Added b a xs ops s t → Adds b a xs s t
+  pub added_adds : (b : Bounds) (a : ℕ) (xs : List (ℕ × Op)) (ops : List Op) (s t : MachineView N) → TakesInCleared ops → Added b a xs ops s t → SawSteps b a xs s t
   added_adds b a xs ops s t taken p = record {
     part = p.part;
     journal = p.journal;
@@ -111,7 +111,7 @@ module _ {N : Type 0} where
     pub new_plain : plain new ≡ plain mk.met ++ (a, op) ∷ []
     new_plain = plain-append mk.met (step_of s.agent (asks op) None ∷ []) ∙ ap (λ x. plain mk.met ++ (x, op) ∷ []) its
 
-    abbrev pub made_by : Made a op (run_of b s.journal) (run_of b t.journal)
+    abbrev pub made_by : MadeAfterOthers a op (run_of b s.journal) (run_of b t.journal)
     made_by = record {
       others = plain mk.met;
       apart = apart a mk.met (ap (λ x. own_of by x mk.met) (sym its) ∙ mk.others);

@@ -5,7 +5,7 @@ use Rattle.std.specs.Prelude.{None, Option, Some, cond, is_some}
 use Rattle.orc_machine_rest.proofs.Joins.{adds_as}
 use Rattle.orc_machine_rest.proofs.Makes.{Added, added_adds, added_here, made_by, may_here, one_more}
 use Rattle.orc_machine_rest.specs.OwnSteps.{AtMostMore, TakesInCleared, answers_word}
-use Rattle.orc_machine_rest.specs.Parts.{Adds, Goes, Opens}
+use Rattle.orc_machine_rest.specs.Parts.{SawSteps, Goes, OpensTurn}
 use Rattle.orc_machine_rest.specs.Passes.{IsPassOf, record_of, state_of}
 use Rattle.orc_core.specs.Actions.{action_of}
 use Rattle.orc_core.specs.After.{after}
@@ -31,7 +31,7 @@ use Rattle.orc_rest.proofs.Opening.{opened_step}
 use Rattle.orc_rest.proofs.Stages.{made_record, made_went}
 use Rattle.orc_rest.specs.Records.{IsDone}
 use Rattle.orc_rest.specs.Rounds.{AfterStep, IsNoHand}
-use Rattle.orc_rest.specs.Turns.{Made}
+use Rattle.orc_rest.specs.Turns.{MadeAfterOthers}
 use Rattle.orc_rest.specs.Work.{IsSettlingStep, drop_of}
 use Rattle.orc_sound.proofs.Journals.{plain_lawful}
 use Rattle.orc_sound.specs.Journals.{plain}
@@ -105,7 +105,7 @@ module _ {D N : Type 0} {d : discipline.Ghosts D N} {m : machine.Ghosts Reclaimi
     pub next_pass : IsPassOf board a q
     next_pass = pass_of board a q e.belongs (e.makes.agent ∙ e.pass.agent)
 
-    abbrev pub made : Made a op (state_of board p) (state_of board q)
+    abbrev pub made : MadeAfterOthers a op (state_of board p) (state_of board q)
     made = made_by board.words.shape a op (shows p) (shows q) n e.pass.agent e.belongs.keeps.now.lawful.0 e.makes
 
     pub one_step : AtMostMore a 1 (shows p).journal (shows q).journal
@@ -132,13 +132,13 @@ module _ {D N : Type 0} {d : discipline.Ghosts D N} {m : machine.Ghosts Reclaimi
 
       module _ (taken : TakesInCleared (op ∷ [])) (allowed : is_allowed (state_of board p) a op ≡ true)
           (settles : IsSettlingStep (word_in (state_of board p)) op (record_of board a p)) where
-        adds : Adds (board_bounds board) a (made.others ++ (a, op) ∷ []) (shows p) (shows q)
+        adds : SawSteps (board_bounds board) a (made.others ++ (a, op) ∷ []) (shows p) (shows q)
         adds = added_adds (board_bounds board) a (made.others ++ (a, op) ∷ []) (op ∷ []) (shows p) (shows q) taken added
 
         pub goes : Goes (board_bounds board) a (drop_of op (record_of board a p)) (shows p) (shows q)
         goes = record { went = made_went (state_of board p) (state_of board q) a op e.pass.reached allowed settles made; adds = adds }
 
-        pub opens : IsNoHand op → Opens (board_bounds board) a (drop_of op (record_of board a p)) (shows p) (shows q)
+        pub opens : IsNoHand op → OpensTurn (board_bounds board) a (drop_of op (record_of board a p)) (shows p) (shows q)
         opens kind = record {
           opened = opened_step a op (state_of board p) (state_of board q) kind allowed settles made next_pass.reached;
           adds = adds_as (board_bounds board) a _ _ (shows p) (shows q) (sym (append-nil (made.others ++ (a, op) ∷ []))) adds;

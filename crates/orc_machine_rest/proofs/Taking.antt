@@ -3,13 +3,13 @@ use Rattle.std.proofs.Common.{List, [], refl, subst, sym, ℕ, ◌++◌, ◌+◌
 use Rattle.std.proofs.Math.Decide.{dec_lt}
 use mathlib.Core.List.{IsPrefix}
 use mathlib.Core.Logic.{dite}
-use Rattle.orc_machine_rest.specs.Drains.{Drains, Takes, TakesInAndSettles, TakesInFrom}
+use Rattle.orc_machine_rest.specs.Drains.{Drains, TakesInOne, TakesInAndSettles, TakesInFrom}
 use Rattle.orc_machine_rest.proofs.Joins.{adds_leaves, adds_none, adds_then}
 use Rattle.orc_machine_rest.proofs.Makes.{added_adds}
 use Rattle.orc_machine_rest.proofs.Passes.{Pass, StepOf, added, bounds_are, made, mine}
 use Rattle.orc_machine_rest.proofs.TakenIn.{taken_since, taken_then}
 use Rattle.orc_machine_rest.specs.OwnSteps.{HasTakenIn, LeavesNothing}
-use Rattle.orc_machine_rest.specs.Parts.{Adds, NoEvents, Settles}
+use Rattle.orc_machine_rest.specs.Parts.{SawSteps, NoEvents, Settles}
 use Rattle.orc_machine_rest.specs.Passes.{IsPassOf, record_of, state_of}
 use Rattle.orc_core.specs.Allowed.{may}
 use Rattle.orc_core.specs.Machine.{record_at}
@@ -42,7 +42,7 @@ module _ {D N : Type 0} {d : discipline.Ghosts D N} {m : machine.Ghosts Reclaimi
       (λ i. may (sym (bounds_are board p) i) 0 (h.agent i) (TakeIn k) (sym (mine board a p h) i)) ∙ take_slot (state_of board p) a k h.low between low
 
   module _ {q : Pass d m} {n : ℕ} (e : StepOf board a (TakeIn k) p q n) where
-    pub takes : Takes (board_bounds board) a k (shows p) (shows q)
+    pub takes : TakesInOne (board_bounds board) a k (shows p) (shows q)
     takes = record {
       made = made e;
       adds = added_adds (board_bounds board) a _ (TakeIn k ∷ []) (shows p) (shows q) tt (added e (λ i w. refl));
@@ -61,13 +61,13 @@ module _ {N : Type 0} (b : Bounds) (a : ℕ) where
   takes_none s r = record { took = took_none (run_of b s.journal) a r; adds = adds_none b a s }
 
   pub takes_more : (k : ℕ) (s t u : MachineView N) → IsReachedState (run_of b s.journal) → a < (run_of b s.journal).bounds.agents
-      → IsBetweenRounds (record_at (run_of b s.journal) a) → k < 8 → Takes b a k s t → TakesInFrom b a (k + 1) t u → TakesInFrom b a k s u
+      → IsBetweenRounds (record_at (run_of b s.journal) a) → k < 8 → TakesInOne b a k s t → TakesInFrom b a (k + 1) t u → TakesInFrom b a k s u
   takes_more k s t u r low between l x y = record {
     took = took_more (run_of b s.journal) (run_of b t.journal) (run_of b u.journal) a k r low between l x.made y.took;
     adds = adds_then b a (x.made.others ++ (a, TakeIn k) ∷ []) y.took.steps s t u x.adds y.adds;
   }
 
-  pub drains : (s t u v : MachineView N) → IsReachedState (run_of b s.journal) → a < (run_of b s.journal).bounds.agents → Takes b a 0 s t
+  pub drains : (s t u v : MachineView N) → IsReachedState (run_of b s.journal) → a < (run_of b s.journal).bounds.agents → TakesInOne b a 0 s t
       → TakesInFrom b a 1 t u → Settles b a u v → Drains b a s v
   drains s t u v r low x y z = record {
     drained = drained (run_of b s.journal) (run_of b t.journal) (run_of b u.journal) (run_of b v.journal) a r low x.made y.took z.settled;
@@ -104,7 +104,7 @@ module _ {N : Type 0} (b : Bounds) (a : ℕ) (s t : MachineView N) (p : TakesInA
   abbrev both_steps : List (ℕ × Op)
   both_steps = (p.takes.made.others ++ (a, TakeIn 0) ∷ []) ++ p.settles.settled.steps
 
-  adds_both : Adds b a both_steps s t
+  adds_both : SawSteps b a both_steps s t
   adds_both = adds_then b a (p.takes.made.others ++ (a, TakeIn 0) ∷ []) p.settles.settled.steps s p.between t p.takes.adds p.settles.adds
 
   pub both_quiet : NoEvents b a s.journal t.journal

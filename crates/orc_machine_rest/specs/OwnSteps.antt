@@ -7,14 +7,14 @@ use Rattle.orc_sound.specs.declared.steps.Step.{Step}
 use Rattle.orc_words.specs.Bounds.{Bounds}
 
 -- the first of these is this op
-abbrev pub BeginsWith : Op → List Op → Type 0
-BeginsWith op [] = ⊥
-BeginsWith op (first ∷ rest) = first ≡ op
+abbrev pub FirstIs : Op → List Op → Type 0
+FirstIs op [] = ⊥
+FirstIs op (first ∷ rest) = first ≡ op
 
 -- right after each Clear of a slot comes the TakeIn of that slot
 abbrev pub TakesInCleared : List Op → Type 0
 TakesInCleared [] = Unit {0}
-TakesInCleared (Clear slot ∷ ops) = BeginsWith (TakeIn slot) ops × TakesInCleared ops
+TakesInCleared (Clear slot ∷ ops) = FirstIs (TakeIn slot) ops × TakesInCleared ops
 TakesInCleared (op ∷ ops) = TakesInCleared ops
 
 -- the kinds that settle and answer the word that they read

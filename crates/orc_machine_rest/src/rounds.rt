@@ -3,12 +3,12 @@
 ghost use Rattle.std.specs.Prelude.{◌≡◌, ◌-◌, ◌+◌, ◌*◌, ◌≤◌, IfSome, None, true};
 ghost use Rattle.orc_machine_rest.specs.Drains.{TakesInAndSettles};
 ghost use Rattle.orc_machine_rest.specs.OwnSteps.{AtMostMore, HasTakenIn, LeavesNothing, most_rounds, steps_a_round};
-ghost use Rattle.orc_machine_rest.specs.Parts.{MakesRounds, NoEvents, Opens, Settles};
+ghost use Rattle.orc_machine_rest.specs.Parts.{MakesRounds, NoEvents, OpensTurn, Settles};
 ghost use Rattle.orc_machine_rest.specs.Passes.{IsPassOf, record_of};
 ghost use Rattle.orc_core.specs.RecordParts.{scans};
 ghost use Rattle.orc_history.specs.Parts.{IsAlone};
 ghost use Rattle.orc_machine_board.specs.Views.{Belongs, board_bounds, shows};
-ghost use Rattle.orc_rest.specs.Records.{IsBetweenRounds, IsDone, IsNext, IsScanOf, IsStill};
+ghost use Rattle.orc_rest.specs.Records.{IsBetweenRounds, IsDone, IsScannedNext, IsScanOf, IsStill};
 
 use crate::steps::{free_doomed, kept, look_step, settle_step, take_in, unretire_scanned};
 use orc_core::{CounterUse, Op};
@@ -37,7 +37,7 @@ fn look_over<D: Discipline>(
     requires scan { IsScanOf row first (record_of board.now agent p.old).scan }
     requires place { first ≤ 8 * (board_bounds board.now).agents }
     ensures pass { IsPassOf board.now agent p.new }
-    ensures opens { Opens (board_bounds board.now) agent 1 (shows p.old) (shows p.new) }
+    ensures opens { OpensTurn (board_bounds board.now) agent 1 (shows p.old) (shows p.new) }
     ensures between { IsBetweenRounds (record_of board.now agent p.new) }
     ensures few { AtMostMore agent (steps_a_round (board_bounds board.now) - 1) (shows p.old).journal (shows p.new).journal }
 {
@@ -62,7 +62,7 @@ fn next_work<D: Discipline>(
     agent: u32,
 ) -> Option<u32>
     requires pass { IsPassOf board.now agent p.now }
-    ensures some { IfSome result (λ row. IsNext row (record_of board.now agent p.now)) }
+    ensures some { IfSome result (λ row. IsScannedNext row (record_of board.now agent p.now)) }
     ensures none { result ≡ None → IsDone (record_of board.now agent p.now) }
 {
     let record = kept(board, p, agent);
@@ -84,7 +84,7 @@ fn scan_round<D: Discipline>(
     requires between { IsBetweenRounds (record_of board.now agent p.old) }
     requires scans { scans (record_of board.now agent p.old).scan row ≡ true }
     ensures pass { IsPassOf board.now agent p.new }
-    ensures opens { Opens (board_bounds board.now) agent 1 (shows p.old) (shows p.new) }
+    ensures opens { OpensTurn (board_bounds board.now) agent 1 (shows p.old) (shows p.new) }
     ensures between { IsBetweenRounds (record_of board.now agent p.new) }
     ensures few { AtMostMore agent (steps_a_round (board_bounds board.now) - 1) (shows p.old).journal (shows p.new).journal }
 {
@@ -102,9 +102,9 @@ fn scan_round<D: Discipline>(
 fn round<D: Discipline>(board: &MachineBoard<D>, p: &mut MachineBoardPass<D>, agent: u32, row: u32)
     requires pass { IsPassOf board.now agent p.old }
     requires between { IsBetweenRounds (record_of board.now agent p.old) }
-    requires next { IsNext row (record_of board.now agent p.old) }
+    requires next { IsScannedNext row (record_of board.now agent p.old) }
     ensures pass { IsPassOf board.now agent p.new }
-    ensures opens { Opens (board_bounds board.now) agent 1 (shows p.old) (shows p.new) }
+    ensures opens { OpensTurn (board_bounds board.now) agent 1 (shows p.old) (shows p.new) }
     ensures between { IsBetweenRounds (record_of board.now agent p.new) }
     ensures few { AtMostMore agent (steps_a_round (board_bounds board.now)) (shows p.old).journal (shows p.new).journal }
 {

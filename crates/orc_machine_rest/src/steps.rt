@@ -1,10 +1,10 @@
 //! The parts of a round: steps, and what follows one another without a choice.
 
 ghost use Rattle.std.specs.Prelude.{◌≡◌, ◌<◌, ◌*◌, ◌+◌, None, Some, [], ◌∷◌, false, true};
-ghost use Rattle.orc_machine_rest.specs.Drains.{Takes};
+ghost use Rattle.orc_machine_rest.specs.Drains.{TakesInOne};
 ghost use Rattle.orc_machine_rest.specs.OwnSteps.{AtMostMore, HasTakenIn, TakesInCleared, answers_word};
 ghost use Rattle.orc_core.specs.After.{after};
-ghost use Rattle.orc_machine_rest.specs.Parts.{Goes, Opens};
+ghost use Rattle.orc_machine_rest.specs.Parts.{Goes, OpensTurn};
 ghost use Rattle.orc_machine_rest.specs.Passes.{IsPassOf, record_of, state_of};
 ghost use Rattle.orc_core.specs.Machine.{is_allowed, word_in};
 ghost use Rattle.orc_core.specs.RecordParts.{is_empty, scan_empty, scan_found, scans, slot_of};
@@ -13,7 +13,7 @@ ghost use Rattle.orc_core.specs.declared.records.SlotUse.TheVariants.{Empty};
 ghost use Rattle.orc_machine_board.specs.Kinds.{is_plain_kind};
 ghost use Rattle.orc_machine_board.specs.Views.{board_bounds, shows};
 ghost use Rattle.orc_rest.specs.Records.{DueFits, IsBetweenRounds, IsDoomOf, IsScanOf, IsSettling, IsStill, SameTasks};
-ghost use Rattle.orc_rest.specs.Rounds.{AfterStep, IsNoHand, Looks};
+ghost use Rattle.orc_rest.specs.Rounds.{AfterStep, IsNoHand, LooksAtSlot};
 ghost use Rattle.orc_rest.specs.Work.{IsSettlingStep, drop_of};
 
 use orc_core::{Agent, Op, Reading};
@@ -50,7 +50,7 @@ pub(crate) fn settle_step<D: Discipline>(
     requires settles { IsSettlingStep (word_in (state_of board.now p.old)) op (record_of board.now agent p.old) }
     ensures pass { IsPassOf board.now agent p.new }
     ensures goes { Goes (board_bounds board.now) agent (drop_of op (record_of board.now agent p.old)) (shows p.old) (shows p.new) }
-    ensures opens { IsNoHand op → Opens (board_bounds board.now) agent (drop_of op (record_of board.now agent p.old)) (shows p.old) (shows p.new) }
+    ensures opens { IsNoHand op → OpensTurn (board_bounds board.now) agent (drop_of op (record_of board.now agent p.old)) (shows p.old) (shows p.new) }
     ensures after { AfterStep agent op (state_of board.now p.old) (state_of board.now p.new) }
     ensures read { answers_word op ≡ true → record_of board.now agent p.new ≡ after op (record_of board.now agent p.old) result }
     ensures few { AtMostMore agent 1 (shows p.old).journal (shows p.new).journal }
@@ -71,8 +71,8 @@ pub(crate) fn look_step<D: Discipline>(
     requires scan { IsScanOf row k (record_of board.now agent p.old).scan }
     requires place { k < 8 * (state_of board.now p.old).bounds.agents }
     ensures pass { IsPassOf board.now agent p.new }
-    ensures opens { Opens (board_bounds board.now) agent 0 (shows p.old) (shows p.new) }
-    ensures looks { Looks agent row k (state_of board.now p.old) (state_of board.now p.new) }
+    ensures opens { OpensTurn (board_bounds board.now) agent 0 (shows p.old) (shows p.new) }
+    ensures looks { LooksAtSlot agent row k (state_of board.now p.old) (state_of board.now p.new) }
     ensures found { result ≡ scan_found (record_of board.now agent p.new).scan }
     ensures few { AtMostMore agent 1 (shows p.old).journal (shows p.new).journal }
 {
@@ -149,7 +149,7 @@ pub(crate) fn take_in<D: Discipline>(
     requires slot { k < 8 }
     ensures pass { IsPassOf board.now agent p.new }
     ensures between { IsBetweenRounds (record_of board.now agent p.new) }
-    ensures takes { Takes (board_bounds board.now) agent k (shows p.old) (shows p.new) }
+    ensures takes { TakesInOne (board_bounds board.now) agent k (shows p.old) (shows p.new) }
     ensures taken_in { HasTakenIn agent k (shows p.old).journal (shows p.new).journal }
     ensures few { AtMostMore agent 1 (shows p.old).journal (shows p.new).journal }
 {
@@ -197,7 +197,7 @@ pub(crate) fn unretire_scanned<D: Discipline>(
     requires linked { scan_empty (record_of board.now agent p.old).scan ≡ false }
     requires doom { (record_of board.now agent p.old).doom ≡ None }
     ensures pass { IsPassOf board.now agent p.new }
-    ensures opens { Opens (board_bounds board.now) agent 1 (shows p.old) (shows p.new) }
+    ensures opens { OpensTurn (board_bounds board.now) agent 1 (shows p.old) (shows p.new) }
     ensures between { IsBetweenRounds (record_of board.now agent p.new) }
     ensures few { AtMostMore agent 5 (shows p.old).journal (shows p.new).journal }
 {

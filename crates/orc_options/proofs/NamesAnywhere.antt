@@ -14,7 +14,7 @@ use Rattle.clap.specs.declared.builder.action.ArgAction.TheVariants.{Set}
 use Rattle.clap.specs.declared.builder.value_parser.ValueParser.TheVariants as vp
 use Rattle.clap.specs.declared.error.kind.ErrorKind.TheVariants as kind
 use Rattle.orc_options.specs.Options.{IsCommand, command_app}
-use Rattle.orc_options.specs.Settings.{Gives, Refuses, settings_in}
+use Rattle.orc_options.specs.Settings.{GivesSettings, RefusesWords, settings_in}
 use Rattle.orc_options.specs.declared.settings.Settings.{Settings}
 use Rattle.orc_options.proofs.AlikeRules.{Alike, AlikeIfSome, alike_if_some, next_alike, settle_fault, settled, walk, walk_fault}
 
@@ -169,9 +169,9 @@ module _ (a b : App) (is : IsCommand a) (is_too : IsCommand b) where
       ∙ (same_matches (held a is) (held b is_too) same_words words ∙ sym (ap (λ x. matches_of x words) is_too.app))
 
 -- words give one answer
-pub never_both : (words : List Text) (s : Settings) → Gives words s → Refuses words → ⊥
+pub never_both : (words : List Text) (s : Settings) → GivesSettings words s → RefusesWords words → ⊥
 never_both words s gives refuses = refuses.refused (one_fault refuses.app gives.app refuses.is_command gives.is_command words ∙ gives.taken)
 
-pub one_settings : (words : List Text) (s t : Settings) → Gives words s → Gives words t → s ≡ t
+pub one_settings : (words : List Text) (s t : Settings) → GivesSettings words s → GivesSettings words t → s ≡ t
 one_settings words s t one two =
     one.settings ∙ (ap settings_in (same_rows one.app two.app one.is_command two.is_command words) ∙ sym two.settings)

@@ -71,18 +71,18 @@ pub record AreInRange (s : Settings) : Type 0 where
   pub few_lines : s.lines ≤ ranges.lines.high
 
 -- `clap` takes the words, and its matches give these settings
-pub record Gives (words : List Text) (s : Settings) : Type 0 where
+pub record GivesSettings (words : List Text) (s : Settings) : Type 0 where
   pub app : App
   pub is_command : IsCommand app
   pub taken : fault_of app words ≡ []
   pub settings : s ≡ settings_in (matches_of app words)
 
 -- `clap` refuses the words, for another cause than memory
-pub record Refuses (words : List Text) : Type 0 where
+pub record RefusesWords (words : List Text) : Type 0 where
   pub app : App
   pub is_command : IsCommand app
   pub refused : fault_of app words ≢ []
 
 -- the words ask for this mode
 abbrev pub AskFor : List Text → Mode → Type 0
-AskFor words m = (s : Settings) × Gives words s × (s.mode ≡ m)
+AskFor words m = (s : Settings) × GivesSettings words s × (s.mode ≡ m)

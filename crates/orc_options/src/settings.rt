@@ -4,7 +4,7 @@ ghost use Rattle.std.specs.Prelude.{◌≡◌, ◌≢◌, ◌≤◌, IfErr, IfOk
 ghost use Rattle.clap.specs.Words.{found_of, one_text, rows_of};
 ghost use Rattle.orc_options.specs.declared.settings.Settings.{Settings};
 ghost use Rattle.orc_options.specs.Ranges.{range_of};
-ghost use Rattle.orc_options.specs.Settings.{AreInRange, Gives, Refuses, mode_in, number_in, set_in, yes_in};
+ghost use Rattle.orc_options.specs.Settings.{AreInRange, GivesSettings, RefusesWords, mode_in, number_in, set_in, yes_in};
 ghost use Rattle.orc_options.specs.Settings.{settings_in as read_settings};
 
 use crate::CommandWords;
@@ -146,9 +146,9 @@ fn refused_by(kind: ErrorKind) -> Refused
 /// * `Words` exactly where `clap` refuses the words for another cause than memory; help and a version count as refused.
 /// * `NoMemory` where memory is refused.
 pub fn settings_of(alloc: Global, words: &CommandWords) -> Result<Settings, Refused>
-    ensures gives { IfOk result (Gives words.now) }
+    ensures gives { IfOk result (GivesSettings words.now) }
     ensures ranges { IfOk result AreInRange }
-    ensures refuses { IfErr result (λ why. why ≡ Refused.Words → Refuses words.now) }
+    ensures refuses { IfErr result (λ why. why ≡ Refused.Words → RefusesWords words.now) }
 {
     let Ok(command) = command(alloc) else {
         return Err(Refused::NoMemory);
@@ -181,6 +181,6 @@ fn settings_in(matches: &ArgMatches<'_>) -> Settings
 /// A law, with nothing to run: words give one answer. They don't both give settings and have them refused, and give the same
 /// settings each time.
 pub fn words_have_one_answer()
-    ensures never_both { (words : List (List ℕ)) (s : Settings) → Gives words s → Refuses words → ⊥ }
-    ensures same { (words : List (List ℕ)) (s t : Settings) → Gives words s → Gives words t → s ≡ t }
+    ensures never_both { (words : List (List ℕ)) (s : Settings) → GivesSettings words s → RefusesWords words → ⊥ }
+    ensures same { (words : List (List ℕ)) (s t : Settings) → GivesSettings words s → GivesSettings words t → s ≡ t }
 {}

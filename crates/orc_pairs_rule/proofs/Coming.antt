@@ -18,7 +18,7 @@ use Rattle.orc_pairs_rule.specs.declared.pairs.PairsNote.{PairsNote}
 use Rattle.orc_pairs_rule.specs.declared.pairs.PairsNote.TheVariants.{Entry, Stage, Unstage}
 use Rattle.orc_pairs_rule.specs.CellHistory.{Parts, no_parts, replaced}
 use Rattle.orc_pairs_rule.specs.PairsDiscipline.{HasPair, HasPart, IsNoMove, IsPair, IsPart, IsStaging, KeepsSide, PairsHolds, PairsMay, entries_of, parts_of}
-use Rattle.orc_pairs_rule.specs.Watches.{Follows, IsKept, IsOwnPair}
+use Rattle.orc_pairs_rule.specs.Watches.{MayFollow, IsKept, IsOwnPair}
 use Rattle.orc_pairs_rule.specs.Laws.Histories.{legal-join}
 use Rattle.orc_pairs_rule.specs.Laws.Kept.{pairs_fits, pairs_keeps, pairs_moves_linked, unnoted_allowed}
 use Rattle.orc_pairs_rule.proofs.Later.{holds_later, pair_later, part_later}
@@ -121,7 +121,7 @@ module _ (n : HeapNumbers) (agent : ℕ) (seen : List (Event PairsNote)) (holds 
 
   -- a Published of the agent's own pair, wherever root 0 shows what it may follow
   pub publish_own : (left right : Option ℕ) (from : Link) (id l r : ℕ) (parts : Parts) → n.links ≡ 2 → IsOwnPair (run_heap n seen) agent id l r parts
-      → Follows (run_heap n seen) left right from l r parts
+      → MayFollow (run_heap n seen) left right from l r parts
       → AllowedLater (PairsMay n) n agent seen (Root 0) from
       (event_by agent (Move (Root 0) from (link_to id)) (Some (Entry (Published agent left right parts.left parts.right))))
   publish_own left right from id l r parts two own follows = λ more later at.

@@ -32,6 +32,6 @@ pub record FollowsPair (h : Heap) (given_left given_right : Option ℕ) (from : 
   pub keeps_right : IsKept given_right old_right right
 
 -- such a node may follow what root 0 shows: null, or a pair
-abbrev pub Follows : Heap → Option ℕ → Option ℕ → Link → ℕ → ℕ → Parts → Type 0
-Follows h given_left given_right from left right parts =
+abbrev pub MayFollow : Heap → Option ℕ → Option ℕ → Link → ℕ → ℕ → Parts → Type 0
+MayFollow h given_left given_right from left right parts =
     ((from ≡ null) × (replaced given_left given_right no_parts ≡ parts)) ⊎ FollowsPair h given_left given_right from left right parts

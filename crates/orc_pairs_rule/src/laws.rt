@@ -12,7 +12,7 @@ ghost use Rattle.orc_heap.specs.declared.events.Place.{Place};
 ghost use Rattle.orc_history.specs.Journals.{own_of};
 ghost use Rattle.orc_pairs_rule.specs.CellHistory.{IsLegalCell, Parts, agent_of_entry, no_parts, parts_after, replaced};
 ghost use Rattle.orc_pairs_rule.specs.PairsDiscipline.{HasPair, HasPart, IsPart, IsStaging, PairsHolds, PairsMay, ShowsParts, entries_in, entries_of, pairs_rank, parts_of};
-ghost use Rattle.orc_pairs_rule.specs.Watches.{Follows, IsOwnPair};
+ghost use Rattle.orc_pairs_rule.specs.Watches.{MayFollow, IsOwnPair};
 ghost use Rattle.orc_pairs_rule.specs.declared.entry.CellEntry.{CellEntry};
 ghost use Rattle.orc_pairs_rule.specs.declared.pairs.PairsNote.{PairsNote};
 
@@ -94,7 +94,7 @@ pub fn a_stage_may_come()
 pub fn a_published_may_come()
     ensures { (n : HeapNumbers) (agent : ℕ) (seen : List (Event PairsNote)) (left right : Option ℕ) (from : Link) (id l r : ℕ) (parts : Parts)
         → PairsHolds n seen → n.links ≡ 2 → IsOwnPair (run_heap n seen) agent id l r parts
-        → Follows (run_heap n seen) left right from l r parts
+        → MayFollow (run_heap n seen) left right from l r parts
         → AllowedLater (PairsMay n) n agent seen (Place.Root 0) from
         (event_by agent (Act.Move (Place.Root 0) from (link_to id)) (Some (PairsNote.Entry (CellEntry.Published agent left right parts.left parts.right)))) }
 {}

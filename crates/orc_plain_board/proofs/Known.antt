@@ -14,7 +14,7 @@ use Rattle.orc_shared_words.specs.Lists.{Among}
 use Rattle.orc_shared_words.specs.Runs.{AgentsBelow}
 use Rattle.orc_shared_words.specs.declared.journal.View.{View}
 use Rattle.orc_shared_words.proofs.Events.{AllBy}
-use Rattle.orc_plain_board.specs.Calls.{Adds}
+use Rattle.orc_plain_board.specs.Calls.{AddsOwn}
 use Rattle.orc_plain_board.specs.Machine.{State, AllowedFrom, events_at, finds, index_of, next, numbers, project, project_from, run, start}
 use Rattle.orc_plain_board.specs.Rules.{opening_steps, project-append}
 use Rattle.orc_plain_board.specs.Views.{FreshHeld, IsFreshRow, Keeps, PlainView, heap_of, view_of}
@@ -58,7 +58,7 @@ none_at_all n [] b none = refl
 none_at_all n (e ∷ es) b none = absurd ((other_first e.agent e es (none e.agent b.0)).0 refl)
 
 -- a pass that took in those of all other agents meets no event
-pub alone : {N : Type 0} (n : ℕ) (may : List (Event N) → Event N → Type 0) (own : List (Event N)) (s t : PlainView N) → Adds may own s t
+pub alone : {N : Type 0} (n : ℕ) (may : List (Event N) → Event N → Type 0) (own : List (Event N)) (s t : PlainView N) → AddsOwn may own s t
     → IsBelow n t.events → ((a : ℕ) → a < n → (s.agent ≡ a) ⊎ Among a s.absorbed) → t.events ≡ s.events ++ own
 alone n may own s t adds below all =
     let none : adds.met ≡ [] =

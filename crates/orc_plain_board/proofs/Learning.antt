@@ -5,7 +5,7 @@ use Rattle.orc_words.specs.Bounds.{Bounds, bounds_of}
 use Rattle.orc_heap.specs.Allowed.{AllAllowed, events_by}
 use Rattle.orc_heap.specs.declared.discipline.Discipline as discipline
 use Rattle.orc_heap.specs.declared.events.Event.{Event}
-use Rattle.orc_shared_words.specs.Learning.{Learned, SameButSeen}
+use Rattle.orc_shared_words.specs.Learning.{LearnedBoth, SameButSeen}
 use mathlib.Core.List.{IsPrefix}
 use Rattle.orc_shared_words.specs.Runs.{AgentsBelow}
 use Rattle.orc_history.specs.Journals.{own_of}
@@ -89,7 +89,7 @@ module _ {D N : Type 0} (d : discipline.Ghosts D N) (q : PlainShape N) where
   }
 
   module _ (v u w x : View (PlainStep N) (Unit {0})) (a b c o : ℕ) (fresh fresh2 fresh3 fresh4 : Option ℕ) (h : Keeps q holds may v a fresh)
-      (i : Keeps q holds may u b fresh2) (l : Learned by v u w x) (e : c ≡ a) (f : fresh3 ≡ fresh) (e2 : o ≡ b) (f2 : fresh4 ≡ fresh2) where
+      (i : Keeps q holds may u b fresh2) (l : LearnedBoth by v u w x) (e : c ≡ a) (f : fresh3 ≡ fresh) (e2 : o ≡ b) (f2 : fresh4 ≡ fresh2) where
     into_more : IsPrefix v.seen w.seen
     into_more = ⊎_elim (λ (t : IsPrefix u.seen v.seen × (w.seen ≡ v.seen)). prefix_same v.seen w.seen t.1)
         (λ (t : IsPrefix v.seen u.seen × (w.seen ≡ u.seen)). subst (IsPrefix v.seen) (sym t.1) t.0) l.longer

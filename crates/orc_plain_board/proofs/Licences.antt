@@ -23,7 +23,7 @@ use Rattle.orc_heap.specs.declared.events.Place.TheVariants.{Next as AtNext, Sid
 use Rattle.orc_heap.proofs.Sides.{side_there}
 use Rattle.orc_heap.proofs.Stays.{stays}
 use Rattle.orc_shared_words.specs.Lists.{Each}
-use Rattle.orc_shared_words.specs.Steps.{Licensed}
+use Rattle.orc_shared_words.specs.Steps.{IsAllowedLater}
 use Rattle.orc_shared_words.specs.declared.journal.View.{View}
 use Rattle.orc_plain_board.specs.Calls.{KnowsPlace, KnowsRow, KnowsTarget, MayWhereFits, MayWhereShown, aim_event, look_event, move_event}
 use Rattle.orc_plain_board.specs.Machine.{State, IsLinkWord, IsRowLink, events_of, finds, id_by, index_of, link_at, link_by, numbers, place_by, project, project_from, run, run_from, start, tested}
@@ -192,7 +192,7 @@ module _ {D N : Type 0} (d : discipline.Ghosts D N) (q : PlainShape N) (v : View
   pub from_mid : (op : PlainOp) (said : Option N)
       → ((between : List (PlainStep N)) → Mid k may v.seen between a → holds (project k (v.seen ++ between))
       → Each (may (project k (v.seen ++ between))) (events_of (run_from k (run k v.seen) between) a op (finds k (run_from k (run k v.seen) between) op) said))
-      → Licensed plain_rules q holds may v a op said
+      → IsAllowedLater plain_rules q holds may v a op said
   from_mid op said f between none later =
       let m = mid_of d k v.seen between a h.began none later.lawful later.each in
       subst (λ z. Each (may (project k (v.seen ++ between))) (events_of z a op (finds k z op) said)) (sym m.state) (f between m later.kept)
@@ -202,7 +202,7 @@ module _ {D N : Type 0} (d : discipline.Ghosts D N) (q : PlainShape N) (v : View
       → Fits e.agent e.act x.heap → IsPlain e → may (project k seen) e
   stands seen x e heap hk f plain = d.allows_plain (numbers k) (project k seen) e hk (subst (λ z. Fits e.agent e.act z) (sym heap) f) plain
 
-  look_licence : (at : Word) → KnowsPlace k s at → Licensed plain_rules q holds may v a (LinkLoad at None) None
+  look_licence : (at : Word) → KnowsPlace k s at → IsAllowedLater plain_rules q holds may v a (LinkLoad at None) None
   look_licence at knows = from_mid (LinkLoad at None) None
       (λ between m hk. let x : State = run_from k (run k v.seen) between in
       let g = given_more k (run k v.seen) between in
@@ -256,7 +256,7 @@ module _ {D N : Type 0} (d : discipline.Ghosts D N) (q : PlainShape N) (v : View
       (stays may holds (λ es e p m. d.keeps (numbers k) es e p m) (project k v.seen) more h.now.kept later.allowed) there (refl, tt)
 
   want_licence : (at : Word) (w : RowLink) (said : Option N) → KnowsPlace k s at → KnowsTarget k s w
-      → MayWhereShown may k s at w (look_event s at w said) → Licensed plain_rules q holds may v a (LinkLoad at (Some w)) said
+      → MayWhereShown may k s at w (look_event s at w said) → IsAllowedLater plain_rules q holds may v a (LinkLoad at (Some w)) said
   want_licence at w said knows from allowed =
       from_mid (LinkLoad at (Some w)) said (may_test at w w (λ p l _. event_by a (act.Look p l) said) knows from from allowed)
 
@@ -264,13 +264,13 @@ module _ {D N : Type 0} (d : discipline.Ghosts D N) (q : PlainShape N) (v : View
   pub load_licence : (at : Word) (want : Option RowLink) (said : Option N) → KnowsPlace k s at → ((w : RowLink) → want ≡ Some w → KnowsTarget k s w)
       → (want ≡ None → said ≡ None)
       → ((w : RowLink) (x : N) → want ≡ Some w → said ≡ Some x → MayWhereShown may k s at w (look_event s at w said))
-      → Licensed plain_rules q holds may v a (LinkLoad at want) said
-  load_licence at None said knows known none allowed = subst (Licensed plain_rules q holds may v a (LinkLoad at None)) (sym (none refl)) (look_licence at knows)
+      → IsAllowedLater plain_rules q holds may v a (LinkLoad at want) said
+  load_licence at None said knows known none allowed = subst (IsAllowedLater plain_rules q holds may v a (LinkLoad at None)) (sym (none refl)) (look_licence at knows)
   load_licence at (Some w) None knows known none allowed = want_licence at w None knows (known w refl) (plain_look at w)
   load_licence at (Some w) (Some x) knows known none allowed = want_licence at w (Some x) knows (known w refl) (allowed w x refl refl)
 
   pub cas_licence : (at : Word) (w t : RowLink) (said : Option N) → KnowsPlace k s at → KnowsTarget k s w → KnowsTarget k s t
-      → MayWhereShown may k s at w (move_event s at w t said) → Licensed plain_rules q holds may v a (LinkCas at w t) said
+      → MayWhereShown may k s at w (move_event s at w t said) → IsAllowedLater plain_rules q holds may v a (LinkCas at w t) said
   cas_licence at w t said knows from to allowed =
       from_mid (LinkCas at w t) said (may_test at w t (λ p l m. event_by a (act.Move p l m) said) knows from to allowed)
 
@@ -281,7 +281,7 @@ module _ {D N : Type 0} (d : discipline.Ghosts D N) (q : PlainShape N) (v : View
       let u = mid_fresh k may v.seen between a m (Some row) (subst (FreshHeld a (run k v.seen)) e h.untouched) in
       record { node = u.1.node; there = u.1.there; mine = u.1.mine; unlinked = u.1.unlinked }
 
-  pub fill_licence : (row which value : ℕ) → fresh ≡ Some row → which < 2 → Licensed plain_rules q holds may v a (Fill row which value) None
+  pub fill_licence : (row which value : ℕ) → fresh ≡ Some row → which < 2 → IsAllowedLater plain_rules q holds may v a (Fill row which value) None
   fill_licence row which value is low = from_mid (Fill row which value) None
       (λ between m hk. let x : State = run_from k (run k v.seen) between in
       stands (v.seen ++ between) x (event_by a (act.Fill (index_of row x.given) which value) None) m.heap hk (fresh_at between m row is, low) (refl, tt))
@@ -292,7 +292,7 @@ module _ {D N : Type 0} (d : discipline.Ghosts D N) (q : PlainShape N) (v : View
   aim_fits h (suc number) id to low f t = (f, t, omega (arith, low))
 
   pub store_licence : (row number : ℕ) (l : RowLink) → fresh ≡ Some row → number < k.links → KnowsTarget k s l
-      → MayWhereFits may k s (aim_event s row number l) → Licensed plain_rules q holds may v a (LinkStore row number l.to) None
+      → MayWhereFits may k s (aim_event s row number l) → IsAllowedLater plain_rules q holds may v a (LinkStore row number l.to) None
   store_licence row number l is low knows allowed = from_mid (LinkStore row number l.to) None
       (λ between m hk.
       let x : State = run_from k (run k v.seen) between in

@@ -21,7 +21,7 @@ use Rattle.orc_heap.specs.declared.events.Place.{Place}
 use Rattle.orc_heap.proofs.Untouched.{names_other, target_from, untouched_after}
 use Rattle.orc_shared_words.specs.Steps.{Extends}
 use Rattle.orc_shared_words.specs.declared.journal.View.{View}
-use Rattle.orc_plain_board.specs.Calls.{Adds, MissesWanted, FindsLink, KnowsPlace, KnowsTarget, Misses, Replaces, look_event, move_event, unless_linked}
+use Rattle.orc_plain_board.specs.Calls.{AddsOwn, MissesWanted, FindsLink, KnowsPlace, KnowsTarget, Misses, Replaces, look_event, move_event, unless_linked}
 use Rattle.orc_plain_board.specs.Machine.{State, finds, id_by, index_of, link_at, link_by, numbers, place_by, project, project_from, run, run_from, taken, tested}
 use Rattle.orc_plain_board.specs.Rules.{plain_rules}
 use Rattle.orc_plain_board.specs.Views.{FreshHeld, Keeps, PlainView, heap_of, view_of}
@@ -118,7 +118,7 @@ module _ {D N : Type 0} (d : discipline.Ghosts D N) (q : PlainShape N) (v w : Vi
         link = sh.link;
         word = word_then wk refl sh.link n (subst (IsWord y.given sh.link.to sh.link.mark) (sym wk.answers) sh.word);
         known = known_then wk (place_by y.given place) sh.link sh.is;
-        adds = subst (λ (z : Place × Link). Adds may (event_by a (act.Look z.0 z.1) None ∷ []) s t) (λ i. (there.1 i, ap link_at sh.is i))
+        adds = subst (λ (z : Place × Link). AddsOwn may (event_by a (act.Look z.0 z.1) None ∷ []) s t) (λ i. (there.1 i, ap link_at sh.is i))
             (added d q v w a c fresh looked fresh2 looked2 h e (LinkLoad place None) said n x);
       }
 
@@ -158,10 +158,10 @@ module _ {D N : Type 0} (d : discipline.Ghosts D N) (q : PlainShape N) (v w : Vi
       (ne_eqb (slice_index y.words (word_place k place)) (link_word from) (λ z. other (is ∙ z))) (same ∙ sym lw.1)
 
   want_meets : (place : Word) (l : RowLink) (said : Option N) (n : ℕ) → KnowsPlace k s place → KnowsTarget k s l → n ≡ link_word l
-      → Made (LinkLoad place (Some l)) said n → Adds may (look_event s place l said ∷ []) s t
+      → Made (LinkLoad place (Some l)) said n → AddsOwn may (look_event s place l said ∷ []) s t
   want_meets place l said n knows known is x =
       let wk = walks (LinkLoad place (Some l)) said n x in
-      subst (λ z. Adds may (z ∷ []) s t)
+      subst (λ z. AddsOwn may (z ∷ []) s t)
       (hit_event wk place l l (λ p m _. event_by a (act.Look p m) said) (finds k (at wk) (LinkLoad place (Some l))) knows known known
       (sym wk.answers ∙ is)) (added d q v w a c fresh looked fresh2 looked2 h e (LinkLoad place (Some l)) said n x)
 
@@ -177,7 +177,7 @@ module _ {D N : Type 0} (d : discipline.Ghosts D N) (q : PlainShape N) (v w : Vi
         other = other_link wk place l found knows known refl other2;
         word = word_then wk refl sh.link n (subst (IsWord y.given sh.link.to sh.link.mark) (sym wk.answers) sh.word);
         known = known_then wk (place_by y.given place) sh.link sh.is;
-        adds = subst (λ z. Adds may (z ∷ []) s t)
+        adds = subst (λ z. AddsOwn may (z ∷ []) s t)
             (miss_event wk place l (event_by a (act.Look (place_by y.given place) (link_by y.given l)) said) found knows known other2)
             (added d q v w a c fresh looked fresh2 looked2 h e (LinkLoad place (Some l)) said n x);
       }
@@ -203,7 +203,7 @@ module _ {D N : Type 0} (d : discipline.Ghosts D N) (q : PlainShape N) (v w : Vi
 
   pub any_meets : (place : Word) (want : Option RowLink) (l : RowLink) (said : Option N) (n : ℕ) → KnowsPlace k s place
       → ((m : RowLink) → want ≡ Some m → KnowsTarget k s m) → want ≡ Some l → n ≡ link_word l → Made (LinkLoad place want) said n
-      → Adds may (look_event s place l said ∷ []) s t
+      → AddsOwn may (look_event s place l said ∷ []) s t
   any_meets place None l said n knows known is hits x = cc
   any_meets place (Some m) l said n knows known is hits x = let same : m ≡ l = some_one m l is in
       want_meets place l said n knows (known l is) hits (subst (λ z. Made (LinkLoad place (Some z)) said n) same x)
@@ -216,10 +216,10 @@ module _ {D N : Type 0} (d : discipline.Ghosts D N) (q : PlainShape N) (v w : Vi
       want_misses place l said n knows (known l is) other (subst (λ z. Made (LinkLoad place (Some z)) said n) same x)
 
   pub cas_moves : (place : Word) (from to : RowLink) (said : Option N) (n : ℕ) → KnowsPlace k s place → KnowsTarget k s from → KnowsTarget k s to
-      → n ≡ link_word from → Made (LinkCas place from to) said n → Adds may (move_event s place from to said ∷ []) s t
+      → n ≡ link_word from → Made (LinkCas place from to) said n → AddsOwn may (move_event s place from to said ∷ []) s t
   cas_moves place from to said n knows known known2 is x =
       let wk = walks (LinkCas place from to) said n x in
-      subst (λ z. Adds may (z ∷ []) s t)
+      subst (λ z. AddsOwn may (z ∷ []) s t)
       (hit_event wk place from to (λ p l m. event_by a (act.Move p l m) said) (finds k (at wk) (LinkCas place from to)) knows known known2
       (sym wk.answers ∙ is)) (added d q v w a c fresh looked fresh2 looked2 h e (LinkCas place from to) said n x)
 
@@ -232,7 +232,7 @@ module _ {D N : Type 0} (d : discipline.Ghosts D N) (q : PlainShape N) (v w : Vi
       let other2 : found ≢ link_word from = λ z. other (wk.answers ∙ z) in record {
         link = (shows_met wk place knows).link;
         other = other_link wk place from found knows known refl other2;
-        adds = subst (λ z. Adds may (z ∷ []) s t)
+        adds = subst (λ z. AddsOwn may (z ∷ []) s t)
             (miss_event wk place from (event_by a (act.Move (place_by y.given place) (link_by y.given from) (link_by y.given to)) said) found knows
             known other2) (added d q v w a c fresh looked fresh2 looked2 h e (LinkCas place from to) said n x);
         fresh = f;

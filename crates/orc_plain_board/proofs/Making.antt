@@ -3,7 +3,7 @@ use Rattle.std.proofs.Common.{◌≡◌, ◌<◌, ℕ, [], Option, Some, None, r
 use Rattle.orc_words.specs.Bounds.{bounds_of}
 use Rattle.orc_heap.specs.Allowed.{AllAllowed}
 use Rattle.orc_heap.specs.declared.discipline.Discipline as discipline
-use Rattle.orc_shared_words.specs.Ends.{Opens}
+use Rattle.orc_shared_words.specs.Ends.{OpensLawfully}
 use Rattle.orc_shared_words.specs.Runs.{AgentsBelow}
 use Rattle.orc_shared_words.specs.declared.journal.View.{View}
 use Rattle.orc_heap.proofs.Prefixes.{prefix_same}
@@ -14,7 +14,7 @@ use Rattle.orc_plain_board.specs.declared.machine.PlainStep.{PlainStep}
 use Rattle.orc_plain_board.specs.declared.shape.PlainShape.{PlainShape}
 
 module _ {D N : Type 0} (d : discipline.Ghosts D N) where
-  opened_keeps : (q : PlainShape N) → Opens plain_rules q (d.holds (numbers (bounds_of q.shape))) (d.may (numbers (bounds_of q.shape)))
+  opened_keeps : (q : PlainShape N) → OpensLawfully plain_rules q (d.holds (numbers (bounds_of q.shape))) (d.may (numbers (bounds_of q.shape)))
       → d.holds (numbers (bounds_of q.shape)) []
       → (v : View (PlainStep N) (Unit {0})) (a : ℕ) → v.agent ≡ Some a → a < (bounds_of q.shape).agents → v.seen ≡ opening_steps q.seed
       → Keeps q (d.holds (numbers (bounds_of q.shape))) (d.may (numbers (bounds_of q.shape))) v a None
@@ -35,7 +35,7 @@ module _ {D N : Type 0} (d : discipline.Ghosts D N) where
   }
 
   -- a pass that has seen the opening, of a board of this shape
-  pub new_keeps : (q r : PlainShape N) → r ≡ q → Opens plain_rules q (d.holds (numbers (bounds_of q.shape))) (d.may (numbers (bounds_of q.shape)))
+  pub new_keeps : (q r : PlainShape N) → r ≡ q → OpensLawfully plain_rules q (d.holds (numbers (bounds_of q.shape))) (d.may (numbers (bounds_of q.shape)))
       → d.holds (numbers (bounds_of q.shape)) []
       → (v : View (PlainStep N) (Unit {0})) (a : ℕ) → v.agent ≡ Some a → a < (bounds_of q.shape).agents → v.seen ≡ opening_steps q.seed
       → (fresh : Option ℕ) → fresh ≡ None → Keeps r (d.holds (numbers (bounds_of r.shape))) (d.may (numbers (bounds_of r.shape))) v a fresh

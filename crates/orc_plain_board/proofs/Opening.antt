@@ -17,7 +17,7 @@ use Rattle.orc_heap.specs.declared.events.Act.TheVariants as act
 use Rattle.orc_heap.specs.declared.events.Event.{Event}
 use Rattle.orc_heap.specs.declared.events.Place.TheVariants.{Root}
 use Rattle.orc_heap.proofs.Stays.{stays}
-use Rattle.orc_shared_words.specs.Ends.{Opens}
+use Rattle.orc_shared_words.specs.Ends.{OpensLawfully}
 use Rattle.orc_shared_words.specs.Runs.{AgentsBelow}
 use Rattle.orc_plain_board.specs.Machine.{State, AllowedFrom, IsRowLink, events_at, next, numbers, project, project_from, run, run_from, start, tested, unmarked}
 use Rattle.orc_plain_board.specs.Rules.{opening_steps, plain_rules, step_of}
@@ -198,7 +198,7 @@ module _ {D N : Type 0} (d : discipline.Ghosts D N) (shape : Shape) where
 
   -- the opening is allowed
   pub opens : (layout : Layout) (laid : layout ≡ layout_of k) (seed : Seed N) → d.holds (numbers k) [] → SeedAllowed d.may (numbers k) seed
-      → Opens plain_rules (record { shape = shape; seed = seed; layout = layout; laid = laid }) (d.holds (numbers k)) (d.may (numbers k))
+      → OpensLawfully plain_rules (record { shape = shape; seed = seed; layout = layout; laid = laid }) (d.holds (numbers k)) (d.may (numbers k))
   opens layout laid seed began can =
       let events = opened_events seed (has_roots d.may (numbers k) seed can) in
       let each = subst (AllAllowed (d.may (numbers k)) []) (sym events) (opened_each seed began can) in

@@ -17,7 +17,7 @@ use Rattle.orc_heap.proofs.Untouched.{untouched_after}
 use Rattle.orc_shared_words.specs.Steps.{Extends, LaterJournal}
 use Rattle.orc_shared_words.specs.declared.journal.View.{View}
 use Rattle.orc_heap.specs.Calls.{ReadsValue, value_of}
-use Rattle.orc_plain_board.specs.Calls.{Adds, GivesNewRow, IsGateWord, KnowsRow, Loses}
+use Rattle.orc_plain_board.specs.Calls.{AddsOwn, GivesNewRow, IsGateWord, KnowsRow, Loses}
 use Rattle.orc_plain_board.specs.Machine.{State, events_of, finds, index_of, numbers, run, run_from, start, taken, value_word}
 use Rattle.orc_plain_board.specs.Rules.{plain_rules}
 use Rattle.orc_plain_board.specs.Views.{FreshHeld, Keeps, PlainView, heap_of, view_of}
@@ -111,7 +111,7 @@ module _ {D N : Type 0} (d : discipline.Ghosts D N) (q : PlainShape N) (v w : Vi
 
   -- what the step added
   pub added : (op : PlainOp) (said : Option N) (n : ℕ) (x : Made op said n)
-      → Adds may (events_of (at_step (walked op said n x)) a op (finds k (at_step (walked op said n x)) op) said) s t
+      → AddsOwn may (events_of (at_step (walked op said n x)) a op (finds k (at_step (walked op said n x)) op) said) s t
   added op said n x = adds k may v w a c op said n (walked op said n x) e fresh fresh2 looked looked2
 
   -- where the step gives no row, the rows are those that it met
@@ -122,7 +122,7 @@ module _ {D N : Type 0} (d : discipline.Ghosts D N) (q : PlainShape N) (v w : Vi
   pub look_keeps : (row n : ℕ) → fresh2 ≡ fresh → Made (GateLook row) None n → Keeps q holds may w c fresh2
   look_keeps row n f x = keeps (GateLook row) None n x f (λ _ _ u. u)
 
-  pub look_adds : (row n : ℕ) → Made (GateLook row) None n → Adds may [] s t
+  pub look_adds : (row n : ℕ) → Made (GateLook row) None n → AddsOwn may [] s t
   look_adds row n x = added (GateLook row) None n x
 
   pub look_gate : (row n : ℕ) → row < k.rows → Made (GateLook row) None n → IsGateWord t.rows row n
@@ -149,7 +149,7 @@ module _ {D N : Type 0} (d : discipline.Ghosts D N) (q : PlainShape N) (v w : Vi
   pub take_gives : (row n : ℕ) → n ≡ 0 → row < k.rows → fresh2 ≡ Some row → Made (GateTake row) None n → GivesNewRow may row s t
   take_gives row n zero_gate lt f x =
       let wk = walked (GateTake row) None n x in record {
-        adds = subst (λ l. Adds may l s t) (ap (λ (b : Bool). if b then event_by {N = N} a act.Give None ∷ [] else []) (taken_is row n zero_gate x))
+        adds = subst (λ l. AddsOwn may l s t) (ap (λ (b : Bool). if b then event_by {N = N} a act.Give None ∷ [] else []) (taken_is row n zero_gate x))
             (added (GateTake row) None n x);
         before = (at_step wk).given;
         rows = rows_taken row n zero_gate x;
@@ -183,7 +183,7 @@ module _ {D N : Type 0} (d : discipline.Ghosts D N) (q : PlainShape N) (v w : Vi
   take_loses row n other lt f x =
       let wk = walked (GateTake row) None n x in
       let read = wk.answers in record {
-        adds = subst (λ l. Adds may l s t) (ap (λ (b : Bool). if b then event_by {N = N} a act.Give None ∷ [] else []) (lost_is row n other x))
+        adds = subst (λ l. AddsOwn may l s t) (ap (λ (b : Bool). if b then event_by {N = N} a act.Give None ∷ [] else []) (lost_is row n other x))
             (added (GateTake row) None n x);
         out = subst (λ z. IsOut z row) (rows_met wk (ap (λ (b : Bool). if b then row ∷ [] else []) (lost_is row n other x)))
             (elim (gate_word k (at_step wk) row wk.mid.tie lt) [ inl p ↦ p.1 | inr p ↦ absurd (other (read ∙ p.0)) ]);
@@ -203,17 +203,17 @@ module _ {D N : Type 0} (d : discipline.Ghosts D N) (q : PlainShape N) (v w : Vi
   id_met wk row lt = let g = given_more k (run k v.seen) wk.between in ap (index_of row) (sym g.1) ∙ index_grown row g0 g.0 lt
 
   pub fill_adds : (row which value n : ℕ) → fresh ≡ Some row → Made (Fill row which value) None n
-      → Adds may (event_by a (act.Fill (index_of row g0) which value) None ∷ []) s t
+      → AddsOwn may (event_by a (act.Fill (index_of row g0) which value) None ∷ []) s t
   fill_adds row which value n is x =
       let held = subst (FreshHeld a (run k v.seen)) is h.untouched in
-      subst (λ i. Adds may (event_by a (act.Fill i which value) None ∷ []) s t) (id_met (walked (Fill row which value) None n x) row held.0)
+      subst (λ i. AddsOwn may (event_by a (act.Fill i which value) None ∷ []) s t) (id_met (walked (Fill row which value) None n x) row held.0)
       (added (Fill row which value) None n x)
 
   pub fill_keeps : (row which value n : ℕ) → fresh2 ≡ fresh → Made (Fill row which value) None n → Keeps q holds may w c fresh2
   fill_keeps row which value n f x = let y : State = at_step (walked (Fill row which value) None n x) in
       keeps (Fill row which value) None n x f (λ r _ u. untouched_after a a y.heap (act.Fill (index_of row y.given) which value) (index_of r y.given) refl u)
 
-  pub read_adds : (row which n : ℕ) → Made (Read row which) None n → Adds may [] s t
+  pub read_adds : (row which n : ℕ) → Made (Read row which) None n → AddsOwn may [] s t
   read_adds row which n x = added (Read row which) None n x
 
   pub read_keeps : (row which n : ℕ) → fresh2 ≡ fresh → Made (Read row which) None n → Keeps q holds may w c fresh2

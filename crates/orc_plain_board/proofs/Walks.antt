@@ -26,7 +26,7 @@ use Rattle.orc_heap.proofs.Pieces.{goes_on}
 use Rattle.orc_heap.proofs.Prefixes.{prefix_same}
 use Rattle.orc_shared_words.proofs.Events.{AllBy, none-append, none_of_all}
 use Rattle.orc_shared_words.proofs.Runs.{by_other, by_own, cons_nil}
-use Rattle.orc_plain_board.specs.Calls.{Adds}
+use Rattle.orc_plain_board.specs.Calls.{AddsOwn}
 use Rattle.orc_plain_board.specs.Machine.{State, AllowedFrom, answer, events_at, events_of, finds, index_of, link_by, load_event, next, numbers, place_by, project, project_from, run, run_from, start, taken, tested}
 use Rattle.orc_plain_board.specs.Rules.{plain_rules, project-append, step_of, steps-append}
 use Rattle.orc_plain_board.specs.Views.{FreshHeld, view_of}
@@ -250,7 +250,7 @@ module _ {N : Type 0} (k : Bounds) (may : List (Event N) → Event N → Type 0)
 -- what the step adds to what the pass has seen
 pub adds : {N : Type 0} (k : Bounds) (may : List (Event N) → Event N → Type 0) (v u : View (PlainStep N) (Unit {0})) (a c : ℕ) (op : PlainOp)
     (said : Option N) (n : ℕ) (w : Walk k may v u a op said n) → c ≡ a
-    → (fresh fresh2 looked looked2 : Option ℕ) → Adds may (own k may v u a op said n w) (view_of k a v fresh looked) (view_of k c u fresh2 looked2)
+    → (fresh fresh2 looked looked2 : Option ℕ) → AddsOwn may (own k may v u a op said n w) (view_of k a v fresh looked) (view_of k c u fresh2 looked2)
 adds k may v u a c op said n w e fresh fresh2 looked looked2 = record {
   met = project_from k (run k v.seen) w.between;
   later = record { allowed = w.mid.allowed; others = w.mid.none };

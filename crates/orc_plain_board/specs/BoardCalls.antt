@@ -5,7 +5,7 @@ use Rattle.orc_heap.specs.Journals.{event_by}
 use Rattle.orc_heap.specs.declared.discipline.Discipline as discipline
 use Rattle.orc_heap.specs.declared.events.Act.TheVariants.{Fill}
 use Rattle.orc_shared_words.specs.declared.machine.Machine as machine
-use Rattle.orc_plain_board.specs.Calls.{Absorbs, Adds, MissesWanted, FindsLink, GivesNewRow, KnowsPlace as ViewKnowsPlace, KnowsRow as ViewKnowsRow, KnowsTarget, LearnsEvents, Loses, MayWhereFits, MayWhereShown, Misses, Replaces, aim_event, look_event, move_event, unless_linked}
+use Rattle.orc_plain_board.specs.Calls.{Absorbs, AddsOwn, MissesWanted, FindsLink, GivesNewRow, KnowsPlace as ViewKnowsPlace, KnowsRow as ViewKnowsRow, KnowsTarget, LearnsEvents, Loses, MayWhereFits, MayWhereShown, Misses, Replaces, aim_event, look_event, move_event, unless_linked}
 use Rattle.orc_plain_board.specs.Machine.{index_of, link_by, place_by}
 use Rattle.orc_plain_board.specs.Views.{board_bounds, board_numbers, heap_of, shows}
 use Rattle.orc_plain_board.specs.declared.machine.Plain.{Plain}
@@ -63,21 +63,21 @@ module _ {D N : Type 0} {d : discipline.Ghosts D N} {m : machine.Ghosts Plain N 
 
   -- the call makes no event
   abbrev pub MakesNoEvent : PassOf D N d m → PassOf D N d m → Type 0
-  MakesNoEvent old new = Adds (d.may (board_numbers board)) [] (shows board old) (shows board new)
+  MakesNoEvent old new = AddsOwn (d.may (board_numbers board)) [] (shows board old) (shows board new)
 
   -- it makes a Look at the place, which shows the link
   abbrev pub MakesLook : PassOf D N d m → PassOf D N d m → Word → RowLink → Option N → Type 0
-  MakesLook old new place link note = Adds (d.may (board_numbers board)) (look_event (shows board old) place link note ∷ []) (shows board old) (shows board new)
+  MakesLook old new place link note = AddsOwn (d.may (board_numbers board)) (look_event (shows board old) place link note ∷ []) (shows board old) (shows board new)
 
   -- it makes a Move of the place
   abbrev pub MakesMove : PassOf D N d m → PassOf D N d m → Word → RowLink → RowLink → Option N → Type 0
   MakesMove old new place from to note =
-      Adds (d.may (board_numbers board)) (move_event (shows board old) place from to note ∷ []) (shows board old) (shows board new)
+      AddsOwn (d.may (board_numbers board)) (move_event (shows board old) place from to note ∷ []) (shows board old) (shows board new)
 
   -- it makes a Fill of the row's node
   abbrev pub MakesFill : PassOf D N d m → PassOf D N d m → ℕ → ℕ → ℕ → Type 0
   MakesFill old new row which value =
-      Adds (d.may (board_numbers board)) (event_by (shows board old).agent (Fill (index_of row (shows board old).rows) which value) None ∷ [])
+      AddsOwn (d.may (board_numbers board)) (event_by (shows board old).agent (Fill (index_of row (shows board old).rows) which value) None ∷ [])
       (shows board old) (shows board new)
 
   -- the row is given: it was given to nobody before, and is fresh now

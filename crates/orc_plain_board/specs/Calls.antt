@@ -69,7 +69,7 @@ module _ {N : Type 0} where
 
     -- the call adds to the events that the pass has seen: some of other agents, each allowed where it stands, and then
     -- its own
-    pub record Adds (own : List (Event N)) (s t : PlainView N) : Type 0 where
+    pub record AddsOwn (own : List (Event N)) (s t : PlainView N) : Type 0 where
       pub met : List (Event N)
       pub later : Later may s.agent s.events met
       pub events : t.events ≡ (s.events ++ met) ++ own
@@ -82,7 +82,7 @@ module _ {N : Type 0} where
 
     -- the row, which nobody was given before, is the pass's fresh row, and its node is the newest
     pub record GivesNewRow (row : ℕ) (s t : PlainView N) : Type 0 where
-      pub adds : Adds (event_by s.agent act.Give None ∷ []) s t
+      pub adds : AddsOwn (event_by s.agent act.Give None ∷ []) s t
       pub before : List ℕ
       pub rows : t.rows ≡ before ++ row ∷ []
       pub new : ¬ IsOut before row
@@ -90,7 +90,7 @@ module _ {N : Type 0} where
 
     -- the row was given before
     pub record Loses (row : ℕ) (s t : PlainView N) : Type 0 where
-      pub adds : Adds [] s t
+      pub adds : AddsOwn [] s t
       pub out : IsOut t.rows row
       pub fresh : t.fresh ≡ s.fresh
 
@@ -99,7 +99,7 @@ module _ {N : Type 0} where
       pub link : Link
       pub word : IsWord t.rows link.to link.mark n
       pub known : IsTarget s.agent (heap_of b t) link.to
-      pub adds : Adds (event_by s.agent (act.Look place link) None ∷ []) s t
+      pub adds : AddsOwn (event_by s.agent (act.Look place link) None ∷ []) s t
 
     -- the pass finds another link than the wanted one, whose word is the number
     pub record Misses (b : Bounds) (place : Place) (wanted : Link) (n : ℕ) (s t : PlainView N) : Type 0 where
@@ -107,18 +107,18 @@ module _ {N : Type 0} where
       pub other : link ≢ wanted
       pub word : IsWord t.rows link.to link.mark n
       pub known : IsTarget s.agent (heap_of b t) link.to
-      pub adds : Adds (event_by s.agent (act.Miss place wanted link) None ∷ []) s t
+      pub adds : AddsOwn (event_by s.agent (act.Miss place wanted link) None ∷ []) s t
 
     -- the exchange finds another link than the wanted one
     pub record MissesWanted (place : Place) (wanted : Link) (s t : PlainView N) : Type 0 where
       pub link : Link
       pub other : link ≢ wanted
-      pub adds : Adds (event_by s.agent (act.Miss place wanted link) None ∷ []) s t
+      pub adds : AddsOwn (event_by s.agent (act.Miss place wanted link) None ∷ []) s t
       pub fresh : t.fresh ≡ s.fresh
 
     -- the store replaces this link of the row, its first or second one, whose word is n
     pub record Replaces (b : Bounds) (row number n : ℕ) (link : RowLink) (s t : PlainView N) : Type 0 where
-      pub adds : Adds (aim_event s row number link ∷ []) s t
+      pub adds : AddsOwn (aim_event s row number link ∷ []) s t
       pub old : Link
       pub shown_is : shown (run_heap (numbers b) (s.events ++ adds.met)) (place_by s.rows (link_at number row)) ≡ Some old
       pub word : IsWord t.rows old.to old.mark n

@@ -9,7 +9,7 @@ ghost use Rattle.orc_heap.specs.Journals.{IsLawful, run_heap};
 ghost use Rattle.orc_heap.specs.declared.events.Event.{Event};
 ghost use mathlib.Core.List.{IsPrefix};
 ghost use Rattle.orc_shared_words.specs.Lists.{Among};
-ghost use Rattle.orc_plain_board.specs.Calls.{Adds};
+ghost use Rattle.orc_plain_board.specs.Calls.{AddsOwn};
 ghost use Rattle.orc_plain_board.specs.Machine.{AllowedFrom, index_of, numbers, project, run};
 ghost use Rattle.orc_heap.specs.Seeds.{opening_events};
 ghost use Rattle.orc_plain_board.specs.Views.{Belongs, IsFreshRow, PlainView, board_bounds, board_numbers, board_seed, heap_of, shows};
@@ -35,7 +35,7 @@ pub fn rows_keep_their_nodes()
 /// A call of a pass that took in the passes of all other agents adds its own events alone.
 pub fn a_pass_that_took_in_all_is_alone<D: Discipline>()
     ensures { (n : HeapNumbers) (agents : ℕ) (own : List (Event D.Note)) (s t : PlainView D.Note)
-        → Adds (D.may n) own s t → IsBelow agents t.events
+        → AddsOwn (D.may n) own s t → IsBelow agents t.events
         → ((agent : ℕ) → agent < agents → (s.agent ≡ agent) ⊎ Among agent s.absorbed) → t.events ≡ s.events ++ own }
 {}
 

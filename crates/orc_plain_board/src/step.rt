@@ -1,7 +1,7 @@
 //! One step of a board's machine.
 
 ghost use Rattle.std.specs.Prelude.{◌≡◌};
-ghost use Rattle.orc_shared_words.specs.Steps.{Extends, Licensed};
+ghost use Rattle.orc_shared_words.specs.Steps.{Extends, IsAllowedLater};
 ghost use Rattle.orc_plain_board.specs.Machine.{Allowed};
 ghost use Rattle.orc_plain_board.specs.Rules.{plain_rules};
 ghost use Rattle.orc_plain_board.specs.Views.{board_bounds, board_numbers};
@@ -16,7 +16,7 @@ impl<D: Discipline> PlainBoard<D> {
     pub(crate) fn step(&self, p: &mut PlainBoardPass<D>, op: PlainOp, note: &Option<D::Note>) -> u64
         requires table { p.old.pass.seat.table_id ≡ self.now.words.table.shared.table_id }
         requires allowed { Allowed (board_bounds self.now) op }
-        requires licensed { Licensed plain_rules self.now.words.shape (D.holds (board_numbers self.now)) (D.may (board_numbers self.now))
+        requires licensed { IsAllowedLater plain_rules self.now.words.shape (D.holds (board_numbers self.now)) (D.may (board_numbers self.now))
             p.old.pass.seat.me.0 p.old.pass.agent op note.now }
         ensures table { p.new.pass.seat.table_id ≡ p.old.pass.seat.table_id }
         ensures agent { p.new.pass.agent ≡ p.old.pass.agent }

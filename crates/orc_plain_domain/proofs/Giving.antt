@@ -24,7 +24,7 @@ use Rattle.orc_plain_board.specs.declared.shape.PlainShape.{PlainShape}
 use Rattle.orc_plain_domain.specs.Passes.{IsPassOf, domain_bounds, domain_numbers, rows_of, seat_of}
 use Rattle.orc_plain_domain.specs.declared.domain.PlainDomain.{PlainDomain}
 use Rattle.orc_plain_domain.specs.declared.domain.PlainPass.{PlainPass}
-use Rattle.orc_plain_domain.specs.Calls.{Furnishes, IsSame, Loses, Takes}
+use Rattle.orc_plain_domain.specs.Calls.{Furnishes, IsSame, Loses, GivesFreshRow}
 use Rattle.orc_plain_domain.specs.Given.{IsLacking}
 use Rattle.orc_plain_domain.specs.Laws.Passes.{seen_by}
 use Rattle.orc_plain_domain.specs.Passes.{journal_of}
@@ -110,7 +110,7 @@ module _ {D N : Type 0} {d : discipline.Ghosts D N} {m : machine.Ghosts Plain N 
               (λ lt. subst (λ z. IsOut z ((begin + k) % rows)) l.rows.1 (out_stays (shows domain.board q.pass).rows l.rows.0 ((begin + k) % rows) (t.out k lt)))
               (λ ge. let e : k ≡ offset = omega (arith, m, ge) in subst (λ z. IsOut (shows domain.board r.pass).rows ((begin + z) % rows)) (sym e) l.out)
 
-      module _ (row : ℕ) (k : Takes (domain_bounds domain) row q.slots (shows domain.board q.pass) (shows domain.board r.pass))
+      module _ (row : ℕ) (k : GivesFreshRow (domain_bounds domain) row q.slots (shows domain.board q.pass) (shows domain.board r.pass))
           (w : PlainPass D N (PlainShape N) PlainOp (PlainStep N) (Unit {0}) (Unit {0}) d m) (slot first second : ℕ)
           (f : Furnishes (domain_numbers domain) row (index_of row (shows domain.board r.pass).rows) slot first second (seat_of domain r)
           (seat_of domain w))

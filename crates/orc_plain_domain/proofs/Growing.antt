@@ -17,7 +17,7 @@ use Rattle.orc_shared_words.specs.declared.machine.Machine as machine
 use Rattle.orc_plain_board.proofs.Known.{fresh_row, ties}
 use Rattle.orc_plain_board.proofs.Lists.{index_grown}
 use Rattle.orc_plain_board.proofs.Ties.{Given}
-use Rattle.orc_plain_board.specs.Calls.{Adds}
+use Rattle.orc_plain_board.specs.Calls.{AddsOwn}
 use Rattle.orc_plain_board.specs.Machine.{id_by, index_of, numbers, run}
 use Rattle.orc_plain_board.specs.Views.{Belongs, PlainView, heap_of, shows}
 use Rattle.orc_plain_board.specs.Words.{Tie}
@@ -44,7 +44,7 @@ module _ {N : Type 0} where
     pub rows : IsPrefix s.rows t.rows
     pub known : (id : ℕ) → IsKnown s.agent (heap_of b s) id → IsKnown s.agent (heap_of b t) id
 
-  pub adds_grow : (b : Bounds) (may : List (Event N) → Event N → Type 0) (own : List (Event N)) (s t : PlainView N) → Adds may own s t → Grows b s t
+  pub adds_grow : (b : Bounds) (may : List (Event N) → Event N → Type 0) (own : List (Event N)) (s t : PlainView N) → AddsOwn may own s t → Grows b s t
   adds_grow b may own s t a =
       let is : t.events ≡ s.events ++ (a.met ++ own) = a.events ∙ append_assoc s.events a.met own in record {
         agent = a.agent;
@@ -86,7 +86,7 @@ module _ {N : Type 0} where
   mine a act said = ap (λ b. cond b (event_by a act said ∷ []) []) (eq-eqb a a refl)
 
   pub adds_put : (may : List (Event N) → Event N → Type 0) (own : List (Event N)) (s t : PlainView N) (slots later : List (Option ℕ))
-      → Adds may own s t → events_by s.agent own ≡ own → Puts (seat_by s slots) own (seat_by t later)
+      → AddsOwn may own s t → events_by s.agent own ≡ own → Puts (seat_by s slots) own (seat_by t later)
   adds_put may own s t slots later a mine = record {
     part = a.met ++ own;
     is = a.events ∙ append_assoc s.events a.met own;
@@ -128,15 +128,15 @@ module _ {D N : Type 0} {d : discipline.Ghosts D N} {m : machine.Ghosts Plain N 
       pub still_of : Grows b s t → IsPassOf domain (record { pass = q; slots = p.slots; next = p.next; shape = p.shape })
       still_of g = record { board = x; shape = h.shape; keeps = keeps_stay b s t p.slots p.next g held_given h.keeps }
 
-      pub still_adds : (own : List (Event N)) → Adds may own s t → IsPassOf domain (record { pass = q; slots = p.slots; next = p.next; shape = p.shape })
+      pub still_adds : (own : List (Event N)) → AddsOwn may own s t → IsPassOf domain (record { pass = q; slots = p.slots; next = p.next; shape = p.shape })
       still_adds own a = still_of (adds_grow b may own s t a)
 
-      pub slots_same : (own : List (Event N)) → Adds may own s t → slots_by t.rows p.slots ≡ slots_by s.rows p.slots
+      pub slots_same : (own : List (Event N)) → AddsOwn may own s t → slots_by t.rows p.slots ≡ slots_by s.rows p.slots
       slots_same own a = slots_stay b s t p.slots (adds_grow b may own s t a) held_given
 
-      pub fresh_same : (own : List (Event N)) → Adds may own s t → t.fresh ≡ s.fresh → id_by t.rows t.fresh ≡ id_by s.rows s.fresh
+      pub fresh_same : (own : List (Event N)) → AddsOwn may own s t → t.fresh ≡ s.fresh → id_by t.rows t.fresh ≡ id_by s.rows s.fresh
       fresh_same own a e = ap (id_by t.rows) e ∙ fresh_stays b s t s.fresh (adds_grow b may own s t a) fresh_given
 
-      pub only_adds : (own : List (Event N)) → Adds may own s t → events_by s.agent own ≡ own → t.fresh ≡ s.fresh
+      pub only_adds : (own : List (Event N)) → AddsOwn may own s t → events_by s.agent own ≡ own → t.fresh ≡ s.fresh
           → Only own (seat_of domain p) (seat_by t p.slots)
       only_adds own a mine e = record { slots = slots_same own a; fresh = fresh_same own a e; puts = adds_put may own s t p.slots p.slots a mine }

@@ -10,7 +10,7 @@ use Rattle.orc_heap.specs.declared.discipline.Discipline as discipline
 use Rattle.orc_heap.specs.declared.events.Act.TheVariants.{Fill, Look, Miss, Move}
 use Rattle.orc_heap.specs.declared.events.Event.{Event}
 use Rattle.orc_shared_words.specs.declared.machine.Machine as machine
-use Rattle.orc_plain_board.specs.Calls.{Adds, FindsLink, KnowsPlace, KnowsTarget, MayWhereFits, MayWhereShown, Misses, MissesWanted, aim_event, look_event, move_event, unless_linked}
+use Rattle.orc_plain_board.specs.Calls.{AddsOwn, FindsLink, KnowsPlace, KnowsTarget, MayWhereFits, MayWhereShown, Misses, MissesWanted, aim_event, look_event, move_event, unless_linked}
 use Rattle.orc_plain_board.specs.Machine.{id_by, index_of, link_by, place_by}
 use Rattle.orc_plain_board.specs.Views.{Belongs, PlainView, heap_of, shows}
 use Rattle.orc_plain_board.specs.declared.machine.Plain.{Plain}
@@ -63,7 +63,7 @@ module _ {D N : Type 0} {d : discipline.Ghosts D N} {m : machine.Ghosts Plain N 
       fresh_is e = hold_fresh domain p h hold e ∙ ap Some (sym same)
 
       pub fills : (which value : ℕ) → HoldsFresh (seat_of domain p) hold
-          → Adds may (event_by s.agent (Fill (index_of row s.rows) which value) None ∷ []) s t → t.fresh ≡ s.fresh
+          → AddsOwn may (event_by s.agent (Fill (index_of row s.rows) which value) None ∷ []) s t → t.fresh ≡ s.fresh
           → Only (event_of (seat_of domain p) (Fill (id_in (seat_of domain p).slots hold) which value) None ∷ []) (seat_of domain p) (seat_by t p.slots)
       fills which value e a f =
           subst (λ id. Only (event_by s.agent (Fill id which value) None ∷ []) (seat_of domain p) (seat_by t p.slots))
@@ -87,7 +87,7 @@ module _ {D N : Type 0} {d : discipline.Ghosts D N} {m : machine.Ghosts Plain N 
         let tie = ties d domain.board.words.shape q.pass.seat.me.0 q.pass.agent q.fresh q.looked x.keeps in
         let is : link_by t.rows link ≡ f.link = link_is t.rows tie.once f.link.to f.link.mark word link f.word e in record {
           fresh = fresh;
-          adds = subst (λ (l : Link). Adds may (event_by s.agent (Look (place_by s.rows place) l) None ∷ []) s t) (sym is) f.adds;
+          adds = subst (λ (l : Link). AddsOwn may (event_by s.agent (Look (place_by s.rows place) l) None ∷ []) s t) (sym is) f.adds;
           known = subst (λ (l : Link). IsTarget s.agent (heap_of b t) l.to) (sym is) f.known;
         }
 
@@ -110,7 +110,7 @@ module _ {D N : Type 0} {d : discipline.Ghosts D N} {m : machine.Ghosts Plain N 
       may_aim a = subst (λ (z : ℕ × Option ℕ). AllowedWhereFits may (domain_numbers domain) s.agent s.events (event_by s.agent (aim_act number z.0 z.1) None))
           (λ i. (sym row_met i, sym aim_met i)) a
 
-      pub aims : Adds may (aim_event s row number link ∷ []) s t → t.fresh ≡ s.fresh
+      pub aims : AddsOwn may (aim_event s row number link ∷ []) s t → t.fresh ≡ s.fresh
           → Only (event_of (seat_of domain p) (aim_act number (id_in (seat_of domain p).slots hold) (target_in (seat_of domain p).slots to)) None ∷ [])
           (seat_of domain p) (seat_by t p.slots)
       aims a f = subst (λ (z : ℕ × Option ℕ). Only (event_by s.agent (aim_act number z.0 z.1) None ∷ []) (seat_of domain p) (seat_by t p.slots))
@@ -140,7 +140,7 @@ module _ {D N : Type 0} {d : discipline.Ghosts D N} {m : machine.Ghosts Plain N 
           (λ i. (sym place_met i, sym link_met i)) a
 
       -- the place showed another link
-      missed : (found : Link) → found ≢ link_by s.rows link → Adds may (event_by s.agent (Miss (place_by s.rows place) (link_by s.rows link) found) None ∷ []) s t
+      missed : (found : Link) → found ≢ link_by s.rows link → AddsOwn may (event_by s.agent (Miss (place_by s.rows place) (link_by s.rows link) found) None ∷ []) s t
           → HeapMisses (place_in (seat_of domain p).slots at) (link_in (seat_of domain p).slots from) (seat_of domain p) (seat_by t p.slots)
       missed found other a = record {
         found = found;
@@ -152,7 +152,7 @@ module _ {D N : Type 0} {d : discipline.Ghosts D N} {m : machine.Ghosts Plain N 
       }
 
       module _ (said : Option N) (found packed : ℕ) (is_packed : packed ≡ link_word link)
-          (hit : found ≡ link_word link → Adds may (look_event s place link said ∷ []) s t)
+          (hit : found ≡ link_word link → AddsOwn may (look_event s place link said ∷ []) s t)
           (miss : found ≢ link_word link → Misses may b (place_by s.rows place) (link_by s.rows link) found s t) (fresh : t.fresh ≡ s.fresh)
         where
           not_packed : (found == packed) ≡ false → found ≢ link_word link
@@ -201,7 +201,7 @@ module _ {D N : Type 0} {d : discipline.Ghosts D N} {m : machine.Ghosts Plain N 
             subst (λ (z : Place × Link × Link). AllowedLater may (domain_numbers domain) s.agent s.events z.0 z.1
             (event_by s.agent (Move z.0 z.1 z.2) said)) (λ i. (sym place_met i, sym link_met i, sym target_met i)) a
 
-        module _ (said : Option N) (moved : ℕ) (answer : moved ≤ 1) (hit : moved ≡ 1 → Adds may (move_event s place link target said ∷ []) s t)
+        module _ (said : Option N) (moved : ℕ) (answer : moved ≤ 1) (hit : moved ≡ 1 → AddsOwn may (move_event s place link target said ∷ []) s t)
             (linked : moved ≡ 1 → t.fresh ≡ unless_linked s.fresh target.to) (miss : moved ≡ 0 → MissesWanted may (place_by s.rows place) (link_by s.rows link) s t)
           where
             not_moved : (moved == 1) ≡ false → moved ≡ 0
@@ -216,7 +216,7 @@ module _ {D N : Type 0} {d : discipline.Ghosts D N} {m : machine.Ghosts Plain N 
                     still_adds domain p h q x (event_by s.agent (Miss (place_by s.rows place) (link_by s.rows link) r.link) None ∷ []) r.adds
 
             -- what is fresh after the Move
-            fresh_after : Adds may (move_event s place link target said ∷ []) s t → t.fresh ≡ unless_linked s.fresh target.to
+            fresh_after : AddsOwn may (move_event s place link target said ∷ []) s t → t.fresh ≡ unless_linked s.fresh target.to
                 → id_by t.rows t.fresh ≡ unless_node (id_by s.rows s.fresh) (link_in (seat_of domain p).slots to).to
             fresh_after a f =
                 let given = fresh_given domain p h in

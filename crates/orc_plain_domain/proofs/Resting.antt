@@ -12,7 +12,7 @@ use Rattle.orc_heap.specs.declared.events.Event.{Event}
 use Rattle.orc_shared_words.specs.Lists.{Among}
 use Rattle.orc_shared_words.specs.declared.machine.Machine as machine
 use Rattle.orc_plain_board.proofs.Known.{alone, below, below_right, none_at_all}
-use Rattle.orc_plain_board.specs.Calls.{Absorbs, Adds, IsGateWord}
+use Rattle.orc_plain_board.specs.Calls.{Absorbs, AddsOwn, IsGateWord}
 use Rattle.orc_plain_board.specs.Views.{Belongs, PlainView, shows}
 use Rattle.orc_plain_board.specs.declared.machine.Plain.{Plain}
 use Rattle.orc_plain_board.specs.declared.machine.PlainOp.{PlainOp}
@@ -183,7 +183,7 @@ module _ {D N : Type 0} {d : discipline.Ghosts D N} {m : machine.Ghosts Plain N 
 
       pub counted_one : (agents : CoversAll (domain_bounds domain).agents (view p))
           (r : BoardPass D N (PlainShape N) PlainOp (PlainStep N) (Unit {0}) (Unit {0}) d m) (x : Belongs domain.board r)
-          → Adds (d.may (domain_numbers domain)) [] (view q) (shows domain.board r)
+          → AddsOwn (d.may (domain_numbers domain)) [] (view q) (shows domain.board r)
           → (gate : ℕ) → IsGateWord (shows domain.board r).rows row gate
           → Counted p (record { pass = r; slots = q.slots; next = q.next; shape = q.shape }) rows (row + 1) (given + gate % 2)
       counted_one agents r x a gate is = record {

@@ -15,7 +15,7 @@ use Rattle.orc_heap.specs.declared.events.Act.TheVariants.{Fill, Give}
 use Rattle.orc_heap.specs.declared.events.Event.{Event}
 use Rattle.orc_shared_words.specs.declared.machine.Machine as machine
 use Rattle.orc_plain_board.proofs.Lists.{get_last, index_at, some_one}
-use Rattle.orc_plain_board.specs.Calls.{Adds, GivesNewRow as BoardGives, KnowsRow, Loses as BoardLoses}
+use Rattle.orc_plain_board.specs.Calls.{AddsOwn, GivesNewRow as BoardGives, KnowsRow, Loses as BoardLoses}
 use Rattle.orc_plain_board.specs.Machine.{id_by, index_of, numbers}
 use Rattle.orc_plain_board.specs.Views.{Belongs, PlainView, heap_of, shows}
 use Rattle.orc_plain_board.specs.Words.{IsOut}
@@ -27,7 +27,7 @@ use Rattle.orc_plain_board.specs.declared.shape.PlainShape.{PlainShape}
 use Rattle.orc_plain_domain.specs.Passes.{IsPassOf, domain_bounds, domain_numbers, seat_of}
 use Rattle.orc_plain_domain.specs.declared.domain.PlainDomain.{PlainDomain}
 use Rattle.orc_plain_domain.specs.declared.domain.PlainPass.{PlainPass}
-use Rattle.orc_plain_domain.specs.Calls.{Furnishes, Loses, Takes}
+use Rattle.orc_plain_domain.specs.Calls.{Furnishes, Loses, GivesFreshRow}
 use Rattle.orc_plain_domain.specs.Rows.{seat_by}
 use Rattle.orc_plain_domain.proofs.Counting.{nodes_stay}
 use Rattle.orc_plain_domain.proofs.Growing.{Grows, adds_grow, adds_put, fresh_given, fresh_stays, grow_trans, held_given, index_stays, keeps_stay, mine, slots_stay, still_of, tie}
@@ -65,14 +65,14 @@ module _ {D N : Type 0} {d : discipline.Ghosts D N} {m : machine.Ghosts Plain N 
     u = shows domain.board r
 
     -- a look at the gate, and then a take
-    module _ (first : Adds may [] s t) (fresh : t.fresh ≡ s.fresh) where
+    module _ (first : AddsOwn may [] s t) (fresh : t.fresh ≡ s.fresh) where
       met : Grows b s t
       met = adds_grow b may [] s t first
 
       put_none : Puts (seat_by s p.slots) [] (seat_by t p.slots)
       put_none = adds_put may [] s t p.slots p.slots first refl
 
-      module _ (own : List (Event N)) (last : Adds may own t u) where
+      module _ (own : List (Event N)) (last : AddsOwn may own t u) where
         both : Grows b s u
         both = grow_trans b s t u met (adds_grow b may own t u last)
 
@@ -116,7 +116,7 @@ module _ {D N : Type 0} {d : discipline.Ghosts D N} {m : machine.Ghosts Plain N 
             ap (λ (es : List (Event N)). length (run_heap (numbers b) es).nodes) seen in
             omega (arith, one, two, same, past_long, index_last)
 
-        takes : Takes b row p.slots s u
+        takes : GivesFreshRow b row p.slots s u
         takes = record {
           fresh = g.fresh;
           rows = (both give g.adds).rows;
@@ -139,10 +139,10 @@ module _ {D N : Type 0} {d : discipline.Ghosts D N} {m : machine.Ghosts Plain N 
         not_won : (answer == 1) ≡ false → answer ≡ 0
         not_won e = let ne = eqb-false answer 1 e in omega (arith, low, ne)
 
-        pub took : MatchBool (answer == 1) (Takes b row p.slots s u) (Loses row p.slots s u)
+        pub took : MatchBool (answer == 1) (GivesFreshRow b row p.slots s u) (Loses row p.slots s u)
         took = went (answer == 1) refl
           where
-            went : (done : Bool) → (answer == 1) ≡ done → MatchBool done (Takes b row p.slots s u) (Loses row p.slots s u)
+            went : (done : Bool) → (answer == 1) ≡ done → MatchBool done (GivesFreshRow b row p.slots s u) (Loses row p.slots s u)
             went true e = takes (won (eqb-true answer 1 e))
             went false e = loses (lost (not_won e))
 
@@ -155,8 +155,8 @@ module _ {D N : Type 0} {d : discipline.Ghosts D N} {m : machine.Ghosts Plain N 
 
     -- both values are filled, and the fresh row is held
     module _ (y : Belongs domain.board q) (first second : ℕ) (fresh : s.fresh ≡ Some row)
-        (a : Adds may (event_by s.agent (Fill (index_of row s.rows) 0 first) None ∷ []) s t)
-        (c : Adds may (event_by t.agent (Fill (index_of row t.rows) 1 second) None ∷ []) t u) where
+        (a : AddsOwn may (event_by s.agent (Fill (index_of row s.rows) 0 first) None ∷ []) s t)
+        (c : AddsOwn may (event_by t.agent (Fill (index_of row t.rows) 1 second) None ∷ []) t u) where
       abbrev id : ℕ
       id = index_of row s.rows
 
@@ -173,8 +173,8 @@ module _ {D N : Type 0} {d : discipline.Ghosts D N} {m : machine.Ghosts Plain N 
       given = (fresh_row d domain.board.words.shape p.pass.pass.seat.me.0 p.pass.pass.agent p.pass.fresh p.pass.looked h.board.keeps row fresh).given
 
       -- the second Fill, by the first view
-      c2 : Adds may two t u
-      c2 = subst (λ (x : ℕ × ℕ). Adds may (event_by x.0 (Fill x.1 1 second) None ∷ []) t u) (λ i. (a.agent i, index_stays b s t row grows given i)) c
+      c2 : AddsOwn may two t u
+      c2 = subst (λ (x : ℕ × ℕ). AddsOwn may (event_by x.0 (Fill x.1 1 second) None ∷ []) t u) (λ i. (a.agent i, index_stays b s t row grows given i)) c
 
       filled_both : Grows b s u
       filled_both = grow_trans b s t u grows (adds_grow b may two t u c2)
@@ -186,7 +186,7 @@ module _ {D N : Type 0} {d : discipline.Ghosts D N} {m : machine.Ghosts Plain N 
           (adds_put may one s t p.slots p.slots a (mine s.agent (Fill id 0 first) None))
           (adds_put may two t u p.slots slots c2 (subst (λ x. events_by x two ≡ two) (sym a.agent) (mine s.agent (Fill id 1 second) None)))
 
-      own_adds : (v w : PlainView N) (own : List (Event N)) (x : Node) → Adds may own v w → d.holds (numbers b) v.events → events_by v.agent own ≡ own
+      own_adds : (v w : PlainView N) (own : List (Event N)) (x : Node) → AddsOwn may own v w → d.holds (numbers b) v.events → events_by v.agent own ≡ own
           → list_any (λ e. points_to e.act id) own ≡ false
           → IsOwnNode (numbers b) v.agent id v.events x → IsOwnNode (numbers b) v.agent id w.events (touched_by id own x)
       own_adds v w own x e kept is away o =

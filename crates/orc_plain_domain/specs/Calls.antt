@@ -17,7 +17,7 @@ use Rattle.orc_heap.specs.declared.events.Event.{Event}
 use Rattle.orc_heap.specs.declared.events.Place.{Place}
 use mathlib.Core.List.{IsPrefix}
 use Rattle.orc_shared_words.specs.declared.machine.Machine as machine
-use Rattle.orc_plain_board.specs.Calls.{Adds, unless_linked}
+use Rattle.orc_plain_board.specs.Calls.{AddsOwn, unless_linked}
 use Rattle.orc_plain_board.specs.Machine.{id_by, index_of, link_by}
 use Rattle.orc_plain_board.specs.Views.{PlainView, heap_of}
 use Rattle.orc_plain_board.specs.Words.{IsOut}
@@ -37,7 +37,7 @@ pub record IsSame {D N : Type 0} {d : discipline.Ghosts D N} {m : machine.Ghosts
 
 module _ {N : Type 0} where
   -- the row was given: it is the fresh row, and its node is new
-  pub record Takes (b : Bounds) (row : ℕ) (slots : List (Option ℕ)) (s t : PlainView N) : Type 0 where
+  pub record GivesFreshRow (b : Bounds) (row : ℕ) (slots : List (Option ℕ)) (s t : PlainView N) : Type 0 where
     pub fresh : t.fresh ≡ Some row
     pub rows : IsPrefix s.rows t.rows
     pub new : length (heap_of b s).nodes ≤ index_of row t.rows
@@ -68,7 +68,7 @@ module _ {N : Type 0} where
   -- the link was found at the place, and the agent knows its target from then on
   pub record Loads (may : List (Event N) → Event N → Type 0) (b : Bounds) (place : Place) (link : RowLink) (s t : PlainView N) : Type 0 where
     pub fresh : t.fresh ≡ s.fresh
-    pub adds : Adds may (event_by s.agent (Look place (link_by t.rows link)) None ∷ []) s t
+    pub adds : AddsOwn may (event_by s.agent (Look place (link_by t.rows link)) None ∷ []) s t
     pub known : IsTarget s.agent (heap_of b t) (id_by t.rows link.to)
 
   -- the row isn't the fresh row any more

@@ -8,7 +8,7 @@ ghost use Rattle.orc_heap.specs.Seats.{HoldsFresh, HoldsTarget};
 ghost use Rattle.orc_plain_board.specs.Calls.{KnowsPlace};
 ghost use Rattle.orc_plain_board.specs.Machine.{index_of, place_by};
 ghost use Rattle.orc_plain_board.specs.Views.{heap_of, shows};
-ghost use Rattle.orc_plain_domain.specs.Calls.{Furnishes, IsSame, Loads, Loses, MayAimAt, Retires, Takes, aim_at};
+ghost use Rattle.orc_plain_domain.specs.Calls.{Furnishes, IsSame, Loads, Loses, MayAimAt, Retires, GivesFreshRow, aim_at};
 ghost use Rattle.orc_plain_domain.specs.Passes.{IsPassOf, domain_bounds, domain_numbers, journal_of, next_row, rows_of, seat_of};
 
 use crate::domain::{PlainDomain, PlainPass};
@@ -25,7 +25,7 @@ impl<D: Discipline> PlainDomain<D> {
         ensures pass { IsPassOf self.now p.new }
         ensures same { IsSame p.old p.new }
         ensures took { MatchBool result
-            (Takes (domain_bounds self.now) row p.old.slots (shows self.now.board p.old.pass) (shows self.now.board p.new.pass))
+            (GivesFreshRow (domain_bounds self.now) row p.old.slots (shows self.now.board p.old.pass) (shows self.now.board p.new.pass))
             (Loses row p.old.slots (shows self.now.board p.old.pass) (shows self.now.board p.new.pass)) }
     {
         let gate = self.board.gate_look(&mut p.pass, row);

@@ -3,7 +3,7 @@ use Rattle.std.proofs.Common.{◌≡◌, ◌∙◌, ◌≤◌, Bool, List, ℕ, 
 use Rattle.orc_jobs.specs.JobGrammar.{IsFileOf}
 use Rattle.orc_jobs.specs.declared.line.Line.{Line}
 use Rattle.orc_options.proofs.NamesAnywhere.{one_settings}
-use Rattle.orc_options.specs.Settings.{AskFor, Gives}
+use Rattle.orc_options.specs.Settings.{AskFor, GivesSettings}
 use Rattle.orc_options.specs.declared.settings.Mode.TheVariants as mode
 use Rattle.orc_options.specs.declared.settings.Settings.{Settings}
 use Rattle.orc_program.specs.declared.ended.Ended.{Ended}
@@ -15,13 +15,13 @@ use Rattle.orc_program.proofs.OneAnswer.{file}
 -- bytes that were read in these settings, and answered
 pub record IsAnswered (words : List (List ℕ)) (left after : Option (List ℕ)) (ended : Ended) (s : Settings) (bytes : List ℕ) (status : ℕ) (text : List ℕ)
     : Type 0 where
-  pub gives : Gives words s
+  pub gives : GivesSettings words s
   pub input : IsInput (reads s.mode) left after bytes
   pub answers : Answers s bytes ended status text
 
 -- the bytes that were read are those that were answered, and the text that is written is the answer's
 pub answered : (words : List (List ℕ)) (left after : Option (List ℕ)) (ended : Ended) (s : Settings) (bytes : List ℕ) (status : ℕ) (text : List ℕ)
-    → Gives words s → IsInput (reads s.mode) left after bytes → (given said : List ℕ) → given ≡ bytes → text ≡ said → Answers s given ended status said
+    → GivesSettings words s → IsInput (reads s.mode) left after bytes → (given said : List ℕ) → given ≡ bytes → text ≡ said → Answers s given ended status said
     → IsAnswered words left after ended s bytes status text
 answered words left after ended s bytes status text gives input given said same is a = record {
   gives = gives;

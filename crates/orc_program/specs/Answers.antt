@@ -13,7 +13,7 @@ use Rattle.orc_trace.specs.declared.answers.TraceFault.TheVariants as trace
 use Rattle.orc_trace.specs.Answers.{audit_lines, fault_line, replay_line}
 use Rattle.orc_trace.specs.Audit.{IsAudit}
 use Rattle.orc_trace.specs.Replay.{IsReplay, Refuses as RefusesTrace}
-use Rattle.orc_options.specs.Settings.{Gives, Refuses as RefusesWords}
+use Rattle.orc_options.specs.Settings.{GivesSettings, RefusesWords as RefusesWords}
 use Rattle.orc_options.specs.declared.settings.Mode.{Mode}
 use Rattle.orc_options.specs.declared.settings.Mode.TheVariants as mode
 use Rattle.orc_options.specs.declared.settings.Settings.{Settings}
@@ -119,9 +119,9 @@ IsInput false left after bytes = (after ≡ left) × (bytes ≡ [])
 abbrev pub AnswersWords : List (List ℕ) → Option (List ℕ) → Option (List ℕ) → Ended → ℕ → List ℕ → Type 0
 AnswersWords words left after ended status text =
     (RefusesWords words × NothingEnded ended × (status ≡ 2) × (text ≡ words_refused))
-    ⊎ ((settings : Settings) × (bytes : List ℕ) × Gives words settings × IsInput (reads settings.mode) left after bytes
+    ⊎ ((settings : Settings) × (bytes : List ℕ) × GivesSettings words settings × IsInput (reads settings.mode) left after bytes
     × Answers settings bytes ended status text)
 
 -- the words ask for a mode that reads
 abbrev pub AskToRead : List (List ℕ) → Type 0
-AskToRead words = (settings : Settings) × Gives words settings × (reads settings.mode ≡ true)
+AskToRead words = (settings : Settings) × GivesSettings words settings × (reads settings.mode ≡ true)

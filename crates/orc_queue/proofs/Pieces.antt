@@ -20,7 +20,7 @@ use Rattle.orc_fifo_rule.proofs.Leaving.{left_later}
 use Rattle.orc_fifo_rule.specs.declared.fifo.FifoNote.{FifoNote}
 use Rattle.orc_fifo_rule.specs.declared.fifo.FifoNote.TheVariants.{Swing}
 use Rattle.orc_fifo_rule.specs.QueueDiscipline.{FifoHolds, FifoMay, position_of}
-use Rattle.orc_fifo_rule.specs.Watches.{IsLeft, WasNamed}
+use Rattle.orc_fifo_rule.specs.Watches.{IsLeftBehind, WasNamed}
 use Rattle.orc_fifo_rule.specs.Laws.Kept.{fifo_fits, fifo_keeps, fifo_moves_linked}
 use Rattle.orc_queue.specs.Turns.{Helps, HoldsNode}
 use Rattle.orc_queue.proofs.Filled.{Known}
@@ -50,8 +50,8 @@ module _ (n : HeapNumbers) (s t : Seat FifoNote) (own : List (Event FifoNote)) (
   pub position_puts : (id : ℕ) → IsLinkedNode (heap_of n s) id → position_of (heap_of n t) id ≡ position_of (heap_of n s) id
   position_puts id l = ap (λ es. position_of (run_heap n es) id) p.is ∙ position_later n s.seen p.part id l new
 
-  pub left_puts : (id : ℕ) → Known n s.seen → IsLeft (heap_of n s) id → IsLeft (heap_of n t) id
-  left_puts id k l = subst (λ es. IsLeft (run_heap n es) id) (sym p.is) (left_later n s.seen p.part id k.holds k.dummy.begun l new)
+  pub left_puts : (id : ℕ) → Known n s.seen → IsLeftBehind (heap_of n s) id → IsLeftBehind (heap_of n t) id
+  left_puts id k l = subst (λ es. IsLeftBehind (run_heap n es) id) (sym p.is) (left_later n s.seen p.part id k.holds k.dummy.begun l new)
 
   -- the fresh node stays the pass's own, changed by its own events alone
   pub node_touched : (job : ℕ) (h : Hold) → Known n s.seen → (node : HoldsNode n job h s) → list_any (λ e. points_to e.act (id_in s.slots h)) own ≡ false

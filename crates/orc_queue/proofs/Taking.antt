@@ -29,7 +29,7 @@ use Rattle.orc_fifo_rule.proofs.Reading.{successor_job}
 use Rattle.orc_fifo_rule.specs.declared.fifo.FifoNote.{FifoNote}
 use Rattle.orc_fifo_rule.specs.declared.fifo.FifoNote.TheVariants.{Entry, Swing}
 use Rattle.orc_fifo_rule.specs.QueueDiscipline.{FifoMay, HasJob, entries_of, entries_in, position_of}
-use Rattle.orc_fifo_rule.specs.Watches.{IsLeft, WasNamed}
+use Rattle.orc_fifo_rule.specs.Watches.{IsLeftBehind, WasNamed}
 use Rattle.orc_fifo_rule.specs.Laws.Events.{begun_more}
 use Rattle.orc_queue.specs.Turns.{FindsEnd, Helps, HelpsPast, HasStopped, TakesFrom, TakesJob, TakesFromHead}
 use Rattle.orc_queue.proofs.Filled.{Known}
@@ -186,7 +186,7 @@ past_helped n head next place link s a b p all_a all_b slots fresh helped = elim
 
 -- the tail named another node: it has left the head
 pub past_left : (n : HeapNumbers) (h : Hold) (s a : Seat FifoNote) → Known n s.seen → AllAllowed (FifoMay n) [] a.seen → a.slots ≡ s.slots
-    → WasNamed (heap_of n s) 0 (id_in s.slots h) → Misses (Root 1) (link_to (id_in s.slots h)) s a → IsLeft (heap_of n a) (id_in a.slots h)
+    → WasNamed (heap_of n s) 0 (id_in s.slots h) → Misses (Root 1) (link_to (id_in s.slots h)) s a → IsLeftBehind (heap_of n a) (id_in a.slots h)
 past_left n h s a k all slots named miss =
     let head = id_in s.slots h in
     let e : Event FifoNote = event_of s (Miss (Root 1) (link_to head) miss.found) None in
@@ -195,8 +195,8 @@ past_left n h s a k all slots named miss =
     let holds = holds_later n s.seen m.before k.holds m.first in
     let begun = begun_more s.seen m.before k.dummy.begun in
     let left = is_left n es head holds begun (named_later n s.seen m.before 0 head named m.first) (λ x. miss.other (some_same (sym m.here.fits.0 ∙ x))) in
-    subst (λ z. IsLeft (heap_of n a) (id_in z h)) (sym slots)
-    (subst (λ z. IsLeft (run_heap n z) head) (sym (miss.puts.is ∙ seen_is m)) (left_later n es (e ∷ m.later) head holds begun left (since m)))
+    subst (λ z. IsLeftBehind (heap_of n a) (id_in z h)) (sym slots)
+    (subst (λ z. IsLeftBehind (run_heap n z) head) (sym (miss.puts.is ∙ seen_is m)) (left_later n es (e ∷ m.later) head holds begun left (since m)))
 
 -- and then the job was taken, or not
 pub past_taken : (n : HeapNumbers) (head next : ℕ) (s a t : Seat FifoNote) (own : List (Event FifoNote)) (p : Puts s own a)
@@ -230,7 +230,7 @@ past_taken n head next s a t own p all slots fresh no_entry no_give no_move one 
 -- the Took may come
 pub took_may : (n : HeapNumbers) (s b : Seat FifoNote) (head next : Hold) (agent read_job read_at value : ℕ)
     → ReadsSuccessor n (id_in s.slots head) (id_in s.slots next) read_job value s b → read_at + 1 ≡ value → agent ≡ b.agent
-    → IsLeft (heap_of n s) (id_in s.slots head) → HasLink (heap_of n s) (id_in s.slots head) (link_to (id_in s.slots next))
+    → IsLeftBehind (heap_of n s) (id_in s.slots head) → HasLink (heap_of n s) (id_in s.slots head) (link_to (id_in s.slots next))
     → AllowedLater (FifoMay n) n b.agent b.seen (Root 0) (link_to (id_in b.slots head))
     (event_of b (Move (Root 0) (link_to (id_in b.slots head)) (link_to (id_in b.slots next))) (Some (Entry (Took agent read_job read_at))))
 took_may n s b head next agent read_job read_at value r value_is agent_is left link =

@@ -5,7 +5,7 @@ ghost use mathlib.Core.List.{IsPrefix};
 ghost use Rattle.orc_heap.specs.Journals.{run_heap};
 ghost use Rattle.orc_heap.specs.Seats.{IsIdle};
 ghost use Rattle.orc_heap.specs.Slots.{Holds, IsFree, id_in};
-ghost use Rattle.orc_fifo_rule.specs.Watches.{IsLeft, WasNamed};
+ghost use Rattle.orc_fifo_rule.specs.Watches.{IsLeftBehind, WasNamed};
 ghost use Rattle.orc_queue.specs.Answers.{TakeAnswers};
 ghost use Rattle.orc_queue.specs.Turns.{HasDummy, FindsEnd, TakesBehind, TakesFrom, TakesFromHead, TakesTurn, TakesTurns};
 ghost use Rattle.orc_heap.specs.Allowed.{HasLink};
@@ -38,7 +38,7 @@ fn swing_head<L: Links<Rule = Fifo>>(
     requires pass { L.belongs links.now p.old }
     requires made { HasDummy (L.numbers links.now) (L.opening links.now) }
     requires held { Holds (L.seat links.now p.old).slots head.now × Holds (L.seat links.now p.old).slots next.now }
-    requires left { IsLeft (run_heap (L.numbers links.now) (L.seat links.now p.old).seen) (id_in (L.seat links.now p.old).slots head.now) }
+    requires left { IsLeftBehind (run_heap (L.numbers links.now) (L.seat links.now p.old).seen) (id_in (L.seat links.now p.old).slots head.now) }
     requires successor { HasLink (run_heap (L.numbers links.now) (L.seat links.now p.old).seen)
         (id_in (L.seat links.now p.old).slots head.now) (link_to (id_in (L.seat links.now p.old).slots next.now)) }
     ensures pass { L.belongs links.now p.new }

@@ -9,13 +9,13 @@ use Rattle.orc_rest.specs.Drains.{Drained, TookIn}
 use Rattle.orc_rest.proofs.Opening.{falls_apart}
 use Rattle.orc_rest.proofs.Turns.{all_left, all_right, lawful_join, reached_others, still_no_slots}
 use Rattle.orc_rest.specs.Rounds.{Settled}
-use Rattle.orc_rest.specs.Turns.{IsReachedState, Made}
+use Rattle.orc_rest.specs.Turns.{IsReachedState, MadeAfterOthers}
 use Rattle.orc_sound.proofs.AllFits.{run_bounds}
 use Rattle.orc_words.specs.Bounds.{Bounds}
 use Rattle.orc_words.specs.declared.place.Word.TheVariants.{Handover}
 
 -- the first word is taken in, then the others, and then the agent settles
-abbrev pub drained : (m f n o : Machine) (a : ℕ) → IsReachedState m → a < m.bounds.agents → Made a (TakeIn 0) m f → TookIn a 1 f n → Settled a n o
+abbrev pub drained : (m f n o : Machine) (a : ℕ) → IsReachedState m → a < m.bounds.agents → MadeAfterOthers a (TakeIn 0) m f → TookIn a 1 f n → Settled a n o
     → Drained a m o
 drained m f n o a r h k t g =
     let us = t.steps ++ g.steps in

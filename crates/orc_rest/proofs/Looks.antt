@@ -9,7 +9,7 @@ use Rattle.orc_core.specs.declared.ops.Op.TheVariants.{Hand, SlotLook}
 use Rattle.orc_core.specs.declared.records.Agent.{Agent}
 use Rattle.orc_rest.proofs.Stages.{allowed}
 use Rattle.orc_rest.specs.Records.{IsFoundScan, IsScanOf, IsStill}
-use Rattle.orc_rest.specs.Rounds.{LookedAt, Looks}
+use Rattle.orc_rest.specs.Rounds.{LookedAt, LooksAtSlot}
 use Rattle.orc_words.specs.Packed.{count_bits}
 
 pub look_allowed : (m : Machine) (a r k : ℕ) → a < m.bounds.agents → IsStill (record_at m a) → IsScanOf r k (record_at m a).scan → k < 8 * m.bounds.agents
@@ -17,7 +17,7 @@ pub look_allowed : (m : Machine) (a r k : ℕ) → a < m.bounds.agents → IsSti
 look_allowed m a r k h s f l = allowed m a (SlotLook k) h s.calm.enrolled (rw (s.due, s.calm.inc, s.dec) refl)
     (rw (lt-ltb k (8 * m.bounds.agents) l, f.is, eq-eqb (count_bits f.word) 4194304 f.empty, eq-eqb k k refl) refl)
 
-pub looks : (m n : Machine) (a r k : ℕ) → IsStill (record_at m a) → IsScanOf r k (record_at m a).scan → LookedAt a k m n → Looks a r k m n
+pub looks : (m n : Machine) (a r k : ℕ) → IsStill (record_at m a) → IsScanOf r k (record_at m a).scan → LookedAt a k m n → LooksAtSlot a r k m n
 looks m n a r k s f l =
     let w = l.word in
     let scan : (record_at n a).scan ≡ Some (record { row = r; word = f.word; place = cond (w == r + 1) k (k + 1); found = w == r + 1 }) =

@@ -11,8 +11,8 @@ use Rattle.orc_rest.proofs.Rounds.{reached_work}
 use Rattle.orc_rest.proofs.Stages.{allowed_last, made_went, others_keep, went_join, went_none}
 use Rattle.orc_rest.proofs.Turns.{all_left, all_right, lawful_join, lawful_left, reached_falls, reached_hands, reached_on, reached_others, still_no_slots}
 use Rattle.orc_rest.specs.Records.{IsBetweenRounds, IsDone}
-use Rattle.orc_rest.specs.Rounds.{IsNoHand, Opened, Rounds, Settled, Went}
-use Rattle.orc_rest.specs.Turns.{AllOf, IsReachedState, Made, NoSlotsBut, NoneHanded, NoneOf, StaysZero}
+use Rattle.orc_rest.specs.Rounds.{IsNoHand, OpenedTurn, Rounds, Settled, Went}
+use Rattle.orc_rest.specs.Turns.{AllOf, IsReachedState, MadeAfterOthers, NoSlotsBut, NoneHanded, NoneOf, StaysZero}
 use Rattle.orc_rest.specs.Work.{IsSettlingStep, drop_of, work_left}
 use Rattle.orc_sound.proofs.AllFits.{run_bounds}
 use Rattle.orc_words.specs.Bounds.{Bounds}
@@ -20,8 +20,8 @@ use Rattle.orc_words.specs.declared.place.Word.TheVariants.{Handover}
 
 -- one step opens a turn
 abbrev pub opened_step : (a : ℕ) (op : Op) (m n : Machine) → IsNoHand op → is_allowed m a op ≡ true → IsSettlingStep (word_in m) op (record_at m a)
-    → Made a op m n
-    → IsReachedState n → Opened a (drop_of op (record_at m a)) m n
+    → MadeAfterOthers a op m n
+    → IsReachedState n → OpenedTurn a (drop_of op (record_at m a)) m n
 opened_step a op m n k h s w r = record {
   op = op;
   rest = 0;
@@ -35,7 +35,7 @@ opened_step a op m n k h s w r = record {
 }
 
 -- and more follow
-abbrev pub opened_more : (a x y : ℕ) (m n o : Machine) → Opened a x m n → Went a y n o → Opened a (x + y) m o
+abbrev pub opened_more : (a x y : ℕ) (m n o : Machine) → OpenedTurn a x m n → Went a y n o → OpenedTurn a (x + y) m o
 opened_more a x y m n o p w = record {
   op = p.op;
   rest = p.rest + y;
@@ -48,7 +48,7 @@ opened_more a x y m n o p w = record {
   enough = let e = p.enough in omega arith;
 }
 
-abbrev pub opened_less : (a x y : ℕ) (m n : Machine) → y ≤ x → Opened a x m n → Opened a y m n
+abbrev pub opened_less : (a x y : ℕ) (m n : Machine) → y ≤ x → OpenedTurn a x m n → OpenedTurn a y m n
 opened_less a x y m n h p = record {
   op = p.op;
   rest = p.rest;
@@ -62,7 +62,7 @@ opened_less a x y m n h p = record {
 }
 
 -- it is a turn as a whole
-abbrev pub opened_went : (a x : ℕ) (m n : Machine) → IsReachedState m → Opened a x m n → Went a x m n
+abbrev pub opened_went : (a x : ℕ) (m n : Machine) → IsReachedState m → OpenedTurn a x m n → Went a x m n
 opened_went a x m n r p =
     went_less a (drop_of p.op (record_at m a) + p.rest) x m n p.enough
     (went_join a (drop_of p.op (record_at m a)) p.rest m p.first n (made_went m p.first a p.op r p.allowed p.settles p.made) p.went)
@@ -75,7 +75,7 @@ pub record Begun (a : ℕ) (op : Op) (m f : Machine) (o : List (ℕ × Op)) : Ty
   pub record_is : record_at (run m o) a ≡ record_at m a
   pub is : f ≡ step (run m o) a op
 
-pub begun : (m f : Machine) (a : ℕ) (op : Op) → IsReachedState m → IsNoHand op → IsSettlingStep (word_in m) op (record_at m a) → (k : Made a op m f)
+pub begun : (m f : Machine) (a : ℕ) (op : Op) → IsReachedState m → IsNoHand op → IsSettlingStep (word_in m) op (record_at m a) → (k : MadeAfterOthers a op m f)
     → Begun a op m f k.others
 begun m f a op r nh s k =
     let kept = others_keep m a k.others k.apart in
@@ -98,7 +98,7 @@ pub record Falls (a : ℕ) (op : Op) (m f : Machine) (us o : List (ℕ × Op)) :
   pub mine : AllOf a us
 
 pub falls_apart : (m f : Machine) (a : ℕ) (op : Op) (us o p : List (ℕ × Op)) → IsReachedState m → IsNoHand op
-    → IsSettlingStep (word_in m) op (record_at m a) → (k : Made a op m f) → (k.others ++ (a, op) ∷ []) ++ us ≡ o ++ p → NoneOf a o → AllOf a p
+    → IsSettlingStep (word_in m) op (record_at m a) → (k : MadeAfterOthers a op m f) → (k.others ++ (a, op) ∷ []) ++ us ≡ o ++ p → NoneOf a o → AllOf a p
     → Falls a op m f us o
 falls_apart m f a op us o p r nh s k e none all =
     let q = split_first a (k.others ++ (a, op) ∷ []) us o p e none (own_last a k.others (a, op) refl) in
@@ -107,7 +107,7 @@ falls_apart m f a op us o p r nh s k e none all =
     record { begun = subst (Begun a op m f) (sym same) (begun m f a op r nh s k); mine = all_right a q.0 us mine }
 
 abbrev pub settled_first : (m n o : Machine) (a left : ℕ) → IsReachedState m → a < m.bounds.agents → IsBetweenRounds (record_at m a)
-    → left ≡ 4 * (m.bounds.rows + 8 * m.bounds.agents) - 1 → 1 ≤ 4 * (m.bounds.rows + 8 * m.bounds.agents) → Opened a 1 m n → Rounds a left n o → Settled a m o
+    → left ≡ 4 * (m.bounds.rows + 8 * m.bounds.agents) - 1 → 1 ≤ 4 * (m.bounds.rows + 8 * m.bounds.agents) → OpenedTurn a 1 m n → Rounds a left n o → Settled a m o
 settled_first m n o a left r h d e big w g =
     let us = w.went.turn.steps ++ g.steps in
     let ts = w.made.others ++ (a, w.op) ∷ [] in record {

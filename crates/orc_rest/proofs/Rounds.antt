@@ -12,7 +12,7 @@ use Rattle.orc_core.specs.declared.records.Doom.{Doom}
 use Rattle.orc_core.specs.declared.records.Scan.{Scan}
 use Rattle.orc_rest.proofs.ForRuns.{work_within}
 use Rattle.orc_rest.proofs.Stages.{allowed}
-use Rattle.orc_rest.specs.Records.{IsBetweenRounds, IsDone, IsNext}
+use Rattle.orc_rest.specs.Records.{IsBetweenRounds, IsDone, IsScannedNext}
 use Rattle.orc_rest.specs.Rounds.{Rounds, Went}
 use Rattle.orc_rest.specs.Turns.{IsReachedState}
 use Rattle.orc_rest.specs.Work.{uncut, work_left}
@@ -36,7 +36,7 @@ first_listed [] r h = absurd (false≢true h)
 first_listed (x ∷ xs) r h = let e = listings_cons x xs r in let f = ap bit h in omega arith
 
 -- a scan may begin
-pub start_allowed : (m : Machine) (a r : ℕ) → IsReachedState m → a < m.bounds.agents → IsBetweenRounds (record_at m a) → IsNext r (record_at m a)
+pub start_allowed : (m : Machine) (a r : ℕ) → IsReachedState m → a < m.bounds.agents → IsBetweenRounds (record_at m a) → IsScannedNext r (record_at m a)
     → (record_at m a).scan ≡ None → is_allowed m a (CounterLoad r Start) ≡ true
 start_allowed m a r k h d n e =
     let w = ⊎_elim (λ s. absurd (no_scan (record_at m a).scan s e)) (λ w. w.1) n in

@@ -19,7 +19,7 @@ use Rattle.orc_core.specs.declared.records.SlotUse.TheVariants.{Empty}
 use Rattle.orc_rest.proofs.Turns.{lawful_left, made_turn, no_turn, reached_on, turn_join}
 use Rattle.orc_rest.specs.Records.{DueFits, IsSettling, IsStill, SameTasks}
 use Rattle.orc_rest.specs.Rounds.{AfterStep, LookedAt, Went}
-use Rattle.orc_rest.specs.Turns.{IsReachedState, Made, NoneOf}
+use Rattle.orc_rest.specs.Turns.{IsReachedState, MadeAfterOthers, NoneOf}
 use Rattle.orc_rest.specs.Work.{IsSettlingStep, drop_of}
 use Rattle.orc_sound.proofs.AllFits.{run_bounds, run_fits}
 use Rattle.orc_sound.proofs.DoomedStep.{out_below}
@@ -39,7 +39,7 @@ others_keep m a (x ∷ xs) n = others_keep (step m x.0 x.1) a xs n.1 ∙ kept
         (nobody m.bounds.rows)
     kept = get_or-set_other m.agents x.0 a (after x.1 (record_at m x.0) (word_read m x.0 x.1)) (nobody m.bounds.rows) (λ e. n.0 (sym e))
 
-pub made_record : (m n : Machine) (a : ℕ) (op : Op) → IsReachedState m → a < m.bounds.agents → Made a op m n → AfterStep a op m n
+pub made_record : (m n : Machine) (a : ℕ) (op : Op) → IsReachedState m → a < m.bounds.agents → MadeAfterOthers a op m n → AfterStep a op m n
 made_record m n a op r h k =
     let mid = run m k.others in
     let reached = reached_on m mid k.others r (lawful_left m k.others ((a, op) ∷ []) k.lawful) refl in
@@ -55,7 +55,7 @@ made_record m n a op r h k =
     }
 
 abbrev pub made_went : (m n : Machine) (a : ℕ) (op : Op) → IsReachedState m → is_allowed m a op ≡ true → IsSettlingStep (word_in m) op (record_at m a)
-    → Made a op m n → Went a (drop_of op (record_at m a)) m n
+    → MadeAfterOthers a op m n → Went a (drop_of op (record_at m a)) m n
 made_went m n a op r h s k = record {
   turn = made_turn m n a op r h s k;
   reached = reached_on m n (k.others ++ (a, op) ∷ []) r k.lawful k.is;
@@ -101,7 +101,7 @@ pub record StillKept (d e : Agent) : Type 0 where
   pub kept : SameTasks d e
 
 pub clear_made : (m n : Machine) (a : ℕ) → IsReachedState m → a < m.bounds.agents → IsSettling (record_at m a)
-    → is_empty (slot_of (record_at m a) 0) ≡ false → (record_at m a).dec ≡ None → (record_at m a).due ≡ None → Made a (Clear 0) m n
+    → is_empty (slot_of (record_at m a) 0) ≡ false → (record_at m a).dec ≡ None → (record_at m a).due ≡ None → MadeAfterOthers a (Clear 0) m n
     → Left a 0 m n (StillKept (record_at m a))
 clear_made m n a r h c u d e k =
     let go = clear_allowed m a h c u d e in
@@ -115,7 +115,7 @@ clear_made m n a r h c u d e k =
 pub take_allowed : (m : Machine) (a : ℕ) → a < m.bounds.agents → IsStill (record_at m a) → is_allowed m a (TakeIn 0) ≡ true
 take_allowed m a h s = allowed m a (TakeIn 0) h s.calm.enrolled (rw (s.due, s.calm.inc, s.dec) refl) (rw s.zero refl)
 
-pub take_made : (m n : Machine) (a : ℕ) → IsReachedState m → a < m.bounds.agents → IsStill (record_at m a) → Made a (TakeIn 0) m n
+pub take_made : (m n : Machine) (a : ℕ) → IsReachedState m → a < m.bounds.agents → IsStill (record_at m a) → MadeAfterOthers a (TakeIn 0) m n
     → Left a 0 m n (StillKept (record_at m a))
 take_made m n a r h s k =
     left_by a 0 m n (StillKept (record_at m a)) (made_went m n a (TakeIn 0) r (take_allowed m a h s) refl k) (TakeIn 0) (made_record m n a (TakeIn 0) r h k)
@@ -131,7 +131,7 @@ take_made m n a r h s k =
 
 -- one step: it is allowed, and what it leaves
 abbrev pub Steps : ℕ → ℕ → Op → Machine → (Agent → Type 0) → Type 0
-Steps a drop op m P = (is_allowed m a op ≡ true) × ((n : Machine) → IsReachedState m → Made a op m n → Left a drop m n P)
+Steps a drop op m P = (is_allowed m a op ≡ true) × ((n : Machine) → IsReachedState m → MadeAfterOthers a op m n → Left a drop m n P)
 
 steps : (a : ℕ) (op : Op) (m : Machine) (P : Agent → Type 0) → a < m.bounds.agents → stands op (record_at m a) ≡ true → forced (record_at m a) op ≡ true
     → fits m.bounds (word_in m Enrolled) a op (record_at m a) ≡ true → IsSettlingStep (word_in m) op (record_at m a)
@@ -174,7 +174,7 @@ pub allowed_last : (m : Machine) (xs : List (ℕ × Op)) (a : ℕ) (op : Op) →
 allowed_last m [] a op l = l.0
 allowed_last m (x ∷ xs) a op l = allowed_last (step m x.0 x.1) xs a op l.1
 
-pub made_look : (m n : Machine) (a k : ℕ) → IsReachedState m → a < m.bounds.agents → Made a (SlotLook k) m n → LookedAt a k m n
+pub made_look : (m n : Machine) (a k : ℕ) → IsReachedState m → a < m.bounds.agents → MadeAfterOthers a (SlotLook k) m n → LookedAt a k m n
 made_look m n a k r h d =
     let mid = run m d.others in
     let reached = reached_on m mid d.others r (lawful_left m d.others ((a, SlotLook k) ∷ []) d.lawful) refl in

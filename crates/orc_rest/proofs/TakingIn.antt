@@ -14,17 +14,17 @@ use Rattle.orc_rest.proofs.Calls.{all_empty}
 use Rattle.orc_rest.proofs.Stages.{allowed, made_record, whole}
 use Rattle.orc_rest.proofs.Turns.{all_left, all_right, lawful_join, none_all, zero_join}
 use Rattle.orc_rest.specs.Records.{IsBetweenRounds}
-use Rattle.orc_rest.specs.Turns.{IsReachedState, Made}
+use Rattle.orc_rest.specs.Turns.{IsReachedState, MadeAfterOthers}
 
 pub take_slot : (m : Machine) (a k : ℕ) → a < m.bounds.agents → IsBetweenRounds (record_at m a) → k < 8 → is_allowed m a (TakeIn k) ≡ true
 take_slot m a k h r l =
     allowed m a (TakeIn k) h r.still.calm.enrolled (rw (r.still.due, r.still.calm.inc, r.still.dec) refl)
     (rw (lt-ltb k 8 l, all_empty (record_at m a) r.still k) refl)
 
-pub made_bounds : (m n : Machine) (a : ℕ) (op : Op) → Made a op m n → n.bounds ≡ m.bounds
+pub made_bounds : (m n : Machine) (a : ℕ) (op : Op) → MadeAfterOthers a op m n → n.bounds ≡ m.bounds
 made_bounds m n a op k = ap (λ (x : Machine). x.bounds) k.is ∙ run_bounds m (k.others ++ (a, op) ∷ [])
 
-pub made_between : (m n : Machine) (a k : ℕ) → IsReachedState m → a < m.bounds.agents → IsBetweenRounds (record_at m a) → Made a (TakeIn k) m n
+pub made_between : (m n : Machine) (a k : ℕ) → IsReachedState m → a < m.bounds.agents → IsBetweenRounds (record_at m a) → MadeAfterOthers a (TakeIn k) m n
     → IsBetweenRounds (record_at n a)
 made_between m n a k q h r d =
     let w = made_record m n a (TakeIn k) q h d in
@@ -54,7 +54,7 @@ took_word m a k j r h l i z = cases (j == k) refl
 abbrev pub took_none : (m : Machine) (a : ℕ) → IsReachedState m → TookIn a 8 m m
 took_none m a r = record { steps = []; lawful = tt; is = refl; reached = r; bounds = refl; hands = λ all z. z; others = λ all s x k lx lk ne z. z }
 
-abbrev pub took_more : (m n o : Machine) (a k : ℕ) → IsReachedState m → a < m.bounds.agents → IsBetweenRounds (record_at m a) → k < 8 → Made a (TakeIn k) m n
+abbrev pub took_more : (m n o : Machine) (a k : ℕ) → IsReachedState m → a < m.bounds.agents → IsBetweenRounds (record_at m a) → k < 8 → MadeAfterOthers a (TakeIn k) m n
     → TookIn a (k + 1) n o → TookIn a k m o
 took_more m n o a k r h d l w t = record {
   steps = (w.others ++ (a, TakeIn k) ∷ []) ++ t.steps;

@@ -8,7 +8,7 @@ use Rattle.orc_core.specs.RecordParts.{is_empty, slot_of}
 use Rattle.orc_core.specs.Runs.{IsLawful, run}
 use Rattle.orc_core.specs.declared.ops.Op.{Op}
 use Rattle.orc_rest.proofs.ForRuns.{other_handovers, own_words, work_falls}
-use Rattle.orc_rest.specs.Turns.{AllOf, IsReachedState, Made, NoSlotsBut, NoneHanded, NoneOf, StaysZero, Turn}
+use Rattle.orc_rest.specs.Turns.{AllOf, IsReachedState, MadeAfterOthers, NoSlotsBut, NoneHanded, NoneOf, StaysZero, Turn}
 use Rattle.orc_rest.specs.Work.{IsSettlingStep, drop_of, work_left}
 use Rattle.orc_sound.proofs.AllFits.{run_bounds}
 use Rattle.orc_words.specs.Bounds.{Bounds}
@@ -92,7 +92,7 @@ reached_others m a op x k lx lk ne r = subst (λ w. x < w.bounds.agents → is_a
 
 -- a step that settles is a turn: alone, it was made right at the state before
 abbrev pub made_turn : (m n : Machine) (a : ℕ) (op : Op) → IsReachedState m → is_allowed m a op ≡ true → IsSettlingStep (word_in m) op (record_at m a)
-    → Made a op m n → Turn a (drop_of op (record_at m a)) m n
+    → MadeAfterOthers a op m n → Turn a (drop_of op (record_at m a)) m n
 made_turn m n a op r h s k = record {
   steps = k.others ++ (a, op) ∷ [];
   lawful = k.lawful;

@@ -69,5 +69,5 @@ pub record IsFoundScan (r k : ℕ) (o : Option Scan) : Type 0 where
   pub is : o ≡ Some (record { row = r; word = word; place = k; found = true })
 
 -- the row is scanned, or a scan of it may begin
-abbrev pub IsNext : ℕ → Agent → Type 0
-IsNext r d = (scans d.scan r ≡ true) ⊎ ((d.scan ≡ None) × ((names d.hand r || (is_none d.hand && first_is d.list.items r)) ≡ true))
+abbrev pub IsScannedNext : ℕ → Agent → Type 0
+IsScannedNext r d = (scans d.scan r ≡ true) ⊎ ((d.scan ≡ None) × ((names d.hand r || (is_none d.hand && first_is d.list.items r)) ≡ true))

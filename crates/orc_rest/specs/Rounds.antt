@@ -7,7 +7,7 @@ use Rattle.orc_core.specs.Runs.{IsLawful, run}
 use Rattle.orc_core.specs.declared.ops.Op.{Op}
 use Rattle.orc_core.specs.declared.ops.Op.TheVariants.{Hand, SlotLook}
 use Rattle.orc_rest.specs.Records.{IsDone, IsFoundScan, IsScanOf, IsStill}
-use Rattle.orc_rest.specs.Turns.{AllOf, IsReachedState, Made, NoSlotsBut, NoneHanded, NoneOf, StaysZero, Turn}
+use Rattle.orc_rest.specs.Turns.{AllOf, IsReachedState, MadeAfterOthers, NoSlotsBut, NoneHanded, NoneOf, StaysZero, Turn}
 use Rattle.orc_rest.specs.Work.{IsSettlingStep, drop_of, work_left}
 use Rattle.orc_words.specs.declared.place.Word.TheVariants.{Slot}
 
@@ -29,7 +29,7 @@ pub record LookedAt (a k : ℕ) (m n : Machine) : Type 0 where
   pub shows : word_in n (Slot (k / 8) (k % 8)) ≡ word
 
 -- a slot was looked at for the scanned row: it names the row and the scan is found, or the scan goes on at the next place
-pub record Looks (a r k : ℕ) (m n : Machine) : Type 0 where
+pub record LooksAtSlot (a r k : ℕ) (m n : Machine) : Type 0 where
   pub still : IsStill (record_at n a)
   pub doom : (record_at n a).doom ≡ (record_at m a).doom
   pub found : scan_found (record_at n a).scan ≡ true → IsFoundScan r k (record_at n a).scan
@@ -42,14 +42,14 @@ IsNoHand (Hand k) = ⊥
 IsNoHand op = Unit {0}
 
 -- a turn with its first step
-pub record Opened (a drop : ℕ) (m n : Machine) : Type 0 where
+pub record OpenedTurn (a drop : ℕ) (m n : Machine) : Type 0 where
   pub op : Op
   pub rest : ℕ
   pub first : Machine
   pub kind : IsNoHand op
   pub allowed : is_allowed m a op ≡ true
   pub settles : IsSettlingStep (word_in m) op (record_at m a)
-  pub made : Made a op m first
+  pub made : MadeAfterOthers a op m first
   pub went : Went a rest first n
   pub enough : drop ≤ drop_of op (record_at m a) + rest
 

@@ -27,7 +27,7 @@ NoneOf a [] = Unit {0}
 NoneOf a (s ∷ ss) = (s.0 ≢ a) × NoneOf a ss
 
 -- others step, and then the agent makes this step
-pub record Made (a : ℕ) (op : Op) (m n : Machine) : Type 0 where
+pub record MadeAfterOthers (a : ℕ) (op : Op) (m n : Machine) : Type 0 where
   pub others : List (ℕ × Op)
   pub apart : NoneOf a others
   pub lawful : IsLawful m (others ++ (a, op) ∷ [])

@@ -14,7 +14,7 @@ ghost use Rattle.orc_rest.specs.Rest.{IsAtRest, EndsAtRest};
 ghost use Rattle.orc_rest.specs.Reuse.{given, reused, rows_out};
 ghost use Rattle.orc_rest.specs.Records.{IsBetweenRounds};
 ghost use Rattle.orc_rest.specs.Rounds.{Settled};
-ghost use Rattle.orc_rest.specs.Turns.{IsReachedState, Made, Turn};
+ghost use Rattle.orc_rest.specs.Turns.{IsReachedState, MadeAfterOthers, Turn};
 ghost use Rattle.orc_rest.specs.Work.{IsSettlingStep, drop_of, work_left};
 ghost use Rattle.orc_sound.specs.Journals.{plain};
 ghost use Rattle.orc_sound.specs.Lifetimes.{times_taken};
@@ -56,7 +56,7 @@ pub fn settling_hands_nothing_over()
 /// A step that settles is a turn that lowers the work by its drop.
 pub fn a_settling_step_is_a_turn()
     ensures { (m n : Machine) (a : ℕ) (op : Op) → IsReachedState m → is_allowed m a op ≡ true → IsSettlingStep (word_in m) op (record_at m a)
-        → Made a op m n → Turn a (drop_of op (record_at m a)) m n }
+        → MadeAfterOthers a op m n → Turn a (drop_of op (record_at m a)) m n }
 {}
 
 /// Two turns make one, and their drops add up.
@@ -70,12 +70,12 @@ pub fn a_drain_takes_in_and_settles()
     ensures allowed { (m : Machine) (a k : ℕ) → a < m.bounds.agents → IsBetweenRounds (record_at m a) → k < 8
         → is_allowed m a (Op.TakeIn k) ≡ true }
     ensures idle { (m n : Machine) (a k : ℕ) → IsReachedState m → a < m.bounds.agents → IsBetweenRounds (record_at m a)
-        → Made a (Op.TakeIn k) m n → IsBetweenRounds (record_at n a) }
+        → MadeAfterOthers a (Op.TakeIn k) m n → IsBetweenRounds (record_at n a) }
     ensures end { (m : Machine) (a : ℕ) → IsReachedState m → TookIn a 8 m m }
     ensures takes { (m n o : Machine) (a k : ℕ) → IsReachedState m → a < m.bounds.agents → IsBetweenRounds (record_at m a) → k < 8
-        → Made a (Op.TakeIn k) m n → TookIn a (k + 1) n o → TookIn a k m o }
+        → MadeAfterOthers a (Op.TakeIn k) m n → TookIn a (k + 1) n o → TookIn a k m o }
     ensures drains { (m f n o : Machine) (a : ℕ) → IsReachedState m → a < m.bounds.agents
-        → Made a (Op.TakeIn 0) m f → TookIn a 1 f n → Settled a n o → Drained a m o }
+        → MadeAfterOthers a (Op.TakeIn 0) m f → TookIn a 1 f n → Settled a n o → Drained a m o }
 {}
 
 /// Where each agent is idle, and each drains alone, one after another, the machine is at rest afterwards.

@@ -9,7 +9,7 @@ use Rattle.atomic_table.proofs.Lists.{at_snoc, at_longer, set_else}
 use Rattle.orc_heap.specs.declared.events.Event.{Event}
 use Rattle.orc_shared_words.specs.declared.journal.View.{View}
 use Rattle.orc_shared_words.specs.Lists.{Among}
-use Rattle.orc_shared_words.specs.Rule.{AtMostOne, EachView, Fits, HandsOut, HasSeen, NoPass, Retired, Shows, Unborn}
+use Rattle.orc_shared_words.specs.Rule.{AtMostOne, EachView, SeatKnows, HandsOut, HasSeen, NoPass, Retired, Shows, Unborn}
 use Rattle.orc_shared_words.specs.Runs.{Rules}
 use Rattle.orc_history.specs.Journals.{own_of}
 use Rattle.orc_shared_words.proofs.Seats.{at_changed, at_grown, at_one, none_some}
@@ -81,13 +81,13 @@ module _ {K S Op Rec N : Type 0} (r : Rules K S Op Rec N) (k : K) where
 module _ {K S Op Rec N : Type 0} (r : Rules K S Op Rec N) (k : K) (holds : List (Event N) → Type 0) (may : List (Event N) → Event N → Type 0) where
   -- one seat's view changes, and nothing else
   unfoldable pub changed : (words : List ℕ) (s : State (Unit {0}) (View S Rec)) (h : Shows r k holds may s) (id : ℕ) (v w : View S Rec)
-      → words ≡ s.words → get_elem? s.views id ≡ some v → Fits r k h.journal w → AgentStays v w → FreeGrows v w
+      → words ≡ s.words → get_elem? s.views id ≡ some v → SeatKnows r k h.journal w → AgentStays v w → FreeGrows v w
       → ((a : ℕ) → Among a w.also → Retired r k h.journal s.views a w.seen) → (HasSeen h.journal v → Attained h.journal (set s.views id w))
       → Shows r k holds may record { words = words; homes = s.homes; views = set s.views id w }
   changed words s h id v w same at fits less free mine has = record {
     journal = h.journal;
     attained = still_attained h.journal s.views id v w at has h.attained;
-    fits = at_changed (λ _ u. Fits r k h.journal u) s.views id w fits (λ i u _. h.fits i u);
+    fits = at_changed (λ _ u. SeatKnows r k h.journal u) s.views id w fits (λ i u _. h.fits i u);
     lawful = h.lawful;
     opened = h.opened;
     words = same ∙ h.words;
@@ -107,13 +107,13 @@ module _ {K S Op Rec N : Type 0} (r : Rules K S Op Rec N) (k : K) (holds : List 
     pub living : EachView views (λ _ v. ¬ Among a v.also)
 
   -- a seat comes, which hands out no numbers
-  pub added : (s : State (Unit {0}) (View S Rec)) (h : Shows r k holds may s) (w : View S Rec) → Fits r k h.journal w → w.free ≡ None → w.also ≡ []
+  pub added : (s : State (Unit {0}) (View S Rec)) (h : Shows r k holds may s) (w : View S Rec) → SeatKnows r k h.journal w → w.free ≡ None → w.also ≡ []
       → ((a : ℕ) → w.agent ≡ Some a → IsNew s.views a)
       → Shows r k holds may record { words = s.words; homes = s.homes; views = s.views ++ w ∷ [] }
   added s h w fits none alone_so new = record {
     journal = h.journal;
     attained = let t = h.attained in (t.0, t.1, at_longer s.views (w ∷ []) t.0 t.1 t.2, t.3);
-    fits = λ i u e. ⊎_elim (h.fits i u) (λ (t : w ≡ u). subst (Fits r k h.journal) t fits) (at_snoc s.views w u i e);
+    fits = λ i u e. ⊎_elim (h.fits i u) (λ (t : w ≡ u). subst (SeatKnows r k h.journal) t fits) (at_snoc s.views w u i e);
     lawful = h.lawful;
     opened = h.opened;
     words = h.words;

@@ -5,10 +5,10 @@ use Rattle.orc_heap.specs.Allowed.{AllAllowed}
 use Rattle.orc_heap.specs.declared.events.Event.{Event}
 use Rattle.orc_layout.specs.Layout.{lay}
 use Rattle.orc_shared_words.specs.declared.journal.View.{View}
-use Rattle.orc_shared_words.specs.Ends.{Opens, OwnsAll, Whole}
+use Rattle.orc_shared_words.specs.Ends.{OpensLawfully, OwnsAll, Whole}
 use mathlib.Core.List.{IsPrefix}
 use Rattle.orc_shared_words.specs.Lists.{Among}
-use Rattle.orc_shared_words.specs.Rule.{Fits, HandsOut, Owns, Shows, Unborn}
+use Rattle.orc_shared_words.specs.Rule.{SeatKnows, HandsOut, Owns, Shows, Unborn}
 use Rattle.orc_shared_words.specs.Runs.{AgentsBelow, Rules}
 use Rattle.orc_history.specs.Journals.{own_of}
 use Rattle.orc_shared_words.specs.Views.{first_view}
@@ -19,14 +19,14 @@ use Rattle.orc_shared_words.proofs.Seats.{at_one, one_number}
 
 module _ {K S Op Rec N : Type 0} (r : Rules K S Op Rec N) (k : K) (holds : List (Event N) → Type 0) (may : List (Event N) → Event N → Type 0) where
   -- the table of new shared words keeps the rule
-  pub opens : (words : List ℕ) → words ≡ lay (r.index k) (r.words k (r.opening k)) → Opens r k holds may → Shows r k holds may (opening words [] (first_view r k))
+  pub opens : (words : List ℕ) → words ≡ lay (r.index k) (r.words k (r.opening k)) → OpensLawfully r k holds may → Shows r k holds may (opening words [] (first_view r k))
   opens words same o =
       let v : View S Rec = first_view r k in
       let j : List S = r.opening k in
       record {
         journal = j;
         attained = (0, v, refl, inl (0, refl, refl));
-        fits = at_one v (λ _ u. Fits r k j u) record {
+        fits = at_one v (λ _ u. SeatKnows r k j u) record {
           seen = prefix_same j j refl;
           kept = (j, refl);
           pass = λ a e. subst (Owns r k j v) (sym (one_number (Some 0) 0 a refl e)) record {

@@ -5,8 +5,8 @@ use native.Mathlib.Decide.{ℕ_discrete}
 use Rattle.orc_heap.specs.Allowed.{AllAllowed}
 use Rattle.orc_heap.specs.declared.events.Event.{Event}
 use Rattle.orc_shared_words.specs.declared.journal.View.{View}
-use Rattle.orc_shared_words.specs.Ends.{Opens}
-use Rattle.orc_shared_words.specs.Learning.{Learned, SameButSeen}
+use Rattle.orc_shared_words.specs.Ends.{OpensLawfully}
+use Rattle.orc_shared_words.specs.Learning.{LearnedBoth, SameButSeen}
 use mathlib.Core.List.{IsPrefix}
 use Rattle.orc_shared_words.specs.Runs.{AgentsBelow, Obeys, Rules}
 use Rattle.orc_history.specs.Journals.{own_of}
@@ -16,7 +16,7 @@ use Rattle.orc_shared_words.proofs.Runs.{by_other, by_own, cons_nil, none_behind
 
 module _ {K S Op Rec N : Type 0} (r : Rules K S Op Rec N) (k : K) (holds : List (Event N) → Type 0) (may : List (Event N) → Event N → Type 0) where
   -- a pass that was just made
-  pub new_pass_later : (v : View S Rec) (a : ℕ) → Opens r k holds may → v.seen ≡ r.opening k → v.also ≡ [] → v.own ≡ r.own k (r.opening k) a
+  pub new_pass_later : (v : View S Rec) (a : ℕ) → OpensLawfully r k holds may → v.seen ≡ r.opening k → v.also ≡ [] → v.own ≡ r.own k (r.opening k) a
       → LaterJournal r k holds may v.seen v a
   new_pass_later v a o seen also own = record {
     lawful = subst (r.lawful k) (sym seen) o.lawful;
@@ -65,7 +65,7 @@ module _ {K S Op Rec N : Type 0} (r : Rules K S Op Rec N) (k : K) (holds : List 
   }
 
   -- two passes that learned from each other
-  pub learned_later : Obeys r k → (v u w x : View S Rec) (a b : ℕ) → v.agent ≡ Some a → u.agent ≡ Some b → Learned r.by v u w x
+  pub learned_later : Obeys r k → (v u w x : View S Rec) (a b : ℕ) → v.agent ≡ Some a → u.agent ≡ Some b → LearnedBoth r.by v u w x
       → LaterJournal r k holds may v.seen v a → LaterJournal r k holds may u.seen u b
       → LaterJournal r k holds may w.seen w a × LaterJournal r k holds may x.seen x b
   learned_later laws v u w x a b va ub learned mine other = ⊎_elim

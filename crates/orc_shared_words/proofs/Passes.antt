@@ -10,10 +10,10 @@ use Rattle.atomic_table.proofs.Lists.{set_else}
 use Rattle.orc_heap.proofs.Pieces.{goes_on}
 use Rattle.orc_heap.specs.declared.events.Event.{Event}
 use Rattle.orc_shared_words.specs.declared.journal.View.{View}
-use Rattle.orc_shared_words.specs.Learning.{Confirmed, Learned}
+use Rattle.orc_shared_words.specs.Learning.{Confirmed, LearnedBoth}
 use mathlib.Core.List.{IsPrefix}
 use Rattle.orc_shared_words.specs.Lists.{Among}
-use Rattle.orc_shared_words.specs.Rule.{Fits, HasSeen, Owns, Retired, Shows}
+use Rattle.orc_shared_words.specs.Rule.{SeatKnows, HasSeen, Owns, Retired, Shows}
 use Rattle.orc_shared_words.specs.Runs.{Rules}
 use Rattle.orc_history.specs.Journals.{own_of}
 use Rattle.orc_shared_words.specs.Views.{Covers, absorbing, agent_of, keeping, next_number, next_pass, note_of, one_handed, spent_view}
@@ -47,11 +47,11 @@ module _ {S Rec : Type 0} where
 
 module _ {K S Op Rec N : Type 0} (r : Rules K S Op Rec N) (k : K) where
   -- a view with no agent fits where its lists are prefixes
-  agentless : (j : List S) (v : View S Rec) → v.agent ≡ None → IsPrefix v.seen j → IsPrefix v.kept j → Fits r k j v
+  agentless : (j : List S) (v : View S Rec) → v.agent ≡ None → IsPrefix v.seen j → IsPrefix v.kept j → SeatKnows r k j v
   agentless j v none seen kept = record { seen = seen; kept = kept; pass = λ a e. absurd (none_some v.agent a none e) }
 
   -- a pass that keeps another list beside its own
-  refit : (j : List S) (v w : View S Rec) → Fits r k j v → w.agent ≡ v.agent → w.own ≡ v.own → w.seen ≡ v.seen → IsPrefix w.kept j → Fits r k j w
+  refit : (j : List S) (v w : View S Rec) → SeatKnows r k j v → w.agent ≡ v.agent → w.own ≡ v.own → w.seen ≡ v.seen → IsPrefix w.kept j → SeatKnows r k j w
   refit j v w f agent own seen kept = record {
     seen = subst (λ l. IsPrefix l j) (sym seen) f.seen;
     kept = kept;
@@ -165,7 +165,7 @@ module _ {K S Op Rec N : Type 0} (r : Rules K S Op Rec N) (k : K) where
         ap (own_of r.by a) (sym b.1)
         ∙ own_of-others r.by a v.seen b.0
         (front_nil (own_of r.by a b.0) (own_of r.by a f.kept.0) (sym (own_of-append r.by a b.0 f.kept.0) ∙ none_behind r.by a h.journal v.seen behind e)) in
-        let fits : Fits r k h.journal w = record {
+        let fits : SeatKnows r k h.journal w = record {
           seen = f.kept;
           kept = (h.journal, refl);
           pass = λ a e. let o = f.pass a e in
@@ -257,7 +257,7 @@ module _ {K S Op Rec N : Type 0} (r : Rules K S Op Rec N) (k : K) where
         ∙ set-set (set s.views id both) other left (spent_view r)) last
 
 module _ {S Rec : Type 0} where
-  learned : (by : S → ℕ) (v u w x : View S Rec) → Confirmed by (keeping v u) w → Confirmed by (keeping u w) x → Learned by v u w x
+  learned : (by : S → ℕ) (v u w x : View S Rec) → Confirmed by (keeping v u) w → Confirmed by (keeping u w) x → LearnedBoth by v u w x
   learned by v u w x first second = record {
     longer = first.one;
     both = ⊎_elim
@@ -273,6 +273,6 @@ module _ {S Rec : Type 0} where
   }
 
   -- after each of the two has taken the other's list, both have the longer one
-  pub learns : (by : S → ℕ) (v u w u' w' x : View S Rec) → u' ≡ u → w' ≡ w → Confirmed by (keeping v u) w → Confirmed by (keeping u' w) x → Learned by v u w' x
+  pub learns : (by : S → ℕ) (v u w u' w' x : View S Rec) → u' ≡ u → w' ≡ w → Confirmed by (keeping v u) w → Confirmed by (keeping u' w) x → LearnedBoth by v u w' x
   learns by v u w u' w' x su sw first second =
-      subst (λ z. Learned by v u z x) (sym sw) (learned by v u w x first (subst (λ z. Confirmed by (keeping z w) x) su second))
+      subst (λ z. LearnedBoth by v u z x) (sym sw) (learned by v u w x first (subst (λ z. Confirmed by (keeping z w) x) su second))

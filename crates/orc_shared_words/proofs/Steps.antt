@@ -13,13 +13,13 @@ use Rattle.orc_layout.specs.Layout.{lay}
 use Rattle.orc_shared_words.specs.declared.journal.View.{View}
 use Rattle.orc_shared_words.specs.Lists.{Each}
 use Rattle.orc_shared_words.specs.Operations.{returned_by}
-use Rattle.orc_shared_words.specs.Rule.{Fits, HandsOut, Owns, Shows}
+use Rattle.orc_shared_words.specs.Rule.{SeatKnows, HandsOut, Owns, Shows}
 use Rattle.orc_shared_words.specs.Runs.{Obeys, Rules, found_by}
 use Rattle.orc_history.specs.Journals.{own_of}
 use Rattle.orc_words.specs.Operations.{word_after}
 use Rattle.orc_words.specs.declared.operation.Operation.{Operation}
 use Rattle.orc_words.specs.declared.operation.Operation.TheVariants.{CompareExchange, Swap}
-use Rattle.orc_shared_words.specs.Steps.{Did, LaterJournal, Licensed, Tried}
+use Rattle.orc_shared_words.specs.Steps.{DidStep, LaterJournal, IsAllowedLater, Tried}
 use Rattle.orc_shared_words.proofs.Changes.{AllRetired, AllUnborn, changed, still_one, still_retired, still_unborn}
 use Rattle.orc_heap.proofs.Prefixes.{prefix_more, prefix_same}
 use Rattle.orc_shared_words.proofs.Runs.{below-snoc, by_other, none_behind, own_of-others}
@@ -49,8 +49,8 @@ module _ {K S Op Rec N : Type 0} (r : Rules K S Op Rec N) (laws : (k : K) → Ob
   other_own : (j : List S) (a : ℕ) (op : Op) (said : Option N) (b : ℕ) → b ≢ a → r.own k (j ++ r.step a op said ∷ []) b ≡ r.own k j b
   other_own j a op said b ne = (laws k).own_other j (r.step a op said) b (λ q. ne (q ∙ (laws k).by_step a op said))
 
-  other_fits : (j : List S) (a : ℕ) (op : Op) (said : Option N) (v : View S Rec) → ((c : ℕ) → v.agent ≡ Some c → c ≢ a) → Fits r k j v
-      → Fits r k (j ++ r.step a op said ∷ []) v
+  other_fits : (j : List S) (a : ℕ) (op : Op) (said : Option N) (v : View S Rec) → ((c : ℕ) → v.agent ≡ Some c → c ≢ a) → SeatKnows r k j v
+      → SeatKnows r k (j ++ r.step a op said ∷ []) v
   other_fits j a op said v ne f = record {
     seen = prefix_more v.seen j (r.step a op said ∷ []) f.seen;
     kept = prefix_more v.kept j (r.step a op said ∷ []) f.kept;
@@ -79,14 +79,14 @@ module _ {K S Op Rec N : Type 0} (r : Rules K S Op Rec N) (laws : (k : K) → Ob
 
   -- the one law of all operations
   does : (slots id : ℕ) (me : Me (Unit {0}) (View S Rec)) (a : ℕ) (op : Op) (said : Option N) → me.0.agent ≡ Some a → r.allowed k a op me.0.own
-      → Licensed r k (H k) (Y k) me.0 a op said
+      → IsAllowedLater r k (H k) (Y k) me.0 a op said
       → Allows (Shows r k (H k) (Y k)) slots id me (r.index k (r.place k a op me.0.own)) (r.written k a op me.0.own)
-      (λ n. Did r H Y (Some (k, op, said)) me (r.answer k a op me.0.own n))
+      (λ n. DidStep r H Y (Some (k, op, said)) me (r.answer k a op me.0.own n))
   does slots id me a op said is can may_be s h _ at fits64 =
       let v : View S Rec = me.0 in
       let j : List S = h.journal in
       let t : S = r.step a op said in
-      let f : Fits r k j v = h.fits id v at in
+      let f : SeatKnows r k j v = h.fits id v at in
       let o : Owns r k j v a = f.pass a is in
       let e : j ≡ v.seen ++ f.seen.0 = sym f.seen.1 in
       let none : own_of r.by a f.seen.0 ≡ [] = none_behind r.by a j v.seen f.seen o.steps in
@@ -122,7 +122,7 @@ module _ {K S Op Rec N : Type 0} (r : Rules K S Op Rec N) (laws : (k : K) → Ob
         record {
           journal = j ++ t ∷ [];
           attained = (id, w, set_there s.views id v w at, inl (a, is, refl));
-          fits = at_changed (λ i u. Fits r k (j ++ t ∷ []) u) s.views id w
+          fits = at_changed (λ i u. SeatKnows r k (j ++ t ∷ []) u) s.views id w
               record {
                 seen = prefix_same (j ++ t ∷ []) (j ++ t ∷ []) refl;
                 kept = prefix_more v.kept j (t ∷ []) f.kept;
@@ -179,19 +179,19 @@ pub makes : {K S Op Rec N : Type 0} (r : Rules K S Op Rec N) (laws : (k : K) →
     (me : Me (Unit {0}) (View S Rec)) (a : ℕ) (own : Rec) (op : Op) (said : Option N)
     (pick : Option (K × Op × Option N)) (index : ℕ) (o known : Operation) (writes : ℕ → ℕ) → word_after known ≡ writes → key ≡ k → pick ≡ Some (k, op, said)
     → index ≡ r.index k (r.place k a op own) → word_after o ≡ r.written k a op own → returned_by o ≡ r.answer k a op own → o ≡ known
-    → (me.0.agent ≡ Some a) × (me.0.own ≡ own) → r.allowed k a op own → Licensed r k (H k) (Y k) me.0 a op said
-    → Allows (Shows r key (H key) (Y key)) slots id me index writes (λ n. Did r H Y pick me (returned_by known n))
+    → (me.0.agent ≡ Some a) × (me.0.own ≡ own) → r.allowed k a op own → IsAllowedLater r k (H k) (Y k) me.0 a op said
+    → Allows (Shows r key (H key) (Y key)) slots id me index writes (λ n. DidStep r H Y pick me (returned_by known n))
 makes {K} {S} {Op} {Rec} {N} r laws k H Y law key slots id me a own op said pick index o known writes after_is same picked index_is written answer is
     named can may_be =
     let at_own : (index ≡ r.index k (r.place k a op me.0.own)) × (word_after o ≡ r.written k a op me.0.own) × (returned_by o ≡ r.answer k a op me.0.own) =
     subst (λ z. (index ≡ r.index k (r.place k a op z)) × (word_after o ≡ r.written k a op z) × (returned_by o ≡ r.answer k a op z)) (sym named.1)
     (index_is, written, answer) in
     let first = does r laws k H Y law slots id me a op said named.0 (subst (λ z. r.allowed k a op z) (sym named.1) can) may_be in
-    let second : Allows (Shows r k (H k) (Y k)) slots id me index (word_after o) (λ n. Did r H Y (Some (k, op, said)) me (returned_by o n)) =
-    subst (λ (z : ℕ × (ℕ → ℕ) × (ℕ → ℕ)). Allows (Shows r k (H k) (Y k)) slots id me z.0 z.1 (λ n. Did r H Y (Some (k, op, said)) me (z.2 n)))
+    let second : Allows (Shows r k (H k) (Y k)) slots id me index (word_after o) (λ n. DidStep r H Y (Some (k, op, said)) me (returned_by o n)) =
+    subst (λ (z : ℕ × (ℕ → ℕ) × (ℕ → ℕ)). Allows (Shows r k (H k) (Y k)) slots id me z.0 z.1 (λ n. DidStep r H Y (Some (k, op, said)) me (z.2 n)))
     (λ i. (sym at_own.0 i, sym at_own.1 i, sym at_own.2 i)) first in
     subst (λ (z : K × Operation × (ℕ → ℕ) × Option (K × Op × Option N)). Allows (Shows r z.0 (H z.0) (Y z.0)) slots id me index z.2
-    (λ n. Did r H Y z.3 me (returned_by z.1 n)))
+    (λ n. DidStep r H Y z.3 me (returned_by z.1 n)))
     (λ i. (sym same i, is i, (ap word_after is ∙ after_is) i, sym picked i)) second
 
 -- a load tells of a swap of 0: where it finds 0 the step is made, and else nothing has changed
@@ -201,7 +201,7 @@ pub tries : {K S Op Rec N : Type 0} (r : Rules K S Op Rec N) (laws : (k : K) →
     (me : Me (Unit {0}) (View S Rec)) (a : ℕ) (own : Rec) (op : Op) (said : Option N)
     (pick : Option (K × Op × Option N)) (index : ℕ) (o : Operation) → key ≡ k → pick ≡ Some (k, op, said)
     → index ≡ r.index k (r.place k a op own) → word_after o ≡ r.written k a op own → returned_by o ≡ r.answer k a op own → o ≡ Swap 0
-    → (me.0.agent ≡ Some a) × (me.0.own ≡ own) → r.allowed k a op own → Licensed r k (H k) (Y k) me.0 a op said
+    → (me.0.agent ≡ Some a) × (me.0.own ≡ own) → r.allowed k a op own → IsAllowedLater r k (H k) (Y k) me.0 a op said
     → Allows (Shows r key (H key) (Y key)) slots id me index (λ n. n) (λ n. Tried r H Y pick me n)
 tries {K} {S} {Op} {Rec} {N} r laws k H Y law key slots id me a own op said pick index o same picked index_is written answer is named can may_be s h long at small =
     cases (n == 0) refl

@@ -10,7 +10,7 @@ use Rattle.std.specs.Prelude.{List, [], ℕ, ◌<◌, ◌≡◌, ◌≤◌}
 
 module _ {K S Op Rec N : Type 0} (r : Rules K S Op Rec N) (k : K) where
   -- the steps of the opening
-  pub record Opens (holds : List (Event N) → Type 0) (may : List (Event N) → Event N → Type 0) : Type 0 where
+  pub record OpensLawfully (holds : List (Event N) → Type 0) (may : List (Event N) → Event N → Type 0) : Type 0 where
     pub lawful : r.lawful k (r.opening k)
     -- each event is allowed where it stands, so that the discipline holds
     pub each : AllAllowed may [] (r.project k (r.opening k))

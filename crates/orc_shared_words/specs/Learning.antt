@@ -20,7 +20,7 @@ module _ {S Rec : Type 0} where
     pub same : SameButSeen by v w
 
   -- two passes, v and u, learned from each other, and are now w and x
-  pub record Learned (by : S → ℕ) (v u w x : View S Rec) : Type 0 where
+  pub record LearnedBoth (by : S → ℕ) (v u w x : View S Rec) : Type 0 where
     -- both have seen one list, the longer one
     pub longer : IsLonger v.seen u.seen w.seen
     pub both : x.seen ≡ w.seen

@@ -44,7 +44,7 @@ module _ {K S Op Rec N : Type 0} (r : Rules K S Op Rec N) (k : K) where
     pub opened : IsPrefix (r.opening k) v.seen
 
   -- what a seat knows: a pass, a note, which has no agent, or a spent view, which has seen nothing
-  pub record Fits (j : List S) (v : View S Rec) : Type 0 where
+  pub record SeatKnows (j : List S) (v : View S Rec) : Type 0 where
     -- the journal begins with what it has seen
     pub seen : IsPrefix v.seen j
     -- and with what it keeps between a join and its confirm
@@ -69,7 +69,7 @@ module _ {K S Op Rec N : Type 0} (r : Rules K S Op Rec N) (k : K) where
     -- some pass has seen all of it, or took in one that had: so it is the longest list that a pass has seen
     pub attained : (i : ℕ) × (v : View S Rec) × (get_elem? s.views i ≡ some v) × HasSeen journal v
     -- it begins with what each pass and each note has seen, and each pass has its agent's record and all its agent's steps
-    pub fits : EachView s.views (λ _ v. Fits journal v)
+    pub fits : EachView s.views (λ _ v. SeatKnows journal v)
     -- it is lawful
     pub lawful : r.lawful k journal
     -- it begins with the opening

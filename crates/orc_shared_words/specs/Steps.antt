@@ -26,8 +26,8 @@ module _ {K S Op Rec N : Type 0} (r : Rules K S Op Rec N) where
       pub retired : (b : ℕ) → Among b v.also → own_of r.by b j ≡ own_of r.by b v.seen
 
     -- the step's event, if it has one, is allowed after each later journal of the pass
-    abbrev pub Licensed : View S Rec → ℕ → Op → Option N → Type 0
-    Licensed v a op note = (between : List S) → own_of r.by a between ≡ [] → LaterJournal (v.seen ++ between) v a
+    abbrev pub IsAllowedLater : View S Rec → ℕ → Op → Option N → Type 0
+    IsAllowedLater v a op note = (between : List S) → own_of r.by a between ≡ [] → LaterJournal (v.seen ++ between) v a
         → Each (may (r.project k (v.seen ++ between))) (r.events k (v.seen ++ between) (r.step a op note))
 
     -- a step of a pass, whose view was v and is w, with the answer n
@@ -53,12 +53,12 @@ module _ {K S Op Rec N : Type 0} (r : Rules K S Op Rec N) where
       pub now : LaterJournal w.seen w agent
 
   -- what the picked step tells
-  abbrev pub Did : (K → List (Event N) → Type 0) → (K → List (Event N) → Event N → Type 0) → Option (K × Op × Option N) → Me (Unit {0}) (View S Rec)
+  abbrev pub DidStep : (K → List (Event N) → Type 0) → (K → List (Event N) → Event N → Type 0) → Option (K × Op × Option N) → Me (Unit {0}) (View S Rec)
       → ℕ → Me (Unit {0}) (View S Rec) → Type 0
-  Did holds may None me n me' = Unit {0}
-  Did holds may (Some p) me n me' = Extends p.0 (holds p.0) (may p.0) p.1 p.2 me.0 n me'.0 × (me'.1 ≡ me.1)
+  DidStep holds may None me n me' = Unit {0}
+  DidStep holds may (Some p) me n me' = Extends p.0 (holds p.0) (may p.0) p.1 p.2 me.0 n me'.0 × (me'.1 ≡ me.1)
 
   -- what a load tells that may stand for the picked step, a swap of 0: it does where it finds 0, and else nothing has changed
   abbrev pub Tried : (K → List (Event N) → Type 0) → (K → List (Event N) → Event N → Type 0) → Option (K × Op × Option N) → Me (Unit {0}) (View S Rec)
       → ℕ → Me (Unit {0}) (View S Rec) → Type 0
-  Tried holds may pick me n me' = (n ≡ 0 → Did holds may pick me n me') × (n ≢ 0 → me' ≡ me)
+  Tried holds may pick me n me' = (n ≡ 0 → DidStep holds may pick me n me') × (n ≢ 0 → me' ≡ me)

@@ -2,7 +2,7 @@
 
 ghost use Rattle.std.specs.Prelude.{◌≡◌, Option, None};
 ghost use Rattle.orc_shared_words.specs.Learning.{Confirmed};
-ghost use Rattle.orc_shared_words.specs.Steps.{Did, Tried};
+ghost use Rattle.orc_shared_words.specs.Steps.{DidStep, Tried};
 ghost use Rattle.orc_shared_words.specs.Views.{absorbing, keeping, next_pass, note_of, one_handed, spent_view};
 
 use crate::journal::View;
@@ -29,7 +29,7 @@ impl<D: Discipline, M: Machine<D::Note>, J: Picks<M::Shape, M::Op, D::Note>> Pla
     (),
     View<M::Step, M::Record>,
 > for Does<M, D, J> {
-    ghost then = { λ _. Did M.rules (λ k. D.holds (M.numbers k)) (λ k. D.may (M.numbers k)) J.step };
+    ghost then = { λ _. DidStep M.rules (λ k. D.holds (M.numbers k)) (λ k. D.may (M.numbers k)) J.step };
 }
 
 /// The picked step, a swap of 0, was made where 0 was found, and else nothing was done.

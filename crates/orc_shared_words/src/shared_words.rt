@@ -2,11 +2,11 @@
 
 ghost use Rattle.std.specs.Prelude.{◌≡◌, ◌<◌, ℕ, Some, [], All, IfOk, length};
 ghost use Rattle.orc_layout.specs.Layout.{lay};
-ghost use Rattle.orc_shared_words.specs.Ends.{Opens, OwnsAll, Whole};
-ghost use Rattle.orc_shared_words.specs.Learning.{Confirmed, Learned};
+ghost use Rattle.orc_shared_words.specs.Ends.{OpensLawfully, OwnsAll, Whole};
+ghost use Rattle.orc_shared_words.specs.Learning.{Confirmed, LearnedBoth};
 ghost use Rattle.orc_shared_words.specs.Lists.{EachAt};
 ghost use Rattle.orc_history.specs.Journals.{own_of};
-ghost use Rattle.orc_shared_words.specs.Steps.{Extends, LaterJournal, Licensed};
+ghost use Rattle.orc_shared_words.specs.Steps.{Extends, LaterJournal, IsAllowedLater};
 ghost use Rattle.orc_shared_words.specs.Views.{Covers, absorbing, first_view, keeping, next_pass, one_handed};
 
 use crate::journal::View;
@@ -69,7 +69,7 @@ impl<M: Machine<D::Note>, D: Discipline> SharedWords<M, D> {
         requires some { 0 < length words.now }
         requires agents { (length owns.items ≡ M.rules.agents shape) × (length owns.items < 4294967296) }
         requires owns { EachAt (λ i own. M.tied (M.rules.own shape (M.rules.opening shape) i) own) owns.items }
-        requires opening { Opens M.rules shape (D.holds (M.numbers shape)) (D.may (M.numbers shape)) }
+        requires opening { OpensLawfully M.rules shape (D.holds (M.numbers shape)) (D.may (M.numbers shape)) }
         ensures shape { IfOk result (λ b. b.0.shape ≡ shape) }
         ensures words { IfOk result (λ b. b.0.table.shared.table_id.words ≡ length words.now) }
         ensures passes { IfOk result (λ b. length b.1.items ≡ M.rules.agents shape) }
@@ -103,7 +103,7 @@ impl<M: Machine<D::Note>, D: Discipline> SharedWords<M, D> {
         requires words { words.now ≡ lay (M.rules.index shape) (M.rules.words shape (M.rules.opening shape)) }
         requires some { 0 < length words.now }
         requires own { M.tied (M.rules.own shape (M.rules.opening shape) 0) own }
-        requires opening { Opens M.rules shape (D.holds (M.numbers shape)) (D.may (M.numbers shape)) }
+        requires opening { OpensLawfully M.rules shape (D.holds (M.numbers shape)) (D.may (M.numbers shape)) }
         ensures { IfOk result (λ b. (b.1.seat.table_id ≡ b.0.table.shared.table_id) × (b.0.table.shared.table_id.words ≡ length words.now)
             × (b.0.shape ≡ shape) × (b.1.agent ≡ 0) × (b.1.seat.me.0 ≡ first_view M.rules shape)) }
     {
@@ -143,7 +143,7 @@ impl<M: Machine<D::Note>, D: Discipline> SharedWords<M, D> {
         requires inside { M.rules.index self.now.shape (M.rules.place self.now.shape p.old.agent op.now p.old.seat.me.0.own)
             < self.now.table.shared.table_id.words }
         requires allowed { M.rules.allowed self.now.shape p.old.agent op.now p.old.seat.me.0.own }
-        requires licensed { Licensed M.rules self.now.shape (D.holds (M.numbers self.now.shape)) (D.may (M.numbers self.now.shape))
+        requires licensed { IsAllowedLater M.rules self.now.shape (D.holds (M.numbers self.now.shape)) (D.may (M.numbers self.now.shape))
             p.old.seat.me.0 p.old.agent op.now note.now }
         ensures table { p.new.seat.table_id ≡ p.old.seat.table_id }
         ensures agent { p.new.agent ≡ p.old.agent }
@@ -172,7 +172,7 @@ impl<M: Machine<D::Note>, D: Discipline> SharedWords<M, D> {
         requires inside { M.rules.index self.now.shape (M.rules.place self.now.shape agent op.now seat.old.me.0.own)
             < self.now.table.shared.table_id.words }
         requires allowed { M.rules.allowed self.now.shape agent op.now seat.old.me.0.own }
-        requires licensed { Licensed M.rules self.now.shape (D.holds (M.numbers self.now.shape)) (D.may (M.numbers self.now.shape))
+        requires licensed { IsAllowedLater M.rules self.now.shape (D.holds (M.numbers self.now.shape)) (D.may (M.numbers self.now.shape))
             seat.old.me.0 agent op.now note.now }
         ensures table { seat.new.table_id ≡ seat.old.table_id }
         ensures step { Extends M.rules self.now.shape (D.holds (M.numbers self.now.shape)) (D.may (M.numbers self.now.shape))
@@ -210,7 +210,7 @@ impl<M: Machine<D::Note>, D: Discipline> SharedWords<M, D> {
         ensures table { (into.new.seat.table_id ≡ into.old.seat.table_id) × (from.new.seat.table_id ≡ from.old.seat.table_id) }
         ensures agents { (into.new.agent ≡ into.old.agent) × (from.new.agent ≡ from.old.agent) }
         ensures owns { (into.new.own ≡ into.old.own) × (from.new.own ≡ from.old.own) }
-        ensures learned { Learned M.rules.by into.old.seat.me.0 from.old.seat.me.0 into.new.seat.me.0 from.new.seat.me.0 }
+        ensures learned { LearnedBoth M.rules.by into.old.seat.me.0 from.old.seat.me.0 into.new.seat.me.0 from.new.seat.me.0 }
     {
         self.take_note(into, from);
         self.take_note(from, into);

@@ -26,7 +26,7 @@ use Rattle.orc_sound.specs.Decisions.{agent_fits, all_below, all_fit, count_fits
 use Rattle.orc_sound.specs.Doomed.{DoomedRows, FreeRows, cuts_past, dooms, dooms_cut}
 use Rattle.orc_sound.specs.Linked.{IsOut, IsUnreachable, changes, holds_row, linked, uses}
 use Rattle.orc_sound.specs.NoLeak.{has_reason}
-use Rattle.orc_sound.specs.SoundParts.{Enrolment, FreshRows, Looks, Ranges, Scans, Slots, slot_word}
+use Rattle.orc_sound.specs.SoundParts.{Enrolment, FreshRows, LooksAreKnown, Ranges, Scans, SlotsAreRecords, slot_word}
 use Rattle.orc_sound.specs.QuietScan.{IsLeft, is_linked_anew}
 use Rattle.orc_sound.specs.RetirementToken.{RetirementToken, tokens}
 use Rattle.orc_sound.specs.Sound.{IsSound}
@@ -389,7 +389,7 @@ enrolment_is m w e t = record {
   others = λ a h. others_is m a w e t h;
 }
 
-slots_is : (m : Machine) → HasEightSlots m → TestsPass m → Slots m
+slots_is : (m : Machine) → HasEightSlots m → TestsPass m → SlotsAreRecords m
 slots_is m e t = record {
   words = λ a k l h. eqb-true (word_in m (Slot a k)) (slot_word (slot_of (record_at m a) k)) (slot_part a k l h).0;
   first = λ a l. not_is (is_published (slot_of (record_at m a) 0))
@@ -455,7 +455,7 @@ fresh_is m t = record {
     part : (a r : ℕ) → a < m.bounds.agents → names (record_at m a).fresh r ≡ true → FreshPasses m a r
     part a r l h = fresh_passes m a r (passes_at (record_at m a).fresh (fresh_fits m a) r (agent_passes m a (t.agents a l)).fresh h)
 
-looks_is : (m : Machine) → TestsPass m → Looks m
+looks_is : (m : Machine) → TestsPass m → LooksAreKnown m
 looks_is m t a r l h i j e =
     let d = record_at m a in
     let p = passes_at (row_seen d.looked)

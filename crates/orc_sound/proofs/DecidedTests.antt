@@ -22,7 +22,7 @@ use Rattle.orc_sound.specs.Decisions.{agent_fits, all_below, all_fit, count_fits
 use Rattle.orc_sound.specs.Doomed.{FreeRows, dooms}
 use Rattle.orc_sound.specs.Linked.{changes, linked, uses}
 use Rattle.orc_sound.specs.NoLeak.{has_reason}
-use Rattle.orc_sound.specs.SoundParts.{Enrolment, FreshRows, Looks, Slots, slot_word}
+use Rattle.orc_sound.specs.SoundParts.{Enrolment, FreshRows, LooksAreKnown, SlotsAreRecords, slot_word}
 use Rattle.orc_sound.specs.QuietScan.{IsLeft, is_linked_anew}
 use Rattle.orc_sound.specs.RetirementToken.{tokens}
 use Rattle.orc_sound.specs.Sound.{IsSound}
@@ -178,7 +178,7 @@ fresh_in m a r s l h =
     (λ e. all_hold m.bounds.links (λ n. not (links_to (word_in m (link_at n j)) r))
     (λ n k. is_not (links_to (word_in m (link_at n j)) r) (s.links a n j r l k g (eqb-false j r e) h)))))
 
-slots_in : (m : Machine) (a : ℕ) → Slots m → a < m.bounds.agents → slots_fit m a ≡ true
+slots_in : (m : Machine) (a : ℕ) → SlotsAreRecords m → a < m.bounds.agents → slots_fit m a ≡ true
 slots_in m a s l =
     and_in (all_below 8 (slot_fits m a)) (not (is_published (slot_of (record_at m a) 0)))
     (all_hold 8 (slot_fits m a)
@@ -189,7 +189,7 @@ slots_in m a s l =
     (λ r e. is_out_in m r (s.held a r l (any_holds_at (record_at m a).slots k r (sym (held_name (slot_of (record_at m a) k) r) ∙ e)))))))
     (is_not (is_published (slot_of (record_at m a) 0)) (s.first a l))
 
-looks_in : (m : Machine) (a : ℕ) → Looks m → a < m.bounds.agents → looks_fit m (record_at m a) ≡ true
+looks_in : (m : Machine) (a : ℕ) → LooksAreKnown m → a < m.bounds.agents → looks_fit m (record_at m a) ≡ true
 looks_in m a s l =
     let d = record_at m a in
     passes_all (row_seen d.looked)

@@ -31,7 +31,7 @@ use Rattle.orc_sound.specs.Balance.{Balance, decrements, increments}
 use Rattle.orc_sound.specs.Doomed.{DoomedRows, FreeRows, dooms}
 use Rattle.orc_sound.specs.Linked.{IsOut, IsUnreachable, changes, holds_row, linked, uses, linked_from}
 use Rattle.orc_sound.specs.NoLeak.{NoLeak, keeps_out}
-use Rattle.orc_sound.specs.SoundParts.{Enrolment, FreshRows, Looks, Ranges, Scans, Slots, Targets}
+use Rattle.orc_sound.specs.SoundParts.{Enrolment, FreshRows, LooksAreKnown, Ranges, Scans, SlotsAreRecords, Targets}
 use Rattle.orc_sound.specs.QuietScan.{IsLeft, QuietScans, holds_from, is_linked_anew}
 use Rattle.orc_sound.specs.RetirementToken.{RetirementToken}
 use Rattle.orc_sound.specs.Sound.{IsSound}
@@ -152,7 +152,7 @@ token_shown m s = record {
 pub enrolment_shown : (m : Machine) → Counted m.bounds (world_of m) → Enrolment m
 enrolment_shown m s = record { most = s.enrolment.most; enrolled = s.enrolment.enrolled; others = s.enrolment.empty }
 
-pub slots_shown : (m : Machine) → Counted m.bounds (world_of m) → Slots m
+pub slots_shown : (m : Machine) → Counted m.bounds (world_of m) → SlotsAreRecords m
 slots_shown m s = record {
   words = λ a k h l. sym (word_shown m (Slot a k) (h, l)) ∙ (s.slots a).words k;
   first = λ a h. (s.slots a).first;
@@ -348,7 +348,7 @@ scans_shown m f = record {
   place = λ a k h i j. (f a).place k i j;
 }
 
-pub looks_shown : (m : Machine) → LivesFit m.bounds (world_of m) → Looks m
+pub looks_shown : (m : Machine) → LivesFit m.bounds (world_of m) → LooksAreKnown m
 looks_shown m s a r h l i j e = rw (word_shown m (Counter r) l) at (s.checked a r i j (rw (word_shown m (Gate r) l) e))
 
 pub low_count : (w : ℕ) → (negsuc 4194303 ≤ℤ (counter_of w).count) × ((counter_of w).count ≤ℤ pos 4194303)

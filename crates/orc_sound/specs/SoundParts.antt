@@ -23,7 +23,7 @@ slot_word (Published r) = r + 1
 slot_word (Held r) = r + 1
 
 -- the slot words are those of the records, slot 0 is never Published, and held rows are out
-pub record Slots (m : Machine) : Type 0 where
+pub record SlotsAreRecords (m : Machine) : Type 0 where
   pub words : (a k : ℕ) → a < m.bounds.agents → k < 8 → word_in m (Slot a k) ≡ slot_word (slot_of (record_at m a) k)
   pub first : (a : ℕ) → a < m.bounds.agents → is_published (slot_of (record_at m a) 0) ≡ false
   pub held : (a r : ℕ) → a < m.bounds.agents → holds_row m a r ≡ true → IsOut m r
@@ -56,8 +56,8 @@ pub record Scans (m : Machine) : Type 0 where
   pub place : (a k : ℕ) → a < m.bounds.agents → scan_found (record_at m a).scan ≡ true → scan_at (record_at m a).scan k ≡ true → k < 8 * m.bounds.agents
 
 -- an agent that looked at a row and then checked it knows the row's sequence, as long as the row is free in that life
-abbrev pub Looks : Machine → Type 0
-Looks m =
+abbrev pub LooksAreKnown : Machine → Type 0
+LooksAreKnown m =
     (a r : ℕ) → a < m.bounds.agents → r < m.bounds.rows → saw (record_at m a).looked r ≡ true → saw (record_at m a).checked r ≡ true
     → word_in m (Gate r) ≡ 2 * number_of (record_at m a).looked → sequence_of (word_in m (Counter r)) ≡ number_of (record_at m a).checked
 

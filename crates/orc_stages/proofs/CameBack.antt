@@ -17,7 +17,7 @@ use Rattle.orc_history.specs.Lists.{Pairwise}
 use Rattle.orc_board.specs.Follows.{LastIsEmpty, IsWorker}
 use Rattle.orc_board.proofs.Shares.{prefix_trans}
 use Rattle.orc_board.proofs.ListFacts.{AllByRecursion-map}
-use Rattle.orc_workers.specs.Learning.{IsWhole}
+use Rattle.orc_workers.specs.Learning.{HasSeenAll}
 use Rattle.orc_workers.proofs.CameBack.{none_at_start, all_below, crowd_in_run}
 use Rattle.orc_workers.proofs.Learned.{since, none_since, still_last, zero_last}
 use Rattle.orc_workers.proofs.Resting.{ends_last}
@@ -38,12 +38,12 @@ use Rattle.orc_stages.proofs.Crew.{Moved, SameDesk, find, spare_behind, moved_fo
 
 -- what learning twice over has made of a worker: its passes have seen these journals
 pub record Learnt {Q P A : Type 0} (q : QueueOf Q P A) (queues : List Q) (k : ℕ → List A) (w v : Worker P) : Type 0 where
-  pub whole : (i : ℕ) → IsWhole (λ (x : Worker P). x.agent) (λ (x : Worker P). seen_at q x.desk.passes.items i)
+  pub whole : (i : ℕ) → HasSeenAll (λ (x : Worker P). x.agent) (λ (x : Worker P). seen_at q x.desk.passes.items i)
       (λ a j. own_of agent_of_entry a ((view_at q queues i).history j)) (k i) w v
   pub same : SameWorker w v
 
 pub learnt_all : {Q P A : Type 0} (q : QueueOf Q P A) (queues : List Q) (k : ℕ → List A) (ws vs : List (Worker P))
-    → ((i : ℕ) → Pairwise (IsWhole (λ (x : Worker P). x.agent) (λ (x : Worker P). seen_at q x.desk.passes.items i)
+    → ((i : ℕ) → Pairwise (HasSeenAll (λ (x : Worker P). x.agent) (λ (x : Worker P). seen_at q x.desk.passes.items i)
     (λ a j. own_of agent_of_entry a ((view_at q queues i).history j)) (k i)) ws vs)
     → Pairwise SameWorker ws vs → Pairwise (Learnt q queues k) ws vs
 learnt_all q queues k [] [] a b = tt

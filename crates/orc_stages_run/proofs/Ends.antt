@@ -17,7 +17,7 @@ use Rattle.orc_stages.specs.Run.{AreIdle, HaveSeen, StandAhead, TookFirst}
 use Rattle.orc_stages.specs.declared.replies.StageDesk.{StageDesk}
 use Rattle.orc_stages.proofs.Taken.{ahead_many, taken_passes, taken_seen}
 use Rattle.orc_at_rest.proofs.Passes.{ArePasses}
-use Rattle.orc_at_rest.specs.Journals.{IsLeft}
+use Rattle.orc_at_rest.specs.Journals.{IsLeftAtRest}
 use Rattle.orc_stages_run.specs.declared.queue.RunQueue.{RunQueue}
 use Rattle.orc_stages_run.specs.Queues.{AreLeft, LeavesMore}
 
@@ -72,7 +72,7 @@ module _ {d : discipline.Ghosts Fifo FifoNote}
 
     -- what is left of the first queue, and then of the others
     pub one_more : (q : RunQueue) (rest all : List RunQueue) (k : ℕ → List (Step FifoNote)) (r : OrcRest Fifo FifoNote d m)
-        (before mid after : List (OrcRest Fifo FifoNote d m)) → all ≡ q ∷ rest → mid ≡ before ++ r ∷ [] → IsLeft q.queue.links (k 0) r
+        (before mid after : List (OrcRest Fifo FifoNote d m)) → all ≡ q ∷ rest → mid ≡ before ++ r ∷ [] → IsLeftAtRest q.queue.links (k 0) r
         → LeavesMore rest (λ i. k (suc i)) mid after → LeavesMore all k before after
     one_more q rest all k r before mid after is m left h = record {
       more = r ∷ h.more;

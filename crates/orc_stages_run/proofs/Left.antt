@@ -19,7 +19,7 @@ use Rattle.orc_stages.specs.Desks.{view_at}
 use Rattle.orc_stages.specs.Learning.{AreFor}
 use Rattle.orc_at_rest.proofs.Silent.{Silent}
 use Rattle.orc_at_rest.specs.Queues.{queue_over}
-use Rattle.orc_at_rest.specs.Journals.{IsLeft}
+use Rattle.orc_at_rest.specs.Journals.{IsLeftAtRest}
 use Rattle.orc_domain.specs.Rest.{GoesOnQuietly, rest_journal}
 use Rattle.orc_stages_run.specs.declared.queue.RunQueue.{RunQueue}
 use Rattle.orc_stages_run.specs.contracts.queue.RunQueueLearnQueue.TheImpl as learns
@@ -53,7 +53,7 @@ module _ {d : discipline.Ghosts Fifo FifoNote}
 
     -- what holds of what is left of one queue holds of all
     pub each_left : (P : OrcRest Fifo FifoNote d m → Type 0) (b : Bounds)
-        → ((q : RunQueue) (seen : List (Step FifoNote)) (r : OrcRest Fifo FifoNote d m) → IsLeft q.queue.links seen r → IsMade b q → P r)
+        → ((q : RunQueue) (seen : List (Step FifoNote)) (r : OrcRest Fifo FifoNote d m) → IsLeftAtRest q.queue.links seen r → IsMade b q → P r)
         → (qs : List RunQueue) (k : ℕ → List (Step FifoNote)) (rs : List (OrcRest Fifo FifoNote d m)) → AreLeft qs k rs → AllByRecursion (IsMade b) qs
         → AllByRecursion P rs
     each_left P b f [] k [] h made = tt
@@ -61,7 +61,7 @@ module _ {d : discipline.Ghosts Fifo FifoNote}
     each_left P b f (q ∷ qs) k [] h made = absurd h
     each_left P b f (q ∷ qs) k (r ∷ rs) h made = (f q (k 0) r h.0 made.0, each_left P b f qs (λ i. k (suc i)) rs h.1 made.1)
 
-    one_silent : (b : Bounds) (q : RunQueue) (seen : List (Step FifoNote)) (r : OrcRest Fifo FifoNote d m) → IsLeft q.queue.links seen r → IsMade b q
+    one_silent : (b : Bounds) (q : RunQueue) (seen : List (Step FifoNote)) (r : OrcRest Fifo FifoNote d m) → IsLeftAtRest q.queue.links seen r → IsMade b q
         → Silent (queue_over 0 b).history seen (rest_journal r)
     one_silent b q seen r left made =
         let quiet = subst (λ (c : Bounds). GoesOnQuietly c seen (rest_journal r)) made.bounds left.journal in

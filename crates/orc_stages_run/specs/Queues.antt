@@ -16,7 +16,7 @@ use Rattle.orc_domain.specs.Passes.{domain_bounds}
 use Rattle.orc_domain.specs.Rest.{rest_journal}
 use Rattle.orc_domain.specs.declared.at_rest.OrcRest.{OrcRest}
 use Rattle.orc_at_rest.specs.Domains.{queue_seed}
-use Rattle.orc_at_rest.specs.Journals.{IsLeft}
+use Rattle.orc_at_rest.specs.Journals.{IsLeftAtRest}
 use Rattle.orc_stages_run.specs.declared.queue.RunQueue.{RunQueue}
 
 -- a queue over a domain of these sizes, which begins with a dummy whose successor gets position 0
@@ -36,7 +36,7 @@ module _ {d : discipline.Ghosts Fifo FifoNote}
     AreLeft [] k [] = Unit {0}
     AreLeft [] k (r ∷ rs) = ⊥
     AreLeft (queue ∷ queues) k [] = ⊥
-    AreLeft (queue ∷ queues) k (r ∷ rs) = IsLeft queue.queue.links (k 0) r × AreLeft queues (λ i. k (suc i)) rs
+    AreLeft (queue ∷ queues) k (r ∷ rs) = IsLeftAtRest queue.queue.links (k 0) r × AreLeft queues (λ i. k (suc i)) rs
 
     -- what is left of these queues was put behind what was there before
     pub record LeavesMore (queues : List RunQueue) (k : ℕ → List (Step FifoNote)) (before after : List (OrcRest Fifo FifoNote d m)) : Type 0 where

@@ -31,7 +31,7 @@ use Rattle.orc_watch_run.proofs.Beside.{told_first, told_more}
 use Rattle.orc_workers.proofs.Learned.{Grows, since, zero_last}
 use Rattle.orc_workers.proofs.Numbered.{each_number, numbered_next}
 use Rattle.orc_workers.proofs.Teams.{AllByRecursion-next, Pairwise-length}
-use Rattle.orc_workers.specs.Learning.{IsWhole}
+use Rattle.orc_workers.specs.Learning.{HasSeenAll}
 
 -- what is known of the cell
 pub record Laws {A : Type 0} (x : View A CellEntry CellRefused) (C : ℕ → Type 0) : Type 0 where
@@ -41,11 +41,11 @@ pub record Laws {A : Type 0} (x : View A CellEntry CellRefused) (C : ℕ → Typ
 
 -- what learning twice over has made of a worker
 record Learnt {P A : Type 0} (x : View A CellEntry CellRefused) (journal : P → List A) (k : List A) (w v : Worker P) : Type 0 where
-  whole : IsWhole (λ (u : Worker P). u.agent) (λ (u : Worker P). journal u.pass) (λ a j. own_of agent_of_entry a (x.history j)) k w v
+  whole : HasSeenAll (λ (u : Worker P). u.agent) (λ (u : Worker P). journal u.pass) (λ a j. own_of agent_of_entry a (x.history j)) k w v
   same : SameWorker w v
 
 learnt_all : {P A : Type 0} (x : View A CellEntry CellRefused) (journal : P → List A) (k : List A) (ws vs : List (Worker P))
-    → Pairwise (IsWhole (λ (u : Worker P). u.agent) (λ (u : Worker P). journal u.pass) (λ a j. own_of agent_of_entry a (x.history j)) k) ws vs
+    → Pairwise (HasSeenAll (λ (u : Worker P). u.agent) (λ (u : Worker P). journal u.pass) (λ a j. own_of agent_of_entry a (x.history j)) k) ws vs
     → Pairwise SameWorker ws vs → Pairwise (Learnt x journal k) ws vs
 learnt_all x journal k [] [] a b = tt
 learnt_all x journal k [] (v ∷ vs) a b = absurd b

@@ -24,7 +24,7 @@ use Rattle.orc_board.specs.Table.{TakeEnds}
 use Rattle.orc_history.specs.Lists.{Pairwise}
 use Rattle.orc_board.specs.Follows.{TakingRest, LastIsEmpty, IsWorker, none}
 use Rattle.orc_workers.specs.Team.{DidWork, DidPost, DidTake}
-use Rattle.orc_workers.specs.Learning.{LawsTell, IsOther, SameWorker, IsWhole, LearnsAllOfQueues, LearnsAllOfSet}
+use Rattle.orc_workers.specs.Learning.{LawsTell, IsOther, SameWorker, HasSeenAll, LearnsAllOfQueues, LearnsAllOfSet}
 use Rattle.orc_workers.specs.CameBack.{IsNew, IsTold, IsBack, AreNumbered, AllCameBack}
 use Rattle.orc_board.proofs.ListFacts.{AllByRecursion-map}
 use Rattle.orc_board.proofs.Shares.{Did-just, Works-more, Stands-after, prefix_trans}
@@ -169,16 +169,16 @@ pub record Tells {P R A B : Type 0} (qs : Bool → View A QueueEntry QueueRefuse
 -- what learning twice over has made of a worker
 pub record Learnt {P R A B : Type 0} (qs : Bool → View A QueueEntry QueueRefused) (s : View B SetEntry ListRefused) (jq : P → List A) (js : R → List B)
     (k : Bool → List A) (n : List B) (w v : Worker P R) : Type 0 where
-  pub queues : (b : Bool) → IsWhole (λ (x : Worker P R). x.agent) (λ (x : Worker P R). shown jq x.desk b) (λ a j. own_of agent_of_entry a ((qs b).history j))
+  pub queues : (b : Bool) → HasSeenAll (λ (x : Worker P R). x.agent) (λ (x : Worker P R). shown jq x.desk b) (λ a j. own_of agent_of_entry a ((qs b).history j))
       (k b) w v
-  pub set : IsWhole (λ (x : Worker P R). x.agent) (λ (x : Worker P R). js x.desk.set) (λ a j. own_of agent_of_set_entry a (s.history j)) n w v
+  pub set : HasSeenAll (λ (x : Worker P R). x.agent) (λ (x : Worker P R). js x.desk.set) (λ a j. own_of agent_of_set_entry a (s.history j)) n w v
   pub same : SameWorker w v
 
 learnt_all : {P R A B : Type 0} (qs : Bool → View A QueueEntry QueueRefused) (s : View B SetEntry ListRefused) (jq : P → List A) (js : R → List B)
     (k : Bool → List A) (n : List B) (ws vs : List (Worker P R))
-    → ((b : Bool) → Pairwise (IsWhole (λ (x : Worker P R). x.agent) (λ (x : Worker P R). shown jq x.desk b)
+    → ((b : Bool) → Pairwise (HasSeenAll (λ (x : Worker P R). x.agent) (λ (x : Worker P R). shown jq x.desk b)
     (λ a j. own_of agent_of_entry a ((qs b).history j)) (k b)) ws vs)
-    → Pairwise (IsWhole (λ (x : Worker P R). x.agent) (λ (x : Worker P R). js x.desk.set) (λ a j. own_of agent_of_set_entry a (s.history j)) n) ws vs
+    → Pairwise (HasSeenAll (λ (x : Worker P R). x.agent) (λ (x : Worker P R). js x.desk.set) (λ a j. own_of agent_of_set_entry a (s.history j)) n) ws vs
     → Pairwise SameWorker ws vs → Pairwise (Learnt qs s jq js k n) ws vs
 learnt_all qs s jq js k n [] [] a b c = tt
 learnt_all qs s jq js k n [] (v ∷ vs) a b c = absurd c

@@ -3,7 +3,7 @@ use Rattle.std.proofs.Common.{◌≡◌, ℕ, length, arith, length-append, List
 use mathlib.Core.List.{IsPrefix}
 use Rattle.orc_history.specs.Journals.{LearnsEntries, own_of}
 use Rattle.orc_history.specs.Lists.{Pairwise}
-use Rattle.orc_workers.specs.Learning.{IsHeard, IsWhole, IsSeen, Learned, LearnedAll}
+use Rattle.orc_workers.specs.Learning.{IsHeard, HasSeenAll, IsSeen, Learned, LearnedAll}
 use Rattle.orc_board.proofs.Shares.{prefix_trans}
 use Rattle.orc_workers.proofs.Teams.{Pairwise-right, Pairwise-through}
 
@@ -102,7 +102,7 @@ Learned-twice agent journal own me x y z ws us vs one two =
       grows = prefix_trans x y z one.grows two.grows;
       own_is = two.own_is ∙ one.own_is;
       each =
-          Pairwise-through (IsHeard agent journal own y) (IsWhole agent journal own z) (IsWhole agent journal own z) ws us vs
+          Pairwise-through (IsHeard agent journal own y) (HasSeenAll agent journal own z) (HasSeenAll agent journal own z) ws us vs
           (λ w u v h k. record {
             agent_is = k.agent_is ∙ h.agent_is;
             begins = prefix_trans (journal w) (journal u) z h.begins k.begins;

@@ -49,7 +49,7 @@ module _ {W A E : Type 0} (agent : W → ℕ) (journal : W → List A) (own : �
     pub own_is : own (agent w) (journal v) ≡ own (agent w) (journal w)
 
   -- the pass has seen the list, in which the entries of its agent are those that it had seen before
-  pub record IsWhole (list : List A) (w v : W) : Type 0 where
+  pub record HasSeenAll (list : List A) (w v : W) : Type 0 where
     pub agent_is : agent v ≡ agent w
     pub begins : IsPrefix (journal w) list
     pub is : journal v ≡ list
@@ -63,13 +63,13 @@ module _ {W A E : Type 0} (agent : W → ℕ) (journal : W → List A) (own : �
     pub grows : IsPrefix before after
     pub own_is : own me after ≡ own me before
     pub each : Pairwise (IsHeard after) ws vs
-    pub again : Pairwise (IsSeen before) ws vs → (after ≡ before) × Pairwise (IsWhole after) ws vs
+    pub again : Pairwise (IsSeen before) ws vs → (after ≡ before) × Pairwise (HasSeenAll after) ws vs
 
   -- one pass has learned from all others twice over
   pub record LearnedAll (me : ℕ) (before after : List A) (ws vs : List W) : Type 0 where
     pub grows : IsPrefix before after
     pub own_is : own me after ≡ own me before
-    pub each : Pairwise (IsWhole after) ws vs
+    pub each : Pairwise (HasSeenAll after) ws vs
 
 -- a desk's pass of the queue, or of the set, learned from those of these workers once, or twice over
 module _ {Q S P R A B : Type 0} (q : QueueOf Q P A) (s : SetOf S R B) (queue rush : Q) (set : S) (me : ℕ) (old new : Desk P R) (ws vs : List (Worker P R)) where

@@ -14,7 +14,7 @@ use Rattle.orc_projection.proofs.Mirrored.{projection_mirrors}
 use Rattle.orc_projection.specs.Mirror.{numbers_of}
 use Rattle.orc_projection.specs.PresentIds.{PresentIds}
 use Rattle.orc_projection.specs.Projection.{StoresUnmarked, present_ids, project}
-use Rattle.orc_domain.specs.Seats.{IsReady, slot_by, slots_by}
+use Rattle.orc_domain.specs.Seats.{IsBetweenCalls, slot_by, slots_by}
 use Rattle.orc_sound.specs.Journals.{IsLawfulJournal}
 use Rattle.orc_sound.specs.declared.steps.Step.{Step}
 use Rattle.orc_words.specs.Bounds.{Bounds, IsShape}
@@ -35,7 +35,7 @@ slot_at [] k r e = cc
 slot_at (s ∷ ss) zero r e = cc
 slot_at (s ∷ ss) (suc k) r e = slot_at ss k r e
 
-above_zero : (d : Agent) → IsReady d → (slot r : ℕ) → slot_of d slot ≡ Held r → 0 < slot
+above_zero : (d : Agent) → IsBetweenCalls d → (slot r : ℕ) → slot_of d slot ≡ Held r → 0 < slot
 above_zero d ready zero r e = absurd (empty_held (sym ready.zero ∙ e))
   where
     empty_held : {x : ℕ} → (let y : SlotUse = Empty in y) ≡ Held x → ⊥
@@ -43,7 +43,7 @@ above_zero d ready zero r e = absurd (empty_held (sym ready.zero ∙ e))
 above_zero d ready (suc slot) r e = omega arith
 
 pub known_held : {N : Type 0} (b : Bounds) (j : List (Step N)) (a : ℕ) (d : Agent) → IsShape b → IsLawfulJournal (new_machine b) j → StoresUnmarked j
-    → record_at (run_of b j) a ≡ d → IsReady d → (h : Hold) → Holds (slots_by (present_ids b j) d) h
+    → record_at (run_of b j) a ≡ d → IsBetweenCalls d → (h : Hold) → Holds (slots_by (present_ids b j) d) h
     → IsKnown a (run_heap (numbers_of b) (project b j)) (id_in (slots_by (present_ids b j) d) h)
 known_held b j a d shape lawful unmarked mine ready h e =
     let p = present_ids b j in

@@ -13,7 +13,7 @@ ghost use Rattle.orc_heap.specs.Calls.{links_made};
 ghost use Rattle.orc_fifo_rule.specs.Counts.{entries_of_others, off_the_head, swings_in, tooks_in};
 ghost use Rattle.orc_heap.specs.Moves.{moves_in};
 ghost use Rattle.orc_fifo_rule.specs.QueueDiscipline.{FifoMay, IsInTime, LeadsOn, MayAct, MayEnter, entries_of, has_begun, position_of};
-ghost use Rattle.orc_fifo_rule.specs.Watches.{IsLeft, WasNamed, node_to_put};
+ghost use Rattle.orc_fifo_rule.specs.Watches.{IsLeftBehind, WasNamed, node_to_put};
 ghost use Rattle.container_tests.specs.QueueHeaps.{dummy, last_node, links_node, no_nodes, opening, put_at, roots_at};
 
 // Agent 0 makes a queue whose first position is 5: it is given node 0, fills it, and begins both roots.
@@ -52,7 +52,7 @@ fn while_the_tail_lags()
         × (¬ MayAct h (Act.Move (Place.Root 0) (link_to 0) (link_to 1)) (Some (FifoNote.Entry (QueueEntry.Took 2 7 5))))
         × (¬ MayAct h (Act.Look (Place.Next 0) (link_to 1)) (Some (FifoNote.Entry (QueueEntry.Empty 2))))
         × (¬ MayAct h (Act.Look (Place.Next 1) null) (Some (FifoNote.Entry (QueueEntry.Empty 2))))
-        × (¬ WasNamed h 1 1) × (¬ IsLeft h 0) }
+        × (¬ WasNamed h 1 1) × (¬ IsLeftBehind h 0) }
 {}
 
 // Node 1 holds job 7 with the last second value that a Put may give, and with the first that it may not.

@@ -5,7 +5,7 @@ use Rattle.orc_core.specs.Runs.{run}
 use Rattle.orc_core.specs.declared.ops.Op.{Op}
 use Rattle.orc_core.specs.declared.ops.Op.TheVariants.{Enroll}
 use Rattle.orc_machine_board.proofs.Playing.{drop_next, drop_none, goes_on}
-use Rattle.orc_machine_board.specs.Plays.{GoesOn, by_agent}
+use Rattle.orc_machine_board.specs.Plays.{PlaysOn, by_agent}
 use Rattle.orc_machine_board.proofs.make.play.Goals as goal
 
 pub loop-op-init : goal.loop-op-init
@@ -20,7 +20,7 @@ play_one-requires c =
         i.0.0,
         by_agent c.args.agent (drop (c.loop-op.op-index + 1) c.args.ops.now),
         subst
-            (λ (l : List Op). GoesOn i.0.0 c.loop-op.state (by_agent c.args.agent l)) next i.0.1,
+            (λ (l : List Op). PlaysOn i.0.0 c.loop-op.state (by_agent c.args.agent l)) next i.0.1,
       );
     }
 
@@ -30,9 +30,9 @@ loop-op-preserved c =
     let op = slice_index_or c.args.ops.now c.loop-op.op-index Enroll in
     let rest = drop (c.loop-op.op-index + 1) c.args.ops.now in
     let next = drop_next c.args.ops.now c.loop-op.op-index Enroll c.loop-op-test.true in
-    let goes = subst (λ (l : List Op). GoesOn i.0.0 c.loop-op.state (by_agent c.args.agent l)) next i.0.1 in
+    let goes = subst (λ (l : List Op). PlaysOn i.0.0 c.loop-op.state (by_agent c.args.agent l)) next i.0.1 in
     let made = goes_on i.0.0 c.loop-op.state c.args.agent op (by_agent c.args.agent rest) goes in (
-      (i.0.0, subst (λ (m : Machine). GoesOn i.0.0 m (by_agent c.args.agent rest)) (sym c.play_one.ensures) made),
+      (i.0.0, subst (λ (m : Machine). PlaysOn i.0.0 m (by_agent c.args.agent rest)) (sym c.play_one.ensures) made),
       ap (λ (m : Machine). run m (by_agent c.args.agent rest)) c.play_one.ensures
           ∙ (sym (ap (λ (l : List Op). run c.loop-op.state (by_agent c.args.agent l)) next) ∙ i.1),
     )

@@ -1,5 +1,5 @@
 use Rattle.std.specs.Prelude.{None, length, ◌+◌, ◌≡◌, ◌≤◌, ◌⊎◌}
-use Rattle.orc_machine_rest.specs.Parts.{Opens}
+use Rattle.orc_machine_rest.specs.Parts.{OpensTurn}
 use Rattle.orc_machine_rest.specs.Passes.{IsPassOf, record_of}
 use Rattle.orc_machine_board.specs.Passes.{steps_of}
 use Rattle.orc_machine_board.specs.Views.{board_bounds, shows}
@@ -10,7 +10,7 @@ use Rattle.orc_machine_rest.proofs.rounds.look_over.Given as goal
 abbrev pub invariant-loop-k : goal.invariant-loop-k
 invariant-loop-k g l = record {
   pass : IsPassOf l.board l.agent l.p;
-  opens : (shows l.p ≡ shows l.fn.p) ⊎ Opens (board_bounds l.board) l.agent 0 (shows l.fn.p) (shows l.p);
+  opens : (shows l.p ≡ shows l.fn.p) ⊎ OpensTurn (board_bounds l.board) l.agent 0 (shows l.fn.p) (shows l.p);
   still : IsStill (record_of l.board l.agent l.p);
   doom : (record_of l.board l.agent l.p).doom ≡ None;
   scan : IsScanOf l.row l.k (record_of l.board l.agent l.p).scan;

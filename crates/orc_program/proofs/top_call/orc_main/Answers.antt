@@ -1,6 +1,6 @@
 use Rattle.std.proofs.Common.{rules, ◌≡◌, ◌∙◌, ◌⊎◌, ℕ, arith, inl, inr, refl, subst, sym}
 use Rattle.orc_options.proofs.NamesAnywhere.{never_both}
-use Rattle.orc_options.specs.Settings.{Refuses}
+use Rattle.orc_options.specs.Settings.{RefusesWords}
 use Rattle.orc_program.specs.Answers.{AnswersWords}
 use Rattle.orc_program.specs.Refusals.{words_refused}
 use Rattle.orc_program.proofs.OneAnswer.{no_failure, statuses}
@@ -15,12 +15,12 @@ not_read n (inr five) four = omega (arith, five, four)
 
 pub returns-in-Err-Words-clause-cut_short : goal.returns-in-Err-Words-clause-cut_short
 returns-in-Err-Words-clause-cut_short g c five =
-    let refuses : Refuses c.args.words.now = search rules in
+    let refuses : RefusesWords c.args.words.now = search rules in
     (2, words_refused, inl (refuses, c.requires, refl, refl), c.refuse_words.ensures.cut_short five)
 
 pub returns-in-Err-Words-clause-complete : goal.returns-in-Err-Words-clause-complete
 returns-in-Err-Words-clause-complete g c bytes lines told asks few file =
-    let refuses : Refuses c.args.words.now = search rules in
+    let refuses : RefusesWords c.args.words.now = search rules in
     λ reads_well writes_well. absurd {A = (c.refuse_words.result ≡ 0) ⊎ (c.refuse_words.result ≡ 7)} (never_both _ asks.0 asks.1 refuses)
 
 pub returns-in-Err-Words-clause-read_fault : goal.returns-in-Err-Words-clause-read_fault

@@ -4,7 +4,7 @@ use Rattle.orc_plain_domain.specs.Turns.{IsNext}
 use Rattle.orc_machine_board.specs.Views.{shows}
 use Rattle.orc_domain.proofs.Rounds.{tries_gets, tries_next, tries_none, tries_one}
 use Rattle.orc_domain.specs.Passes.{domain_bounds}
-use Rattle.orc_domain.specs.Searches.{Fails, Found, Gets, Tries}
+use Rattle.orc_domain.specs.Searches.{Fails, Found, Gets, TriedRows}
 use Rattle.orc_words.specs.Bounds.{Bounds}
 use Rattle.orc_domain.proofs.domain.OrcDomain.search.Goals as goal
 
@@ -58,8 +58,8 @@ returns-clause-tried g c e =
     let low = c.loop-offset-test.false in
     let high = c.loop-offset.auto.offset-end in
     let end : c.loop-offset.offset ≡ c.rows-rows.result = omega (arith, low, high) in
-    subst (λ z. Tries b c.args.begin z z (shows c.args.p.now) (shows c.loop-offset.p)) i.1
-    (subst (λ z. Tries b c.args.begin c.rows-rows.result z (shows c.args.p.now) (shows c.loop-offset.p)) end i.2)
+    subst (λ z. TriedRows b c.args.begin z z (shows c.args.p.now) (shows c.loop-offset.p)) i.1
+    (subst (λ z. TriedRows b c.args.begin c.rows-rows.result z (shows c.args.p.now) (shows c.loop-offset.p)) end i.2)
 
 pub returns-then-try_take-clause-in_turn : goal.returns-then-try_take-clause-in_turn
 returns-then-try_take-clause-in_turn g c x e =
@@ -73,5 +73,5 @@ returns-then-try_take-clause-in_turn g c x e =
     let got = c.if-try_take.ensures.took refl in
     subst (IsNext b.rows begin (Found b s.agent s.journal u.journal)) (ap (λ n. (begin + offset) % n) (sym i.1) ∙ (sym c.around-row.ensures ∙ same))
     (tries_next b begin offset s (shows c.loop-offset.p) u.journal
-    (subst (λ n. Tries b begin n offset s (shows c.loop-offset.p)) i.1 i.2)
+    (subst (λ n. TriedRows b begin n offset s (shows c.loop-offset.p)) i.1 i.2)
     (subst (λ n. offset < n) i.1 c.loop-offset-test.true) (got.more, sym got.journal))

@@ -1,5 +1,5 @@
 use Rattle.std.proofs.Common.{ap, refl, rules, ◌<◌, ◌∙◌, subst, sym}
-use Rattle.orc_shared_words.specs.Steps.{Licensed}
+use Rattle.orc_shared_words.specs.Steps.{IsAllowedLater}
 use Rattle.orc_words.specs.declared.operation.Operation.TheVariants.{Swap}
 use Rattle.orc_shared_words.proofs.Steps.{exchanged, makes, tries}
 use Rattle.orc_shared_words.proofs.shared_words.SharedWords.make_step.Goals as goal
@@ -46,7 +46,7 @@ swap-requires g c =
           c.args.self.now.shaped c.requires.picked (c.operation-index.ensures.index _ c.requires.tied c.requires.allowed)
           (c.operation-index.ensures.written _ c.requires.tied c.requires.allowed) (c.operation-index.ensures.answer _ c.requires.tied c.requires.allowed)
           (c.in-Swap-eq0.is ∙ ap (λ v. Swap v) (sym c.in-Swap-eq0.field-0-is ∙ c.in-Swap-eq0.field-0-test)) (ap (λ z. z.0.agent) same ∙ c.requires.agent, ap (λ z. z.0.own) same) c.requires.allowed
-          (subst (λ z. Licensed g.M.Machine.rules c.args.self.now.shape (g.D.Discipline.holds (g.M.Machine.numbers c.args.self.now.shape))
+          (subst (λ z. IsAllowedLater g.M.Machine.rules c.args.self.now.shape (g.D.Discipline.holds (g.M.Machine.numbers c.args.self.now.shape))
           (g.D.Discipline.may (g.M.Machine.numbers c.args.self.now.shape)) z.0 c.args.agent c.args.op.now c.args.note.now) (sym same) c.requires.licensed),
     )
 
