@@ -3,7 +3,7 @@
 #![tactic(auto)]
 
 use orc_core::{CounterUse, NotAllowed, Op, State, apply};
-use orc_words::{RowLink, Shape, Word};
+use orc_words::{HIGHEST_LIMIT, RowLink, Shape, Word};
 use std::alloc::Global;
 use std::io;
 use std::time::Instant;
@@ -105,7 +105,7 @@ fn to_row(row: u32) -> RowLink {
 
 // A new state of 65,535 rows, if memory is there for it.
 fn new_state(alloc: Global, roots: u32, agents: u32) -> Option<State> {
-    let shape = Shape::new(ROWS, roots, agents, 549_755_813_888).ok()?;
+    let shape = Shape::new(ROWS, roots, agents, HIGHEST_LIMIT).ok()?;
     State::new(alloc, &shape).ok()
 }
 

@@ -10,6 +10,9 @@ use crate::parts::{doom_at, doom_cut, names, scan_at, scan_empty, scan_found};
 use crate::records::Agent;
 use orc_words::{RowLink, Shape, Word};
 
+// How many sequences a retirement may name: 2^40.
+const SEQUENCE_RANGE: u64 = 1_099_511_627_776;
+
 fn tries_bit(op: &Op, row: u32, sequence: u64) -> bool
     ensures { result ≡ tries_bit op.now row sequence }
 {
@@ -203,7 +206,7 @@ fn fits(shape: &Shape, enrolled: u64, number: u32, op: &Op, agent: &Agent) -> bo
         }
         Op::SetRetired { row, sequence } => {
             *row < shape.rows()
-                && *sequence < 1_099_511_627_776
+                && *sequence < SEQUENCE_RANGE
                 && (agent.has_due_at(*row, *sequence) || agent.is_fresh(*row))
         }
         Op::CounterLoad { row, how } => may_count(shape, agent, *row, *how),

@@ -14,11 +14,9 @@ ghost use Rattle.orc_sound.specs.NoLeak.{has_reason, keeps_out};
 use crate::counting::{is_held, linked_of, tokens_of};
 use crate::parts::{changes, dooms, keeps_out};
 use orc_core::{SEQUENCE, State};
-use orc_words::{NEW_COUNTER, RETIRED, Word, link_of_row};
+use orc_words::{HIGHEST_LIMIT, NEW_COUNTER, RETIRED, Word, link_of_row};
 
-// The greatest life, and what a sequence may exceed it by.
-const MOST_LIVES: u64 = 549_755_813_888;
-
+// What a sequence may exceed the greatest life by.
 const MARGIN: u64 = 524_288;
 
 #[tactic(auto, using(orc_core::proofs::Counted::count_none, orc_core::proofs::Counted::count_more, orc_core::proofs::Counted::count_all))]
@@ -120,8 +118,8 @@ fn range_fits(state: &State, row: u32) -> bool
     requires { row < state.now.bounds.rows }
     ensures { result ≡ range_fits state.now row }
 {
-    state.word(Word::Counter(row)) / SEQUENCE < MOST_LIVES + MARGIN
-        && state.word(Word::Gate(row)) / 2 <= MOST_LIVES
+    state.word(Word::Counter(row)) / SEQUENCE < HIGHEST_LIMIT + MARGIN
+        && state.word(Word::Gate(row)) / 2 <= HIGHEST_LIMIT
 }
 
 // Whether nothing links the row, nobody holds it, no change of it is pending or due, and its count is 0.
