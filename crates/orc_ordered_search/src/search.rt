@@ -1,4 +1,4 @@
-//! The search for the place of a rank.
+//! The search for the place of a rank. The parts of a step stand in line, so that what is in hand isn't written to memory between them.
 
 ghost use Rattle.std.specs.Prelude.{◌≡◌, ◌+◌, ◌<◌, ℕ, None, Some, false, true};
 ghost use mathlib.Core.List.{IsPrefix};
@@ -15,6 +15,7 @@ use crate::walk::{Searched, Stepped, Walk};
 use orc_heap::{At, Held, Links, Looked, LookedOn};
 
 // Goes on at the next node, or ends where there is none.
+#[inline(always)]
 fn go_on<K: Rank, L: Links<Rule = K::Rule>>(
     links: &L,
     p: &mut L::Pass,
@@ -67,6 +68,7 @@ fn count_one(is_counted: bool, passed: u32) -> u32
 }
 
 // Goes on behind a marked node.
+#[inline(always)]
 fn step_past<K: Rank, L: Links<Rule = K::Rule>>(
     links: &L,
     p: &mut L::Pass,
@@ -98,6 +100,7 @@ fn step_past<K: Rank, L: Links<Rule = K::Rule>>(
 }
 
 // Goes on behind an unmarked node with a lower rank, which is the left place from then on.
+#[inline(always)]
 fn step_behind<K: Rank, L: Links<Rule = K::Rule>>(
     links: &L,
     p: &mut L::Pass,
@@ -133,6 +136,7 @@ fn step_behind<K: Rank, L: Links<Rule = K::Rule>>(
 }
 
 // Goes on by what the link of the node was, that the search has come to.
+#[inline(always)]
 fn step_from<K: Rank, L: Links<Rule = K::Rule>>(
     links: &L,
     p: &mut L::Pass,
@@ -207,6 +211,7 @@ fn stop<K: Rank, L: Links<Rule = K::Rule>>(links: &L, p: &mut L::Pass, walk: Wal
 }
 
 // Goes on by what the look at the link of that node found.
+#[inline(always)]
 fn step_by<K: Rank, L: Links<Rule = K::Rule>>(
     links: &L,
     p: &mut L::Pass,
@@ -237,6 +242,7 @@ fn step_by<K: Rank, L: Links<Rule = K::Rule>>(
 }
 
 // Looks at the link of the node that the search has come to.
+#[inline(always)]
 fn step<K: Rank, L: Links<Rule = K::Rule>>(
     links: &L,
     p: &mut L::Pass,
