@@ -245,9 +245,9 @@ module _ {N : Type 0} where
         ),
       )
 
-  -- the state in which all are enrolled
-  enrolled_world : (b : Bounds) → IsShape b → world_of (run_of b (enrolments {N = N} b.agents)) ≡ ready b
-  enrolled_world b shape =
+  -- the state in which all are enrolled, which any seed finds
+  enrolled_world : (b : Bounds) (seed : Seed N) → IsShape b → world_of (run_of b (enrolments {N = N} b.agents)) ≡ ready b
+  enrolled_world b seed shape =
       let rows : 0 < b.rows = let r = shape.rows.0 in omega arith in
       let agents : 0 < b.agents = let r = shape.agents.0 in omega arith in
       (all_enroll b b.agents shape (omega arith)).world ∙ is_ready b rows agents
@@ -258,7 +258,7 @@ module _ {N : Type 0} where
   seeding_lawful b seed shape roots =
       let m = run_of b (enrolments {N = N} b.agents) in
       subst (λ (c : Bounds). LawfulSteps c (world_of m) (seeding seed)) (sym (bounds_run b (enrolments {N = N} b.agents)))
-      (subst (λ z. LawfulSteps b z (seeding seed)) (sym (enrolled_world b shape)) (seed_lawful b seed shape roots))
+      (subst (λ z. LawfulSteps b z (seeding seed)) (sym (enrolled_world b seed shape)) (seed_lawful b seed shape roots))
 
   pub opening_lawful : (b : Bounds) (seed : Seed N) → IsShape b → HasRoots (numbers_of b) seed
       → IsLawfulJournal (new_machine b) (machine_opening b.agents seed)
@@ -326,7 +326,7 @@ module _ {N : Type 0} where
       project-append (new_machine b) no_ids (enrolments b.agents) (seeding seed)
       ∙ ((λ i. quiet.0 i ++ project_from m (quiet.1 i) (seeding seed))
       ∙ (steps_project m no_ids (seeding seed) all.full (seeding_lawful b seed shape roots)
-      ∙ (ap (λ z. project_world z no_ids (seeding seed)) (enrolled_world b shape) ∙ seed_events b seed)))
+      ∙ (ap (λ z. project_world z no_ids (seeding seed)) (enrolled_world b seed shape) ∙ seed_events b seed)))
 
   plain_seeding : (seed : Seed N) → StoresUnmarked (seeding seed)
   plain_seeding Empty = tt
@@ -371,7 +371,7 @@ module _ {N : Type 0} where
   opening_nothing b seed zero shape roots lt =
       let all = all_enroll b b.agents shape (omega arith) in
       let m = run_of b (enrolments {N = N} b.agents) in
-      let left = steps_run m (seeding seed) all.full (seeding_lawful b seed shape roots) ∙ ap (λ z. run_world z (seeding seed)) (enrolled_world b shape) in
+      let left = steps_run m (seeding seed) all.full (seeding_lawful b seed shape roots) ∙ ap (λ z. run_world z (seeding seed)) (enrolled_world b seed shape) in
       let whole = run_more b (enrolments {N = N} b.agents) (seeding seed) in
       subst (λ (z : Machine). HasNothing (record_at z 0)) (sym whole) (subst (λ (z : World). HasNothing (z.seats 0)) (sym left) (seed_nothing b seed))
   opening_nothing b seed (suc a) shape roots lt = subst HasNothing (sym (opening_born b seed (suc a) shape (omega arith) lt)) (new_nothing b.rows)
