@@ -24,20 +24,20 @@ abbrev pub no_nodes : Heap
 no_nodes = record { nodes = []; roots = null ∷ []; links = 1 }
 
 -- a marked link
-abbrev pub marked : Option ℕ → Link
-marked to = record { to = to; mark = true }
+abbrev pub marked_link : Option ℕ → Link
+marked_link to = record { to = to; mark = true }
 
 -- agent 0's node with this key, once linked
-abbrev pub linked : ℕ → Option ℕ → Node
-linked key to = as_linked (node_to_add 0 key 0 to)
+abbrev pub linked_node : ℕ → Option ℕ → Node
+linked_node key to = as_linked (node_to_add 0 key 0 to)
 
 -- the same, marked
 abbrev pub marked_node : ℕ → Option ℕ → Node
-marked_node key to = with_link (marked to) (as_linked (node_to_add 0 key 0 None))
+marked_node key to = with_link (marked_link to) (as_linked (node_to_add 0 key 0 None))
 
 -- agent 1's node with this key, never linked
-abbrev pub new_node : ℕ → Option ℕ → Node
-new_node key to = node_to_add 1 key 0 to
+abbrev pub unlinked_node : ℕ → Option ℕ → Node
+unlinked_node key to = node_to_add 1 key 0 to
 
 -- agent 1's notes
 abbrev pub added : ℕ → Option ChainNote
@@ -52,7 +52,7 @@ links_node = Move (Next 0) null (link_to 1)
 
 -- node 0 is marked
 abbrev pub marks_node : Act
-marks_node = Move (Next 0) (link_to 1) (marked (Some 1))
+marks_node = Move (Next 0) (link_to 1) (marked_link (Some 1))
 
 -- root 0 is led from node 0 on
 abbrev pub leads_root : Link → Act
@@ -60,4 +60,4 @@ leads_root to = Move (Root 0) (link_to 0) to
 
 -- node 0 of the key 3 and node 1 of the key 5 are marked, and node 2 of the key 9 isn't; node 3 of the key 4 is aimed at node 2
 abbrev pub run_of_two : Heap
-run_of_two = one_root (marked_node 3 (Some 1) ∷ marked_node 5 (Some 2) ∷ linked 9 None ∷ new_node 4 (Some 2) ∷ [])
+run_of_two = one_root (marked_node 3 (Some 1) ∷ marked_node 5 (Some 2) ∷ linked_node 9 None ∷ unlinked_node 4 (Some 2) ∷ [])

@@ -19,11 +19,11 @@ use Rattle.orc_heap.specs.declared.events.Place.{Place}
 use Rattle.orc_heap.specs.declared.events.Place.TheVariants.{Next, Root, Side}
 use Rattle.orc_heap.specs.declared.holds.Looked.TheVariants.{Moved}
 use Rattle.links_example.specs.OwnRoots.{OwnRootsMay}
-use Rattle.links_example.specs.Stacks.{FindsNode, LeadsTo, plain_link}
+use Rattle.links_example.specs.Stacks.{FindsNode, StackLeadsTo, plain_link}
 use Rattle.links_example.proofs.Stays.{is_move, node_later, nodes_stay, top_later, top_stays}
 
 -- a place of the stack leads to the same node after events of which none is a Move of the agent's own
-leads_later : (n : HeapNumbers) (s : Seat ℕ) (place : Place) (to : ℕ) (more : List (Event ℕ)) → LeadsTo n s place to → AllAllowed (OwnRootsMay n) s.seen more
+leads_later : (n : HeapNumbers) (s : Seat ℕ) (place : Place) (to : ℕ) (more : List (Event ℕ)) → StackLeadsTo n s place to → AllAllowed (OwnRootsMay n) s.seen more
     → list_any (λ e. is_move e.act) (events_by s.agent more) ≡ false → shown (run_heap n (s.seen ++ more)) place ≡ Some (plain_link (Some to))
 leads_later n s (Root r) to more l all none = rw l.0 (top_later n s.agent _ s.seen more all none l.1)
 leads_later n s (Next id) to more l all none = ap (option_map (λ (x : Node). x.link)) (node_later n s.agent id l.0 (Some to) s.seen more all l.1)
@@ -31,7 +31,7 @@ leads_later n s (Side id) to more l all none = absurd l
 
 -- so each Look of a call finds it
 pub look_finds : (n : HeapNumbers) (s t : Seat ℕ) (place : Place) (to : ℕ) (own : List (Event ℕ)) (found : Link) (rest : List (Event ℕ))
-    → AllAllowed (OwnRootsMay n) [] t.seen → LeadsTo n s place to
+    → AllAllowed (OwnRootsMay n) [] t.seen → StackLeadsTo n s place to
     → list_any (λ e. is_move e.act) own ≡ false → Puts s (own ++ event_of s (Look place found) None ∷ rest) t → found ≡ plain_link (Some to)
 look_finds n s t place to own found rest all l none p =
     let st = Puts-stood (OwnRootsMay n) s t own _ rest p all in
@@ -39,7 +39,7 @@ look_finds n s t place to own found rest all l none p =
     cc
 
 -- a look at the stack finds its node twice alike
-pub not_moved : (n : HeapNumbers) (s t : Seat ℕ) (place : Place) (slot to : ℕ) → AllAllowed (OwnRootsMay n) [] t.seen → LeadsTo n s place to
+pub not_moved : (n : HeapNumbers) (s t : Seat ℕ) (place : Place) (slot to : ℕ) → AllAllowed (OwnRootsMay n) [] t.seen → StackLeadsTo n s place to
     → Looks place slot s Moved t → ⊥
 not_moved n s t place slot to all l r =
     let (one, two, other, slots, puts, first) = r.tells in
@@ -47,7 +47,7 @@ not_moved n s t place slot to all l r =
     let second = look_finds n s t place to (event_of s (Look place one) None ∷ []) two [] all l refl puts in
     other (first ∙ sym second)
 
-pub not_null : (n : HeapNumbers) (s t : Seat ℕ) (place : Place) (mark : Bool) (to : ℕ) → AllAllowed (OwnRootsMay n) [] t.seen → LeadsTo n s place to
+pub not_null : (n : HeapNumbers) (s t : Seat ℕ) (place : Place) (mark : Bool) (to : ℕ) → AllAllowed (OwnRootsMay n) [] t.seen → StackLeadsTo n s place to
     → LookedNull place mark s t → ⊥
 not_null n s t place mark to all l r =
     let e = look_finds n s t place to [] _ [] all l refl r.puts in

@@ -20,7 +20,7 @@ use Rattle.orc_heap.specs.declared.events.Link.{Link}
 use Rattle.orc_heap.specs.declared.events.Place.TheVariants.{Root}
 use Rattle.links_example.specs.Laws.OwnRoots.{own_roots_keeps, own_roots_moves_linked}
 use Rattle.links_example.specs.OwnRoots.{OwnRootsHolds, OwnRootsMay}
-use Rattle.links_example.specs.Stacks.{HasTop, HoldsNode, NodesStay, Pushes, StackStays, plain_link, stack_node}
+use Rattle.links_example.specs.Stacks.{HasTop, HoldsStackNode, NodesStay, Pushes, StackStays, plain_link, stack_node}
 use Rattle.links_example.proofs.Stays.{nodes_stay, top_stays}
 use Rattle.links_example.proofs.Swings.{moved_node, moved_top, unlinked_node}
 
@@ -63,7 +63,7 @@ module _ {n : HeapNumbers} {below : Option ℕ} {slot value : ℕ} {s : Seat ℕ
   another k held = ap (λ z. id_in z k) r.slots ∙ id-other s.slots slot _ k (held_apart s.slots k slot held free)
 
   -- what was on top stays held, and isn't the new node
-  pub ready_target : (top : Option (Bor Hold)) → HoldsTarget s top → HoldsNode n s top → HoldsTarget t top
+  pub ready_target : (top : Option (Bor Hold)) → HoldsTarget s top → HoldsStackNode n s top → HoldsTarget t top
   ready_target None held node = tt
   ready_target (Some k) held node =
       let is = another k.now held.0 in
@@ -190,7 +190,7 @@ aimed_ready n slot value s h t u to free r all holds other o = record {
 
 -- both in one: a node that was given and whose link was set to what was on top
 pub linked_ready : (n : HeapNumbers) (slot value : ℕ) (s : Seat ℕ) (h : Hold) (t u : Seat ℕ) (top : Option (Bor Hold)) → IsFree s.slots slot
-    → AllAllowed (OwnRootsMay n) [] t.seen → AllAllowed (OwnRootsMay n) [] u.seen → OwnRootsHolds n t.seen → HoldsTarget s top → HoldsNode n s top
+    → AllAllowed (OwnRootsMay n) [] t.seen → AllAllowed (OwnRootsMay n) [] u.seen → OwnRootsHolds n t.seen → HoldsTarget s top → HoldsStackNode n s top
     → Gives n slot value 0 s h t → Only (event_of t (Aim (id_in t.slots h) (target_in t.slots top)) None ∷ []) t u
     → Readied n (target_in s.slots top) slot value s h u
 linked_ready n slot value s h t u top free all_t all_u holds held node g o =

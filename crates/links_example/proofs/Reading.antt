@@ -12,7 +12,7 @@ use Rattle.orc_heap.specs.Slots.{Hold, Holds, IsFree, Slots, id_in}
 use Rattle.orc_heap.specs.declared.events.Place.{Place}
 use Rattle.orc_heap.specs.declared.events.Place.TheVariants.{Next}
 use Rattle.links_example.specs.OwnRoots.{OwnRootsMay}
-use Rattle.links_example.specs.Stacks.{FindsNode, HasNode, HasTwo, LeadsTo, StackStays, stack_node}
+use Rattle.links_example.specs.Stacks.{FindsNode, HasNode, HasTwo, StackLeadsTo, StackStays, stack_node}
 use Rattle.links_example.proofs.Stays.{nodes_stay, top_stays}
 
 pub StackStays-trans : (n : HeapNumbers) (s t u : Seat ℕ) → StackStays n s t → StackStays n t u → StackStays n s u
@@ -91,7 +91,7 @@ module _ {n : HeapNumbers} {root : Place} {upper lower : Hold} {s0 s1 s2 : Seat 
 
   -- a value of each
   pub pair_read : {s3 s4 : Seat ℕ} → StackStays n s2 s3 → StackStays n s2 s4 → (a b first second : ℕ) (pair : HasTwo n s0 a b)
-      → LeadsTo n s0 root pair.upper_id → ReadsValue (heap_of n s3) (id_in s2.slots upper) 0 first
+      → StackLeadsTo n s0 root pair.upper_id → ReadsValue (heap_of n s3) (id_in s2.slots upper) 0 first
       → ReadsValue (heap_of n s4) (id_in s3.slots lower) 0 second → first ≡ a × second ≡ b
   pair_read {s3} {s4} v1 v2 a b first second pair leads r1 r2 =
       let up = pair.upper_id in

@@ -25,9 +25,9 @@ abbrev pub HasNode : HeapNumbers → Seat ℕ → ℕ → ℕ → Option ℕ →
 HasNode n s id value below = slice_get (heap_of n s).nodes id ≡ Some (stack_node s.agent value below)
 
 -- what is held, if anything, is such a node
-abbrev pub HoldsNode : HeapNumbers → Seat ℕ → Option (Bor Hold) → Type 0
-HoldsNode n s None = Unit {0}
-HoldsNode n s (Some h) = (value : ℕ) × (below : Option ℕ) × HasNode n s (id_in s.slots h.now) value below
+abbrev pub HoldsStackNode : HeapNumbers → Seat ℕ → Option (Bor Hold) → Type 0
+HoldsStackNode n s None = Unit {0}
+HoldsStackNode n s (Some h) = (value : ℕ) × (below : Option ℕ) × HasNode n s (id_in s.slots h.now) value below
 
 -- the nodes of the agent's stack stay as they are
 abbrev pub NodesStay : HeapNumbers → Seat ℕ → Seat ℕ → Type 0
@@ -69,15 +69,15 @@ pub record HasTwo (n : HeapNumbers) (s : Seat ℕ) (upper lower : ℕ) : Type 0 
   pub lower_node : HasNode n s lower_id lower None
 
 -- the place is the root or a link of the agent's stack, and leads to this node
-abbrev pub LeadsTo : HeapNumbers → Seat ℕ → Place → ℕ → Type 0
-LeadsTo n s (Root r) to = (r ≡ s.agent) × HasTop n s (Some to)
-LeadsTo n s (Next id) to = (value : ℕ) × HasNode n s id value (Some to)
-LeadsTo n s (Side id) to = ⊥
+abbrev pub StackLeadsTo : HeapNumbers → Seat ℕ → Place → ℕ → Type 0
+StackLeadsTo n s (Root r) to = (r ≡ s.agent) × HasTop n s (Some to)
+StackLeadsTo n s (Next id) to = (value : ℕ) × HasNode n s id value (Some to)
+StackLeadsTo n s (Side id) to = ⊥
 
 -- the node to which the place leads was found, and is held in this slot; the stack stays
 pub record FindsNode (n : HeapNumbers) (place : Place) (slot : ℕ) (s : Seat ℕ) (h : Hold) (t : Seat ℕ) : Type 0 where
   pub id : ℕ
-  pub is : (to : ℕ) → LeadsTo n s place to → id ≡ to
+  pub is : (to : ℕ) → StackLeadsTo n s place to → id ≡ to
   pub slot_is : h.slot ≡ slot
   pub agent : t.agent ≡ s.agent
   pub slots : t.slots ≡ slice_set s.slots slot (Some (record { row = h.row; id = id }))

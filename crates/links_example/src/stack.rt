@@ -3,7 +3,7 @@
 ghost use Rattle.std.specs.Prelude.{◌≡◌, ◌≢◌, ℕ, ◌<◌, None, Some, IfOk, IfErr};
 ghost use Rattle.orc_heap.specs.Seats.{HoldsPlace, HoldsTarget, HoldsWant, IsIdle, Seat, link_in, place_in, target_in};
 ghost use Rattle.orc_heap.specs.Slots.{Holds, IsFree, Slots, id_in};
-ghost use Rattle.links_example.specs.Stacks.{Clears, FindsNode, HasTwo, HasTop, HoldsNode, LeadsTo, Pushes, StackStays, plain_link};
+ghost use Rattle.links_example.specs.Stacks.{Clears, FindsNode, HasTwo, HasTop, HoldsStackNode, StackLeadsTo, Pushes, StackStays, plain_link};
 
 use crate::own_roots::OwnRoots;
 use orc_fault::Spent;
@@ -41,7 +41,7 @@ fn push<L: Links<Rule = OwnRoots>>(
     requires root { (L.seat links.now p.old).agent < (L.numbers links.now).roots }
     requires held { HoldsTarget (L.seat links.now p.old) top }
     requires top { HasTop (L.numbers links.now) (L.seat links.now p.old) (target_in (L.seat links.now p.old).slots top) }
-    requires node { HoldsNode (L.numbers links.now) (L.seat links.now p.old) top }
+    requires node { HoldsStackNode (L.numbers links.now) (L.seat links.now p.old) top }
     ensures pass { L.belongs links.now p.new }
     ensures pushed { IfOk result (λ h. Pushes (L.numbers links.now) (target_in (L.seat links.now p.old).slots top.entry) slot value (L.seat links.now p.old) h
         (L.seat links.now p.new)) }
@@ -102,7 +102,7 @@ fn look_at<L: Links<Rule = OwnRoots>>(links: &L, p: &mut L::Pass, place: &At, sl
     requires pass { L.belongs links.now p.old }
     requires slot { IsFree (L.seat links.now p.old).slots slot }
     requires place { HoldsPlace (L.numbers links.now) (L.seat links.now p.old).slots place.now }
-    requires stack { (to : ℕ) × LeadsTo (L.numbers links.now) (L.seat links.now p.old) (place_in (L.seat links.now p.old).slots place.now) to }
+    requires stack { (to : ℕ) × StackLeadsTo (L.numbers links.now) (L.seat links.now p.old) (place_in (L.seat links.now p.old).slots place.now) to }
     ensures pass { L.belongs links.now p.new }
     ensures found { FindsNode (L.numbers links.now) (place_in (L.seat links.now p.old).slots place.now) slot (L.seat links.now p.old) result
         (L.seat links.now p.new) }

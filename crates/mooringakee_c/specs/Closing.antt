@@ -14,10 +14,10 @@ pub record TellsOf (told : RowCounts) (counts : Counts) : Type 0 where
   pub linked : counts.linked ≡ told.linked
 
 -- the pass is given up, and where the answer is Done, its container came to rest, and these are the counts of its rows
-abbrev pub Closes : Counts → Option Seat → Answer → Option Seat → Type 0
-Closes counts (Some old) Done None = (told : RowCounts) × Tells old told × TellsOf told counts
-Closes counts (Some old) Others None = Unit {0}
-Closes counts (Some old) Kept None = Unit {0}
-Closes counts (Some old) NoMemory None = Unit {0}
-Closes counts None NoPass None = Unit {0}
-Closes _ _ _ _ = ⊥
+abbrev pub ClosesPass : Counts → Option Seat → Answer → Option Seat → Type 0
+ClosesPass counts (Some old) Done None = (told : RowCounts) × Tells old told × TellsOf told counts
+ClosesPass counts (Some old) Others None = Unit {0}
+ClosesPass counts (Some old) Kept None = Unit {0}
+ClosesPass counts (Some old) NoMemory None = Unit {0}
+ClosesPass counts None NoPass None = Unit {0}
+ClosesPass _ _ _ _ = ⊥

@@ -2,7 +2,7 @@
 #![tactic(auto)]
 
 ghost use Rattle.std.specs.Prelude.{◌≡◌, ◌⊎◌, pos};
-ghost use Rattle.mooringakee_c.specs.Closing.{Closes};
+ghost use Rattle.mooringakee_c.specs.Closing.{ClosesPass};
 ghost use Rattle.mooringakee_c_passes.specs.Codes.{Says};
 ghost use Rattle.mooringakee_c_passes.specs.Making.{AreNewQueuePasses, AreNewSetPasses, AreNewSplitPasses, CanBeMade, CanBeSplit, Makes};
 ghost use Rattle.mooringakee_c_passes.specs.QueueCalls.{Puts, Takes};
@@ -252,7 +252,7 @@ pub extern "C" fn mooringakee_proved_close(
     pass: &mut Pass,
     counts: &mut Counts,
 ) -> i32
-    ensures answer { Says result (λ answer. Closes counts.new pass.old.pointer.seat answer pass.new.pointer.seat) }
+    ensures answer { Says result (λ answer. ClosesPass counts.new pass.old.pointer.seat answer pass.new.pointer.seat) }
     ensures kept { (result ≡ pos 0) ⊎ (counts.new ≡ counts.old) }
 {
     let Some(seat) = pass.take(alloc) else {

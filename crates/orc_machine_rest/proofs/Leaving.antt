@@ -4,7 +4,7 @@ use Rattle.std.specs.Prelude.{None}
 use Rattle.orc_machine_rest.proofs.Makes.{added_adds, added_then}
 use Rattle.orc_machine_rest.proofs.Passes.{Pass, StepOf, added, made, may_do, next_pass}
 use Rattle.orc_machine_rest.specs.Parts.{Goes}
-use Rattle.orc_machine_rest.specs.Passes.{IsPassOf, record_of, state_of}
+use Rattle.orc_machine_rest.specs.Passes.{IsPassOf, agent_record, state_of}
 use Rattle.orc_core.specs.RecordParts.{is_empty, slot_of}
 use Rattle.orc_core.specs.declared.ops.Op.TheVariants.{Clear, TakeIn}
 use Rattle.orc_core.specs.declared.records.Agent.{Agent}
@@ -25,15 +25,15 @@ module _ {D N : Type 0} {d : discipline.Ghosts D N} {m : machine.Ghosts Reclaimi
   pub record Leaving (board : MachineBoard D N) (a : ℕ) (p r : Pass d m) : Type 0 where
     pub pass : IsPassOf board a r
     pub goes : Goes (board_bounds board) a 0 (shows p) (shows r)
-    pub so : StillKept (record_of board a p) (record_of board a r)
+    pub so : StillKept (agent_record board a p) (agent_record board a r)
 
-  module _ {board : MachineBoard D N} {a : ℕ} {p : Pass d m} (h : IsPassOf board a p) (calm : IsSettling (record_of board a p))
-      (used : is_empty (slot_of (record_of board a p) 0) ≡ false) (dec : (record_of board a p).dec ≡ None) (due : (record_of board a p).due ≡ None) where
+  module _ {board : MachineBoard D N} {a : ℕ} {p : Pass d m} (h : IsPassOf board a p) (calm : IsSettling (agent_record board a p))
+      (used : is_empty (slot_of (agent_record board a p) 0) ≡ false) (dec : (agent_record board a p).dec ≡ None) (due : (agent_record board a p).due ≡ None) where
     pub clear_may : MayDo (board_bounds board) (shows p) (Clear 0)
     clear_may = may_do board a p h (Clear 0) tt (first_cleared (state_of board p) a h.low calm used dec due).0
 
-  module _ {board : MachineBoard D N} {a : ℕ} {p q : Pass d m} {x : ℕ} (one : StepOf board a (Clear 0) p q x) (calm : IsSettling (record_of board a p))
-      (used : is_empty (slot_of (record_of board a p) 0) ≡ false) (dec : (record_of board a p).dec ≡ None) (due : (record_of board a p).due ≡ None) where
+  module _ {board : MachineBoard D N} {a : ℕ} {p q : Pass d m} {x : ℕ} (one : StepOf board a (Clear 0) p q x) (calm : IsSettling (agent_record board a p))
+      (used : is_empty (slot_of (agent_record board a p) 0) ≡ false) (dec : (agent_record board a p).dec ≡ None) (due : (agent_record board a p).due ≡ None) where
     pub take_may : MayDo (board_bounds board) (shows q) (TakeIn 0)
     take_may =
         may_do board a q (next_pass one) (TakeIn 0) refl
@@ -57,5 +57,5 @@ module _ {D N : Type 0} {d : discipline.Ghosts D N} {m : machine.Ghosts Reclaimi
                   (added_then (board_bounds board) a ((made one).others ++ (a, Clear 0) ∷ []) ((made two).others ++ (a, TakeIn 0) ∷ []) (Clear 0 ∷ [])
                   (TakeIn 0 ∷ []) (shows p) (shows q) (shows r) (added one (λ i w. refl)) (added two (λ i w. refl)));
             };
-            so = kept_join (record_of board a p) (record_of board a q) (record_of board a r) left.so.kept taken.so;
+            so = kept_join (agent_record board a p) (agent_record board a q) (agent_record board a r) left.so.kept taken.so;
           }

@@ -6,7 +6,7 @@ use Rattle.orc_machine_rest.proofs.Joins.{adds_as}
 use Rattle.orc_machine_rest.proofs.Makes.{Added, added_adds, added_here, made_by, may_here, one_more}
 use Rattle.orc_machine_rest.specs.OwnSteps.{AtMostMore, TakesInCleared, answers_word}
 use Rattle.orc_machine_rest.specs.Parts.{SawSteps, Goes, OpensTurn}
-use Rattle.orc_machine_rest.specs.Passes.{IsPassOf, record_of, state_of}
+use Rattle.orc_machine_rest.specs.Passes.{IsPassOf, agent_record, state_of}
 use Rattle.orc_core.specs.Actions.{action_of}
 use Rattle.orc_core.specs.After.{after}
 use Rattle.orc_core.specs.Machine.{is_allowed, record_at, word_in}
@@ -84,16 +84,16 @@ module _ {D N : Type 0} {d : discipline.Ghosts D N} {m : machine.Ghosts Reclaimi
   }
 
   module _ (board : MachineBoard D N) (a : ℕ) (p : Pass d m) (h : IsPassOf board a p) where
-    pub mine : record_of board a p ≡ (shows p).record_is
+    pub mine : agent_record board a p ≡ (shows p).record_is
     mine = ap (record_at (state_of board p)) (sym h.agent) ∙ h.belongs.keeps.now.mine
 
-    pub may_do : (op : Op) → IsSettlingStep (word_in (state_of board p)) op (record_of board a p) → is_allowed (state_of board p) a op ≡ true
+    pub may_do : (op : Op) → IsSettlingStep (word_in (state_of board p)) op (agent_record board a p) → is_allowed (state_of board p) a op ≡ true
         → MayDo (board_bounds board) (shows p) op
     may_do op s allowed = may_here (board_bounds board) (shows p).agent (shows p).record_is (state_of board p) a op (bounds_are board p) h.agent mine s allowed
 
   -- where the state has nothing left for the agent, neither has the pass
-  pub done_so : (board : MachineBoard D N) {a x : ℕ} {p : Pass d m} → IsPassOf board a p → a ≡ x → IsDone (record_of board x p) → IsDone (shows p).record_is
-  done_so board {a} {x} {p} h its done = subst IsDone (mine board a p h) (subst (λ y. IsDone (record_of board y p)) (sym its) done)
+  pub done_so : (board : MachineBoard D N) {a x : ℕ} {p : Pass d m} → IsPassOf board a p → a ≡ x → IsDone (agent_record board x p) → IsDone (shows p).record_is
+  done_so board {a} {x} {p} h its done = subst IsDone (mine board a p h) (subst (λ y. IsDone (agent_record board y p)) (sym its) done)
 
   -- the pass makes this step, and shows q
   pub record StepOf (board : MachineBoard D N) (a : ℕ) (op : Op) (p q : Pass d m) (n : ℕ) : Type 0 where
@@ -116,29 +116,29 @@ module _ {D N : Type 0} {d : discipline.Ghosts D N} {m : machine.Ghosts Reclaimi
 
     -- where the step answers the word that it read, the record is by that word
     pub read_step : ((w : ℕ) → n ≡ answer_of (action_of (shows p).agent op (shows p).record_is).operation w → n ≡ w)
-        → record_of board a q ≡ after op (record_of board a p) n
+        → agent_record board a q ≡ after op (agent_record board a p) n
     read_step reads =
         mine board a q next_pass ∙ (e.makes.record_is ∙ ((λ i. after op (shows p).record_is (sym (reads _ e.makes.answer) i))
         ∙ ap (λ d. after op d n) (sym (mine board a p e.pass))))
 
     -- right before the step the record is what it was
-    pub before_step : record_at (run_of (board_bounds board) ((shows p).journal ++ e.makes.met)) (shows p).agent ≡ record_of board a p
+    pub before_step : record_at (run_of (board_bounds board) ((shows p).journal ++ e.makes.met)) (shows p).agent ≡ agent_record board a p
     before_step = record_stays (board_bounds board) (shows p).journal e.makes.met (shows p).agent e.makes.others ∙ ap (record_at (state_of board p)) e.pass.agent
 
-    module _ (no_act : (i : PresentIds) (w : ℕ) → act_of i (record_of board a p) w op None ≡ None) where
+    module _ (no_act : (i : PresentIds) (w : ℕ) → act_of i (agent_record board a p) w op None ≡ None) where
       pub added : Added (board_bounds board) a (made.others ++ (a, op) ∷ []) (op ∷ []) (shows p) (shows q)
       added = added_here board.words.shape a op (shows p) (shows q) n e.pass.agent e.belongs.keeps.now.lawful.0 e.makes
           (λ i w. ap (λ d. act_of i d w op None) before_step ∙ no_act i w)
 
       module _ (taken : TakesInCleared (op ∷ [])) (allowed : is_allowed (state_of board p) a op ≡ true)
-          (settles : IsSettlingStep (word_in (state_of board p)) op (record_of board a p)) where
+          (settles : IsSettlingStep (word_in (state_of board p)) op (agent_record board a p)) where
         adds : SawSteps (board_bounds board) a (made.others ++ (a, op) ∷ []) (shows p) (shows q)
         adds = added_adds (board_bounds board) a (made.others ++ (a, op) ∷ []) (op ∷ []) (shows p) (shows q) taken added
 
-        pub goes : Goes (board_bounds board) a (drop_of op (record_of board a p)) (shows p) (shows q)
+        pub goes : Goes (board_bounds board) a (drop_of op (agent_record board a p)) (shows p) (shows q)
         goes = record { went = made_went (state_of board p) (state_of board q) a op e.pass.reached allowed settles made; adds = adds }
 
-        pub opens : IsNoHand op → OpensTurn (board_bounds board) a (drop_of op (record_of board a p)) (shows p) (shows q)
+        pub opens : IsNoHand op → OpensTurn (board_bounds board) a (drop_of op (agent_record board a p)) (shows p) (shows q)
         opens kind = record {
           opened = opened_step a op (state_of board p) (state_of board q) kind allowed settles made next_pass.reached;
           adds = adds_as (board_bounds board) a _ _ (shows p) (shows q) (sym (append-nil (made.others ++ (a, op) ∷ []))) adds;

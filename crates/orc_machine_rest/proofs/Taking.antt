@@ -10,7 +10,7 @@ use Rattle.orc_machine_rest.proofs.Passes.{Pass, StepOf, added, bounds_are, made
 use Rattle.orc_machine_rest.proofs.TakenIn.{taken_since, taken_then}
 use Rattle.orc_machine_rest.specs.OwnSteps.{HasTakenIn, LeavesNothing}
 use Rattle.orc_machine_rest.specs.Parts.{SawSteps, NoEvents, Settles}
-use Rattle.orc_machine_rest.specs.Passes.{IsPassOf, record_of, state_of}
+use Rattle.orc_machine_rest.specs.Passes.{IsPassOf, agent_record, state_of}
 use Rattle.orc_core.specs.Allowed.{may}
 use Rattle.orc_core.specs.Machine.{record_at}
 use Rattle.orc_core.specs.declared.ops.Op.{Op}
@@ -37,7 +37,7 @@ use Rattle.orc_history.specs.Parts.{IsAlone}
 
 module _ {D N : Type 0} {d : discipline.Ghosts D N} {m : machine.Ghosts Reclaiming N (MachineShape N) Request (Step N) Agent Agent}
     {board : MachineBoard D N} {a k : ℕ} {p : Pass d m} where
-  pub may_take : IsPassOf board a p → IsBetweenRounds (record_of board a p) → k < 8 → MayDo (board_bounds board) (shows p) (TakeIn k)
+  pub may_take : IsPassOf board a p → IsBetweenRounds (agent_record board a p) → k < 8 → MayDo (board_bounds board) (shows p) (TakeIn k)
   may_take h between low =
       (λ i. may (sym (bounds_are board p) i) 0 (h.agent i) (TakeIn k) (sym (mine board a p h) i)) ∙ take_slot (state_of board p) a k h.low between low
 
@@ -53,7 +53,7 @@ module _ {D N : Type 0} {d : discipline.Ghosts D N} {m : machine.Ghosts Reclaimi
         let one = added e (λ i w. refl) in
         record { earlier = []; later = []; done = record { part = one.part; is = one.journal; own = one.own } }
 
-    pub still_between : IsBetweenRounds (record_of board a p) → IsBetweenRounds (record_of board a q)
+    pub still_between : IsBetweenRounds (agent_record board a p) → IsBetweenRounds (agent_record board a q)
     still_between between = made_between (state_of board p) (state_of board q) a k e.pass.reached e.pass.low between (made e)
 
 module _ {N : Type 0} (b : Bounds) (a : ℕ) where

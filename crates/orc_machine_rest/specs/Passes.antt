@@ -20,8 +20,8 @@ module _ {D N : Type 0} {d : discipline.Ghosts D N} {m : machine.Ghosts Reclaimi
   state_of board p = run_of (board_bounds board) (shows p).journal
 
   -- the record of an agent in that state
-  abbrev pub record_of : MachineBoard D N → ℕ → MachineBoardPass D N (MachineShape N) Request (Step N) Agent Agent d m → Agent
-  record_of board a p = record_at (state_of board p) a
+  abbrev pub agent_record : MachineBoard D N → ℕ → MachineBoardPass D N (MachineShape N) Request (Step N) Agent Agent d m → Agent
+  agent_record board a p = record_at (state_of board p) a
 
   -- the pass is one of the board's, and this agent's, who is one of the board's agents; the state is one that steps have led to
   pub record IsPassOf (board : MachineBoard D N) (a : ℕ) (p : MachineBoardPass D N (MachineShape N) Request (Step N) Agent Agent d m) : Type 0 where

@@ -4,7 +4,7 @@ ghost use Rattle.std.specs.Prelude.{◌≡◌, ◌<◌, ◌≤◌, ◌+◌, ◌-
 ghost use Rattle.orc_machine_rest.specs.Drains.{Drains, TakesInFrom};
 ghost use Rattle.orc_machine_rest.specs.OwnSteps.{AtMostMore, HasTakenIn, LeavesNothing, TakesInAll, most_rounds, steps_a_round};
 ghost use Rattle.orc_machine_rest.specs.Parts.{NoEvents};
-ghost use Rattle.orc_machine_rest.specs.Passes.{IsPassOf, record_of, state_of};
+ghost use Rattle.orc_machine_rest.specs.Passes.{IsPassOf, agent_record, state_of};
 ghost use Rattle.orc_history.specs.Parts.{IsAlone};
 ghost use Rattle.orc_machine_board.specs.Views.{Belongs, board_bounds, shows};
 ghost use Rattle.orc_rest.specs.Records.{IsBetweenRounds, IsDone};
@@ -23,10 +23,10 @@ fn take_in_from<D: Discipline>(
     k: u32,
 )
     requires pass { IsPassOf board.now agent p.old }
-    requires between { IsBetweenRounds (record_of board.now agent p.old) }
+    requires between { IsBetweenRounds (agent_record board.now agent p.old) }
     requires slot { k ≤ 8 }
     ensures pass { IsPassOf board.now agent p.new }
-    ensures between { IsBetweenRounds (record_of board.now agent p.new) }
+    ensures between { IsBetweenRounds (agent_record board.now agent p.new) }
     ensures takes { TakesInFrom (board_bounds board.now) agent k (shows p.old) (shows p.new) }
     ensures taken_in { (slot : ℕ) → k ≤ slot → slot < 8 → HasTakenIn agent slot (shows p.old).journal (shows p.new).journal }
     ensures few { AtMostMore agent (8 - k) (shows p.old).journal (shows p.new).journal }
@@ -41,9 +41,9 @@ fn take_in_from<D: Discipline>(
 // Takes in all, and settles.
 fn drain_own<D: Discipline>(board: &MachineBoard<D>, p: &mut MachineBoardPass<D>, agent: u32)
     requires pass { IsPassOf board.now agent p.old }
-    requires between { IsBetweenRounds (record_of board.now agent p.old) }
+    requires between { IsBetweenRounds (agent_record board.now agent p.old) }
     ensures pass { IsPassOf board.now agent p.new }
-    ensures between { IsBetweenRounds (record_of board.now agent p.new) }
+    ensures between { IsBetweenRounds (agent_record board.now agent p.new) }
     ensures drains { Drains (board_bounds board.now) agent (shows p.old) (shows p.new) }
     ensures takes_all { TakesInAll agent (shows p.old).journal (shows p.new).journal }
     ensures few { AtMostMore agent (8 + most_rounds (board_bounds board.now) * steps_a_round (board_bounds board.now))

@@ -4,7 +4,7 @@ ghost use Rattle.std.specs.Prelude.{◌≡◌, ◌-◌, ◌+◌, ◌*◌, ◌≤
 ghost use Rattle.orc_machine_rest.specs.Drains.{TakesInAndSettles};
 ghost use Rattle.orc_machine_rest.specs.OwnSteps.{AtMostMore, HasTakenIn, LeavesNothing, most_rounds, steps_a_round};
 ghost use Rattle.orc_machine_rest.specs.Parts.{MakesRounds, NoEvents, OpensTurn, Settles};
-ghost use Rattle.orc_machine_rest.specs.Passes.{IsPassOf, record_of};
+ghost use Rattle.orc_machine_rest.specs.Passes.{IsPassOf, agent_record};
 ghost use Rattle.orc_core.specs.RecordParts.{scans};
 ghost use Rattle.orc_history.specs.Parts.{IsAlone};
 ghost use Rattle.orc_machine_board.specs.Views.{Belongs, board_bounds, shows};
@@ -32,13 +32,13 @@ fn look_over<D: Discipline>(
     first: u32,
 )
     requires pass { IsPassOf board.now agent p.old }
-    requires still { IsStill (record_of board.now agent p.old) }
-    requires doom { (record_of board.now agent p.old).doom ≡ None }
-    requires scan { IsScanOf row first (record_of board.now agent p.old).scan }
+    requires still { IsStill (agent_record board.now agent p.old) }
+    requires doom { (agent_record board.now agent p.old).doom ≡ None }
+    requires scan { IsScanOf row first (agent_record board.now agent p.old).scan }
     requires place { first ≤ 8 * (board_bounds board.now).agents }
     ensures pass { IsPassOf board.now agent p.new }
     ensures opens { OpensTurn (board_bounds board.now) agent 1 (shows p.old) (shows p.new) }
-    ensures between { IsBetweenRounds (record_of board.now agent p.new) }
+    ensures between { IsBetweenRounds (agent_record board.now agent p.new) }
     ensures few { AtMostMore agent (steps_a_round (board_bounds board.now) - 1) (shows p.old).journal (shows p.new).journal }
 {
     let end = 8 * board.shape().agents();
@@ -62,8 +62,8 @@ fn next_work<D: Discipline>(
     agent: u32,
 ) -> Option<u32>
     requires pass { IsPassOf board.now agent p.now }
-    ensures some { IfSome result (λ row. IsScannedNext row (record_of board.now agent p.now)) }
-    ensures none { result ≡ None → IsDone (record_of board.now agent p.now) }
+    ensures some { IfSome result (λ row. IsScannedNext row (agent_record board.now agent p.now)) }
+    ensures none { result ≡ None → IsDone (agent_record board.now agent p.now) }
 {
     let record = kept(board, p, agent);
     match (record.scan, record.hand) {
@@ -81,11 +81,11 @@ fn scan_round<D: Discipline>(
     row: u32,
 )
     requires pass { IsPassOf board.now agent p.old }
-    requires between { IsBetweenRounds (record_of board.now agent p.old) }
-    requires scans { scans (record_of board.now agent p.old).scan row ≡ true }
+    requires between { IsBetweenRounds (agent_record board.now agent p.old) }
+    requires scans { scans (agent_record board.now agent p.old).scan row ≡ true }
     ensures pass { IsPassOf board.now agent p.new }
     ensures opens { OpensTurn (board_bounds board.now) agent 1 (shows p.old) (shows p.new) }
-    ensures between { IsBetweenRounds (record_of board.now agent p.new) }
+    ensures between { IsBetweenRounds (agent_record board.now agent p.new) }
     ensures few { AtMostMore agent (steps_a_round (board_bounds board.now) - 1) (shows p.old).journal (shows p.new).journal }
 {
     let Some(scan) = kept(board, p, agent).scan else {
@@ -101,11 +101,11 @@ fn scan_round<D: Discipline>(
 // One round.
 fn round<D: Discipline>(board: &MachineBoard<D>, p: &mut MachineBoardPass<D>, agent: u32, row: u32)
     requires pass { IsPassOf board.now agent p.old }
-    requires between { IsBetweenRounds (record_of board.now agent p.old) }
-    requires next { IsScannedNext row (record_of board.now agent p.old) }
+    requires between { IsBetweenRounds (agent_record board.now agent p.old) }
+    requires next { IsScannedNext row (agent_record board.now agent p.old) }
     ensures pass { IsPassOf board.now agent p.new }
     ensures opens { OpensTurn (board_bounds board.now) agent 1 (shows p.old) (shows p.new) }
-    ensures between { IsBetweenRounds (record_of board.now agent p.new) }
+    ensures between { IsBetweenRounds (agent_record board.now agent p.new) }
     ensures few { AtMostMore agent (steps_a_round (board_bounds board.now)) (shows p.old).journal (shows p.new).journal }
 {
     if kept(board, p, agent).scan.is_some() {
@@ -125,10 +125,10 @@ fn settle_rounds<D: Discipline>(
     left: u32,
 )
     requires pass { IsPassOf board.now agent p.old }
-    requires between { IsBetweenRounds (record_of board.now agent p.old) }
+    requires between { IsBetweenRounds (agent_record board.now agent p.old) }
     ensures pass { IsPassOf board.now agent p.new }
     ensures rounds { MakesRounds (board_bounds board.now) agent left (shows p.old) (shows p.new) }
-    ensures between { IsBetweenRounds (record_of board.now agent p.new) }
+    ensures between { IsBetweenRounds (agent_record board.now agent p.new) }
     ensures few { AtMostMore agent (left * steps_a_round (board_bounds board.now)) (shows p.old).journal (shows p.new).journal }
 {
     for _turn in 0..left {
@@ -146,10 +146,10 @@ pub(crate) fn settle_all<D: Discipline>(
     agent: u32,
 )
     requires pass { IsPassOf board.now agent p.old }
-    requires between { IsBetweenRounds (record_of board.now agent p.old) }
+    requires between { IsBetweenRounds (agent_record board.now agent p.old) }
     ensures pass { IsPassOf board.now agent p.new }
     ensures settles { Settles (board_bounds board.now) agent (shows p.old) (shows p.new) }
-    ensures between { IsBetweenRounds (record_of board.now agent p.new) }
+    ensures between { IsBetweenRounds (agent_record board.now agent p.new) }
     ensures few { AtMostMore agent (most_rounds (board_bounds board.now) * steps_a_round (board_bounds board.now))
         (shows p.old).journal (shows p.new).journal }
 {

@@ -5,7 +5,7 @@ ghost use Rattle.orc_machine_rest.specs.Drains.{TakesInOne};
 ghost use Rattle.orc_machine_rest.specs.OwnSteps.{AtMostMore, HasTakenIn, TakesInCleared, answers_word};
 ghost use Rattle.orc_core.specs.After.{after};
 ghost use Rattle.orc_machine_rest.specs.Parts.{Goes, OpensTurn};
-ghost use Rattle.orc_machine_rest.specs.Passes.{IsPassOf, record_of, state_of};
+ghost use Rattle.orc_machine_rest.specs.Passes.{IsPassOf, agent_record, state_of};
 ghost use Rattle.orc_core.specs.Machine.{is_allowed, word_in};
 ghost use Rattle.orc_core.specs.RecordParts.{is_empty, scan_empty, scan_found, scans, slot_of};
 ghost use Rattle.orc_core.specs.declared.ops.Op.{Op};
@@ -28,9 +28,9 @@ pub(crate) fn kept<'a, D: Discipline>(
     agent: u32,
 ) -> &'a Agent
     requires pass { IsPassOf board.now agent p.now }
-    ensures hand { result.now.hand ≡ (record_of board.now agent p.now).hand }
-    ensures scan { result.now.scan ≡ (record_of board.now agent p.now).scan }
-    ensures list { result.now.list ≡ (record_of board.now agent p.now).list }
+    ensures hand { result.now.hand ≡ (agent_record board.now agent p.now).hand }
+    ensures scan { result.now.scan ≡ (agent_record board.now agent p.now).scan }
+    ensures list { result.now.list ≡ (agent_record board.now agent p.now).list }
 {
     p.kept()
 }
@@ -47,12 +47,12 @@ pub(crate) fn settle_step<D: Discipline>(
     requires plain { is_plain_kind op ≡ true }
     requires clears_none { TakesInCleared (op ∷ []) }
     requires allowed { is_allowed (state_of board.now p.old) agent op ≡ true }
-    requires settles { IsSettlingStep (word_in (state_of board.now p.old)) op (record_of board.now agent p.old) }
+    requires settles { IsSettlingStep (word_in (state_of board.now p.old)) op (agent_record board.now agent p.old) }
     ensures pass { IsPassOf board.now agent p.new }
-    ensures goes { Goes (board_bounds board.now) agent (drop_of op (record_of board.now agent p.old)) (shows p.old) (shows p.new) }
-    ensures opens { IsNoHand op → OpensTurn (board_bounds board.now) agent (drop_of op (record_of board.now agent p.old)) (shows p.old) (shows p.new) }
+    ensures goes { Goes (board_bounds board.now) agent (drop_of op (agent_record board.now agent p.old)) (shows p.old) (shows p.new) }
+    ensures opens { IsNoHand op → OpensTurn (board_bounds board.now) agent (drop_of op (agent_record board.now agent p.old)) (shows p.old) (shows p.new) }
     ensures after { AfterStep agent op (state_of board.now p.old) (state_of board.now p.new) }
-    ensures read { answers_word op ≡ true → record_of board.now agent p.new ≡ after op (record_of board.now agent p.old) result }
+    ensures read { answers_word op ≡ true → agent_record board.now agent p.new ≡ after op (agent_record board.now agent p.old) result }
     ensures few { AtMostMore agent 1 (shows p.old).journal (shows p.new).journal }
 {
     board.plain_step(p, op, None)
@@ -67,13 +67,13 @@ pub(crate) fn look_step<D: Discipline>(
     k: u32,
 ) -> bool
     requires pass { IsPassOf board.now agent p.old }
-    requires still { IsStill (record_of board.now agent p.old) }
-    requires scan { IsScanOf row k (record_of board.now agent p.old).scan }
+    requires still { IsStill (agent_record board.now agent p.old) }
+    requires scan { IsScanOf row k (agent_record board.now agent p.old).scan }
     requires place { k < 8 * (state_of board.now p.old).bounds.agents }
     ensures pass { IsPassOf board.now agent p.new }
     ensures opens { OpensTurn (board_bounds board.now) agent 0 (shows p.old) (shows p.new) }
     ensures looks { LooksAtSlot agent row k (state_of board.now p.old) (state_of board.now p.new) }
-    ensures found { result ≡ scan_found (record_of board.now agent p.new).scan }
+    ensures found { result ≡ scan_found (agent_record board.now agent p.new).scan }
     ensures few { AtMostMore agent 1 (shows p.old).journal (shows p.new).journal }
 {
     let _ = board.slot_look(p, k);
@@ -99,13 +99,13 @@ pub(crate) fn take_link_out<D: Discipline>(
     number: u32,
 ) -> Option<u32>
     requires pass { IsPassOf board.now agent p.old }
-    requires still { IsStill (record_of board.now agent p.old) }
+    requires still { IsStill (agent_record board.now agent p.old) }
     requires number { number < (state_of board.now p.old).bounds.links }
-    requires doom { IsDoomOf row number (record_of board.now agent p.old).doom }
+    requires doom { IsDoomOf row number (agent_record board.now agent p.old).doom }
     ensures pass { IsPassOf board.now agent p.new }
     ensures goes { Goes (board_bounds board.now) agent 0 (shows p.old) (shows p.new) }
     ensures after { AfterStep agent (Op.LinkStore row (record { to = None; mark = false }) number) (state_of board.now p.old) (state_of board.now p.new) }
-    ensures dec { (record_of board.now agent p.new).dec ≡ result }
+    ensures dec { (agent_record board.now agent p.new).dec ≡ result }
     ensures few { AtMostMore agent 1 (shows p.old).journal (shows p.new).journal }
 {
     let null = RowLink {
@@ -123,14 +123,14 @@ pub(crate) fn leave_slot_zero<D: Discipline>(
     agent: u32,
 )
     requires pass { IsPassOf board.now agent p.old }
-    requires calm { IsSettling (record_of board.now agent p.old) }
-    requires used { is_empty (slot_of (record_of board.now agent p.old) 0) ≡ false }
-    requires dec { (record_of board.now agent p.old).dec ≡ None }
-    requires due { (record_of board.now agent p.old).due ≡ None }
+    requires calm { IsSettling (agent_record board.now agent p.old) }
+    requires used { is_empty (slot_of (agent_record board.now agent p.old) 0) ≡ false }
+    requires dec { (agent_record board.now agent p.old).dec ≡ None }
+    requires due { (agent_record board.now agent p.old).due ≡ None }
     ensures pass { IsPassOf board.now agent p.new }
     ensures goes { Goes (board_bounds board.now) agent 0 (shows p.old) (shows p.new) }
-    ensures still { IsStill (record_of board.now agent p.new) }
-    ensures kept { SameTasks (record_of board.now agent p.old) (record_of board.now agent p.new) }
+    ensures still { IsStill (agent_record board.now agent p.new) }
+    ensures kept { SameTasks (agent_record board.now agent p.old) (agent_record board.now agent p.new) }
     ensures few { AtMostMore agent 2 (shows p.old).journal (shows p.new).journal }
 {
     let _ = board.clear(p, 0);
@@ -145,10 +145,10 @@ pub(crate) fn take_in<D: Discipline>(
     k: u32,
 )
     requires pass { IsPassOf board.now agent p.old }
-    requires between { IsBetweenRounds (record_of board.now agent p.old) }
+    requires between { IsBetweenRounds (agent_record board.now agent p.old) }
     requires slot { k < 8 }
     ensures pass { IsPassOf board.now agent p.new }
-    ensures between { IsBetweenRounds (record_of board.now agent p.new) }
+    ensures between { IsBetweenRounds (agent_record board.now agent p.new) }
     ensures takes { TakesInOne (board_bounds board.now) agent k (shows p.old) (shows p.new) }
     ensures taken_in { HasTakenIn agent k (shows p.old).journal (shows p.new).journal }
     ensures few { AtMostMore agent 1 (shows p.old).journal (shows p.new).journal }
@@ -163,19 +163,19 @@ pub(crate) fn settle_due<D: Discipline>(
     agent: u32,
     due: Option<Reading>,
 )
-    requires pending { (record_of board.now agent p.old).due ≡ due }
+    requires pending { (agent_record board.now agent p.old).due ≡ due }
     requires pass { IsPassOf board.now agent p.old }
-    requires calm { IsSettling (record_of board.now agent p.old) }
-    requires dec { (record_of board.now agent p.old).dec ≡ None }
-    requires scan { (record_of board.now agent p.old).scan ≡ None }
-    requires due { DueFits (state_of board.now p.old).bounds (record_of board.now agent p.old).due }
+    requires calm { IsSettling (agent_record board.now agent p.old) }
+    requires dec { (agent_record board.now agent p.old).dec ≡ None }
+    requires scan { (agent_record board.now agent p.old).scan ≡ None }
+    requires due { DueFits (state_of board.now p.old).bounds (agent_record board.now agent p.old).due }
     ensures pass { IsPassOf board.now agent p.new }
     ensures goes { Goes (board_bounds board.now) agent 0 (shows p.old) (shows p.new) }
-    ensures calm { IsSettling (record_of board.now agent p.new) }
-    ensures dec { (record_of board.now agent p.new).dec ≡ None }
-    ensures due { (record_of board.now agent p.new).due ≡ None }
-    ensures slots { (record_of board.now agent p.new).slots ≡ (record_of board.now agent p.old).slots }
-    ensures kept { SameTasks (record_of board.now agent p.old) (record_of board.now agent p.new) }
+    ensures calm { IsSettling (agent_record board.now agent p.new) }
+    ensures dec { (agent_record board.now agent p.new).dec ≡ None }
+    ensures due { (agent_record board.now agent p.new).due ≡ None }
+    ensures slots { (agent_record board.now agent p.new).slots ≡ (agent_record board.now agent p.old).slots }
+    ensures kept { SameTasks (agent_record board.now agent p.old) (agent_record board.now agent p.new) }
     ensures few { AtMostMore agent 1 (shows p.old).journal (shows p.new).journal }
 {
     if let Some(seen) = due {
@@ -192,13 +192,13 @@ pub(crate) fn unretire_scanned<D: Discipline>(
     row: u32,
 )
     requires pass { IsPassOf board.now agent p.old }
-    requires still { IsStill (record_of board.now agent p.old) }
-    requires scans { scans (record_of board.now agent p.old).scan row ≡ true }
-    requires linked { scan_empty (record_of board.now agent p.old).scan ≡ false }
-    requires doom { (record_of board.now agent p.old).doom ≡ None }
+    requires still { IsStill (agent_record board.now agent p.old) }
+    requires scans { scans (agent_record board.now agent p.old).scan row ≡ true }
+    requires linked { scan_empty (agent_record board.now agent p.old).scan ≡ false }
+    requires doom { (agent_record board.now agent p.old).doom ≡ None }
     ensures pass { IsPassOf board.now agent p.new }
     ensures opens { OpensTurn (board_bounds board.now) agent 1 (shows p.old) (shows p.new) }
-    ensures between { IsBetweenRounds (record_of board.now agent p.new) }
+    ensures between { IsBetweenRounds (agent_record board.now agent p.new) }
     ensures few { AtMostMore agent 5 (shows p.old).journal (shows p.new).journal }
 {
     settle_step(board, p, agent, Op::Arm { row });
@@ -214,16 +214,16 @@ pub(crate) fn settle_decrement<D: Discipline>(
     agent: u32,
     target: Option<u32>,
 )
-    requires pending { (record_of board.now agent p.old).dec ≡ target }
+    requires pending { (agent_record board.now agent p.old).dec ≡ target }
     requires pass { IsPassOf board.now agent p.old }
-    requires calm { IsSettling (record_of board.now agent p.old) }
-    requires zero { slot_of (record_of board.now agent p.old) 0 ≡ Empty }
-    requires due { (record_of board.now agent p.old).due ≡ None }
-    requires scan { (record_of board.now agent p.old).scan ≡ None }
+    requires calm { IsSettling (agent_record board.now agent p.old) }
+    requires zero { slot_of (agent_record board.now agent p.old) 0 ≡ Empty }
+    requires due { (agent_record board.now agent p.old).due ≡ None }
+    requires scan { (agent_record board.now agent p.old).scan ≡ None }
     ensures pass { IsPassOf board.now agent p.new }
     ensures goes { Goes (board_bounds board.now) agent 0 (shows p.old) (shows p.new) }
-    ensures still { IsStill (record_of board.now agent p.new) }
-    ensures kept { SameTasks (record_of board.now agent p.old) (record_of board.now agent p.new) }
+    ensures still { IsStill (agent_record board.now agent p.new) }
+    ensures kept { SameTasks (agent_record board.now agent p.old) (agent_record board.now agent p.new) }
     ensures few { AtMostMore agent 5 (shows p.old).journal (shows p.new).journal }
 {
     if let Some(row) = target {
@@ -242,14 +242,14 @@ pub(crate) fn take_links_out<D: Discipline>(
     row: u32,
 )
     requires pass { IsPassOf board.now agent p.old }
-    requires still { IsStill (record_of board.now agent p.old) }
-    requires scan { (record_of board.now agent p.old).scan ≡ None }
-    requires doom { IsDoomOf row 0 (record_of board.now agent p.old).doom }
+    requires still { IsStill (agent_record board.now agent p.old) }
+    requires scan { (agent_record board.now agent p.old).scan ≡ None }
+    requires doom { IsDoomOf row 0 (agent_record board.now agent p.old).doom }
     ensures pass { IsPassOf board.now agent p.new }
     ensures goes { Goes (board_bounds board.now) agent 0 (shows p.old) (shows p.new) }
-    ensures still { IsStill (record_of board.now agent p.new) }
-    ensures scan { (record_of board.now agent p.new).scan ≡ None }
-    ensures doom { IsDoomOf row (board_bounds board.now).links (record_of board.now agent p.new).doom }
+    ensures still { IsStill (agent_record board.now agent p.new) }
+    ensures scan { (agent_record board.now agent p.new).scan ≡ None }
+    ensures doom { IsDoomOf row (board_bounds board.now).links (agent_record board.now agent p.new).doom }
     ensures few { AtMostMore agent (6 * (board_bounds board.now).links) (shows p.old).journal (shows p.new).journal }
 {
     let links = board.shape().links();
@@ -267,12 +267,12 @@ pub(crate) fn free_doomed<D: Discipline>(
     row: u32,
 )
     requires pass { IsPassOf board.now agent p.old }
-    requires still { IsStill (record_of board.now agent p.old) }
-    requires scan { (record_of board.now agent p.old).scan ≡ None }
-    requires doom { IsDoomOf row 0 (record_of board.now agent p.old).doom }
+    requires still { IsStill (agent_record board.now agent p.old) }
+    requires scan { (agent_record board.now agent p.old).scan ≡ None }
+    requires doom { IsDoomOf row 0 (agent_record board.now agent p.old).doom }
     ensures pass { IsPassOf board.now agent p.new }
     ensures goes { Goes (board_bounds board.now) agent 1 (shows p.old) (shows p.new) }
-    ensures between { IsBetweenRounds (record_of board.now agent p.new) }
+    ensures between { IsBetweenRounds (agent_record board.now agent p.new) }
     ensures few { AtMostMore agent (6 * (board_bounds board.now).links + 2) (shows p.old).journal (shows p.new).journal }
 {
     take_links_out(board, p, agent, row);

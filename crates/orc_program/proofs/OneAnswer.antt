@@ -9,7 +9,7 @@ use Rattle.orc_jobs.proofs.FileLaws.{not-few, not-read, one-refusal}
 use Rattle.orc_jobs.proofs.GrammarLaws.{faults}
 use Rattle.orc_trace.specs.Answers.{audit_lines, fault_line, replay_line}
 use Rattle.orc_trace.specs.Audit.{IsAudit}
-use Rattle.orc_trace.specs.Replay.{IsReplay, Refuses as RefusesTrace}
+use Rattle.orc_trace.specs.Replay.{IsReplay, RefusesTrace}
 use Rattle.orc_trace.specs.declared.answers.Audit.{Audit}
 use Rattle.orc_trace.specs.declared.answers.Replayed.{Replayed}
 use Rattle.orc_trace.specs.declared.answers.TraceFault.{TraceFault}
@@ -22,8 +22,8 @@ use Rattle.orc_options.specs.declared.settings.Settings.{Settings}
 use Rattle.orc_program.specs.declared.ended.Ended.{Ended}
 use Rattle.orc_program.specs.declared.trace_mode.Told.{Told}
 use Rattle.orc_program.specs.declared.trace_mode.Told.TheVariants as told
-use Rattle.orc_program.specs.Answers.{Answers, AnswersTrace, HasTooMany, IsTooLarge, ModeAnswers, made_text}
-use Rattle.orc_program.specs.Ended.{HasReported, HasStaged, HasWatched}
+use Rattle.orc_program.specs.Answers.{ProgramAnswers, AnswersTrace, HasTooManyRecords, IsTooLarge, ModeAnswers, made_text}
+use Rattle.orc_program.specs.Ended.{HasReported, TellsStages, HasWatched}
 use Rattle.orc_jobs.specs.declared.lines.TheConstants.{MOST_BYTES}
 use Rattle.orc_program.specs.Refusals.{input_too_large, malformed_line, malformed_watch}
 use Rattle.orc_program.proofs.Files.{not_many as no_answer, of_file, of_record}
@@ -77,12 +77,12 @@ no_failure n (inr (inr (inr is))) = (λ e. omega (arith, is, e), λ e. omega (ar
 
 module _ (s : Settings) (bytes : List ℕ) (e : Ended) (status : ℕ) (text : List ℕ) where
   -- bytes that are not too large are answered by the mode
-  in_mode : (m : Mode) → Answers s bytes e status text → s.mode ≡ m → length bytes ≤ MOST_BYTES → (HasTooMany m bytes → ⊥)
+  in_mode : (m : Mode) → ProgramAnswers s bytes e status text → s.mode ≡ m → length bytes ≤ MOST_BYTES → (HasTooManyRecords m bytes → ⊥)
       → ModeAnswers m s bytes e status text
   in_mode m (inr answer) is few single = subst (λ (n : Mode). ModeAnswers n s bytes e status text) is answer.1
   in_mode m (inl large) is few single = elim large.2 [
     | inl more ↦ absurd (omega (arith, few, more))
-    | inr many ↦ absurd (single (subst (λ (n : Mode). HasTooMany n bytes) is many))
+    | inr many ↦ absurd (single (subst (λ (n : Mode). HasTooManyRecords n bytes) is many))
   ]
 
   abbrev IsBad : ℕ → Cause → Type 0
@@ -91,42 +91,42 @@ module _ (s : Settings) (bytes : List ℕ) (e : Ended) (status : ℕ) (text : Li
   abbrev IsWatchBad : ℕ → WatchCause → Type 0
   IsWatchBad place why = RefusesWatch bytes (watch.Malformed place why)
 
-  pub file : Answers s bytes e status text → s.mode ≡ mode.Run → length bytes ≤ MOST_BYTES → (lines : List Line) → IsFileOf lines bytes → status ≡ 0
+  pub file : ProgramAnswers s bytes e status text → s.mode ≡ mode.Run → length bytes ≤ MOST_BYTES → (lines : List Line) → IsFileOf lines bytes → status ≡ 0
   file a run few lines is =
       of_file (λ ls. IsFileOf ls bytes) IsBad malformed_line (λ ls t. HasReported ls s e t) e (not-read faults bytes) status text lines is
       (in_mode mode.Run a run few (λ many. not-few faults bytes lines many is))
 
-  pub refused : Answers s bytes e status text → s.mode ≡ mode.Run → length bytes ≤ MOST_BYTES → (place : ℕ) (why : Cause)
+  pub refused : ProgramAnswers s bytes e status text → s.mode ≡ mode.Run → length bytes ≤ MOST_BYTES → (place : ℕ) (why : Cause)
       → Refuses bytes (fault.Malformed place why) → (status ≡ 3) × (text ≡ malformed_line place why)
   refused a run few place why bad =
       of_record (λ ls. IsFileOf ls bytes) IsBad malformed_line (λ ls t. HasReported ls s e t) e (not-read faults bytes) status text (one_line bytes) place why bad
       (in_mode mode.Run a run few (λ many. not_many bytes place why bad many))
 
-  pub watch_file : Answers s bytes e status text → s.mode ≡ mode.Watch → length bytes ≤ MOST_BYTES → (lines : List WatchLine) → IsWatchFile lines bytes
+  pub watch_file : ProgramAnswers s bytes e status text → s.mode ≡ mode.Watch → length bytes ≤ MOST_BYTES → (lines : List WatchLine) → IsWatchFile lines bytes
       → status ≡ 0
   watch_file a asks few lines is =
       of_file (λ ls. IsWatchFile ls bytes) IsWatchBad malformed_watch (λ ls t. HasWatched ls s e t) e (not-read watch_faults bytes) status text lines is
       (in_mode mode.Watch a asks few (λ many. not-few watch_faults bytes lines many is))
 
-  pub watch_refused : Answers s bytes e status text → s.mode ≡ mode.Watch → length bytes ≤ MOST_BYTES → (place : ℕ) (why : WatchCause)
+  pub watch_refused : ProgramAnswers s bytes e status text → s.mode ≡ mode.Watch → length bytes ≤ MOST_BYTES → (place : ℕ) (why : WatchCause)
       → RefusesWatch bytes (watch.Malformed place why) → (status ≡ 3) × (text ≡ malformed_watch place why)
   watch_refused a asks few place why bad =
       of_record (λ ls. IsWatchFile ls bytes) IsWatchBad malformed_watch (λ ls t. HasWatched ls s e t) e (not-read watch_faults bytes) status text
       (one_watch_line bytes) place why bad (in_mode mode.Watch a asks few (λ many. not_many_watched bytes place why bad many))
 
-  pub stages_file : Answers s bytes e status text → s.mode ≡ mode.Stages → length bytes ≤ MOST_BYTES → (lines : List Line) → IsFileOf lines bytes
+  pub stages_file : ProgramAnswers s bytes e status text → s.mode ≡ mode.Stages → length bytes ≤ MOST_BYTES → (lines : List Line) → IsFileOf lines bytes
       → status ≡ 0
   stages_file a asks few lines is =
-      of_file (λ ls. IsFileOf ls bytes) IsBad malformed_line (λ ls t. HasStaged ls s e t) e (not-read faults bytes) status text lines is
+      of_file (λ ls. IsFileOf ls bytes) IsBad malformed_line (λ ls t. TellsStages ls s e t) e (not-read faults bytes) status text lines is
       (in_mode mode.Stages a asks few (λ many. not-few faults bytes lines many is))
 
-  pub stages_refused : Answers s bytes e status text → s.mode ≡ mode.Stages → length bytes ≤ MOST_BYTES → (place : ℕ) (why : Cause)
+  pub stages_refused : ProgramAnswers s bytes e status text → s.mode ≡ mode.Stages → length bytes ≤ MOST_BYTES → (place : ℕ) (why : Cause)
       → Refuses bytes (fault.Malformed place why) → (status ≡ 3) × (text ≡ malformed_line place why)
   stages_refused a asks few place why bad =
-      of_record (λ ls. IsFileOf ls bytes) IsBad malformed_line (λ ls t. HasStaged ls s e t) e (not-read faults bytes) status text (one_line bytes) place why bad
+      of_record (λ ls. IsFileOf ls bytes) IsBad malformed_line (λ ls t. TellsStages ls s e t) e (not-read faults bytes) status text (one_line bytes) place why bad
       (in_mode mode.Stages a asks few (λ many. not_many bytes place why bad many))
 
-  not_answered : (m : Mode) → HasTooMany m bytes → ModeAnswers m s bytes e status text → ⊥
+  not_answered : (m : Mode) → HasTooManyRecords m bytes → ModeAnswers m s bytes e status text → ⊥
   not_answered mode.Run many a =
       no_answer (λ ls. IsFileOf ls bytes) IsBad malformed_line (λ ls t. HasReported ls s e t) e (not-read faults bytes) status text (Refuses bytes fault.TooMany)
       (λ lines file is. not-few faults bytes lines is file) (not_many bytes) many a
@@ -134,14 +134,14 @@ module _ (s : Settings) (bytes : List ℕ) (e : Ended) (status : ℕ) (text : Li
       no_answer (λ ls. IsWatchFile ls bytes) IsWatchBad malformed_watch (λ ls t. HasWatched ls s e t) e (not-read watch_faults bytes) status text
       (RefusesWatch bytes watch.TooMany) (λ lines file is. not-few watch_faults bytes lines is file) (not_many_watched bytes) many a
   not_answered mode.Stages many a =
-      no_answer (λ ls. IsFileOf ls bytes) IsBad malformed_line (λ ls t. HasStaged ls s e t) e (not-read faults bytes) status text (Refuses bytes fault.TooMany)
+      no_answer (λ ls. IsFileOf ls bytes) IsBad malformed_line (λ ls t. TellsStages ls s e t) e (not-read faults bytes) status text (Refuses bytes fault.TooMany)
       (λ lines file is. not-few faults bytes lines is file) (not_many bytes) many a
   not_answered mode.Make many a = many
   not_answered mode.Trial many a = many
   not_answered mode.Replay many a = many
   not_answered mode.Audit many a = many
 
-  pub large : Answers s bytes e status text → IsTooLarge s.mode bytes → (status ≡ 6) × (text ≡ input_too_large)
+  pub large : ProgramAnswers s bytes e status text → IsTooLarge s.mode bytes → (status ≡ 6) × (text ≡ input_too_large)
   large (inl a) is = (a.0, a.3)
   large (inr a) (inl more) = absurd (omega (arith, a.0, more))
   large (inr a) (inr many) = absurd (not_answered s.mode many a.1)
@@ -160,7 +160,7 @@ module _ (s : Settings) (bytes : List ℕ) (e : Ended) (status : ℕ) (text : Li
   mode_status mode.Stages (inl a) = inl a.0
   mode_status mode.Stages (inr a) = inr (inl a.0)
 
-  pub statuses : Answers s bytes e status text → (status ≡ 0) ⊎ (status ≡ 3) ⊎ (status ≡ 6) ⊎ (status ≡ 8)
+  pub statuses : ProgramAnswers s bytes e status text → (status ≡ 0) ⊎ (status ≡ 3) ⊎ (status ≡ 6) ⊎ (status ≡ 8)
   statuses (inl a) = inr (inr (inl a.0))
   statuses (inr a) = mode_status s.mode a.1
 
@@ -169,7 +169,7 @@ module _ (s : Settings) (bytes : List ℕ) (e : Ended) (status : ℕ) (text : Li
   of_trace played is (inl (zero, (other, also, says))) = (zero, says ∙ ap replay_line (replay-unique bytes other played also is))
   of_trace played is (inr (eight, named)) = absurd (replay-not_refused bytes played named.why named.some is named.refused)
 
-  pub replay : Answers s bytes e status text → s.mode ≡ mode.Replay → length bytes ≤ MOST_BYTES → (played : Replayed) → IsReplay bytes played
+  pub replay : ProgramAnswers s bytes e status text → s.mode ≡ mode.Replay → length bytes ≤ MOST_BYTES → (played : Replayed) → IsReplay bytes played
       → (status ≡ 0) × (text ≡ replay_line played)
   replay a asks few played is = of_trace played is (in_mode mode.Replay a asks few (λ many. many)).1
 
@@ -177,7 +177,7 @@ module _ (s : Settings) (bytes : List ℕ) (e : Ended) (status : ℕ) (text : Li
   of_audit audit is (inl (zero, (other, also, says))) = (zero, says ∙ ap audit_lines (only-audit bytes (Ok other) also tt audit is))
   of_audit audit is (inr (eight, named)) = absurd (only-refusal bytes (Ok audit) is tt named.why named.some named.refused)
 
-  pub audit : Answers s bytes e status text → s.mode ≡ mode.Audit → length bytes ≤ MOST_BYTES → (audit : Audit) → IsAudit bytes audit
+  pub audit : ProgramAnswers s bytes e status text → s.mode ≡ mode.Audit → length bytes ≤ MOST_BYTES → (audit : Audit) → IsAudit bytes audit
       → (status ≡ 0) × (text ≡ audit_lines audit)
   audit a asks few told_audit is = of_audit told_audit is (in_mode mode.Audit a asks few (λ many. many)).1
 
@@ -188,14 +188,14 @@ module _ (s : Settings) (bytes : List ℕ) (e : Ended) (status : ℕ) (text : Li
   named_fault why other bad what (inr (eight, named)) =
       (eight, named.says ∙ ap fault_line (refusal-unique bytes named.why why named.some other named.refused bad))
 
-  pub fault_named : Answers s bytes e status text → (s.mode ≡ mode.Replay) ⊎ (s.mode ≡ mode.Audit) → length bytes ≤ MOST_BYTES → (why : TraceFault)
+  pub fault_named : ProgramAnswers s bytes e status text → (s.mode ≡ mode.Replay) ⊎ (s.mode ≡ mode.Audit) → length bytes ≤ MOST_BYTES → (why : TraceFault)
       → why ≢ trace.NoMemory → RefusesTrace bytes why → (status ≡ 8) × (text ≡ fault_line why)
   fault_named a (inl asks) few why other bad = named_fault why other bad told.Census (in_mode mode.Replay a asks few (λ many. many)).1
   fault_named a (inr asks) few why other bad = named_fault why other bad told.Audit (in_mode mode.Audit a asks few (λ many. many)).1
 
 module _ (s : Settings) (e : Ended) (status : ℕ) (text : List ℕ) where
-  pub make : Answers s [] e status text → s.mode ≡ mode.Make → (status ≡ 0) × (text ≡ made_text s)
+  pub make : ProgramAnswers s [] e status text → s.mode ≡ mode.Make → (status ≡ 0) × (text ≡ made_text s)
   make a asks = let made = in_mode s [] e status text mode.Make a asks (omega arith) (λ many. many) in (made.0, made.2)
 
-  pub trial : Answers s [] e status text → s.mode ≡ mode.Trial → status ≡ 0
+  pub trial : ProgramAnswers s [] e status text → s.mode ≡ mode.Trial → status ≡ 0
   trial a asks = (in_mode s [] e status text mode.Trial a asks (omega arith) (λ many. many)).0

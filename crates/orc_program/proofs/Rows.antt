@@ -33,7 +33,7 @@ use Rattle.orc_run.specs.declared.set.SetRest.{SetRest}
 use Rattle.orc_run.specs.declared.set.SetRest.TheVariants as at_rest
 use Rattle.orc_run.specs.declared.run.Finished.{Finished}
 use Rattle.orc_program.specs.declared.ended.Ended.{Ended}
-use Rattle.orc_program.specs.Answers.{Answers, AnswersJobs, AnswersStages, AnswersWatch, ModeAnswers}
+use Rattle.orc_program.specs.Answers.{ProgramAnswers, AnswersJobs, AnswersStages, AnswersWatch, ModeAnswers}
 use Rattle.orc_program.specs.Ended.{EndsSafely, NothingEnded, RunEnded, WatchEnded, SetEnded, StagesEnded, generated_lines}
 use Rattle.orc_program.specs.Headline.{WorkedThrough, set_of}
 
@@ -173,6 +173,6 @@ of_mode mode.Audit s bytes ended status text h = of_none ended h.0
 of_mode mode.Watch s bytes ended status text h = of_watched s bytes ended status text h
 of_mode mode.Stages s bytes ended status text h = of_staged s bytes ended status text h
 
-pub of_answer : (s : Settings) (bytes : List ℕ) (ended : Ended) (status : ℕ) (text : List ℕ) → Answers s bytes ended status text → EndsSafely ended
+pub of_answer : (s : Settings) (bytes : List ℕ) (ended : Ended) (status : ℕ) (text : List ℕ) → ProgramAnswers s bytes ended status text → EndsSafely ended
 of_answer s bytes ended status text (inl h) = of_none ended h.1
 of_answer s bytes ended status text (inr h) = of_mode s.mode s bytes ended status text h.1

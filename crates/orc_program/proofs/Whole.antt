@@ -7,7 +7,7 @@ use Rattle.orc_options.specs.Settings.{AskFor, GivesSettings}
 use Rattle.orc_options.specs.declared.settings.Mode.TheVariants as mode
 use Rattle.orc_options.specs.declared.settings.Settings.{Settings}
 use Rattle.orc_program.specs.declared.ended.Ended.{Ended}
-use Rattle.orc_program.specs.Answers.{Answers, AnswersWords, IsInput, reads}
+use Rattle.orc_program.specs.Answers.{ProgramAnswers, AnswersWords, IsInput, reads}
 use Rattle.orc_jobs.specs.declared.lines.TheConstants.{MOST_BYTES}
 use Rattle.orc_program.proofs.Inputs.{whole}
 use Rattle.orc_program.proofs.OneAnswer.{file}
@@ -17,16 +17,16 @@ pub record IsAnswered (words : List (List ℕ)) (left after : Option (List ℕ))
     : Type 0 where
   pub gives : GivesSettings words s
   pub input : IsInput (reads s.mode) left after bytes
-  pub answers : Answers s bytes ended status text
+  pub answers : ProgramAnswers s bytes ended status text
 
 -- the bytes that were read are those that were answered, and the text that is written is the answer's
 pub answered : (words : List (List ℕ)) (left after : Option (List ℕ)) (ended : Ended) (s : Settings) (bytes : List ℕ) (status : ℕ) (text : List ℕ)
-    → GivesSettings words s → IsInput (reads s.mode) left after bytes → (given said : List ℕ) → given ≡ bytes → text ≡ said → Answers s given ended status said
+    → GivesSettings words s → IsInput (reads s.mode) left after bytes → (given said : List ℕ) → given ≡ bytes → text ≡ said → ProgramAnswers s given ended status said
     → IsAnswered words left after ended s bytes status text
 answered words left after ended s bytes status text gives input given said same is a = record {
   gives = gives;
   input = input;
-  answers = subst (λ (t : List ℕ). Answers s bytes ended status t) (sym is) (subst (λ (b : List ℕ). Answers s b ended status said) same a);
+  answers = subst (λ (t : List ℕ). ProgramAnswers s bytes ended status t) (sym is) (subst (λ (b : List ℕ). ProgramAnswers s b ended status said) same a);
 }
 
 module _ (words : List (List ℕ)) (left after : Option (List ℕ)) (ended : Ended) (s : Settings) (bytes : List ℕ) (status : ℕ) (text : List ℕ)

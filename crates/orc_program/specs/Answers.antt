@@ -12,7 +12,7 @@ use Rattle.orc_trace.specs.declared.answers.TraceFault.{TraceFault}
 use Rattle.orc_trace.specs.declared.answers.TraceFault.TheVariants as trace
 use Rattle.orc_trace.specs.Answers.{audit_lines, fault_line, replay_line}
 use Rattle.orc_trace.specs.Audit.{IsAudit}
-use Rattle.orc_trace.specs.Replay.{IsReplay, Refuses as RefusesTrace}
+use Rattle.orc_trace.specs.Replay.{IsReplay, RefusesTrace}
 use Rattle.orc_options.specs.Settings.{GivesSettings, RefusesWords as RefusesWords}
 use Rattle.orc_options.specs.declared.settings.Mode.{Mode}
 use Rattle.orc_options.specs.declared.settings.Mode.TheVariants as mode
@@ -20,7 +20,7 @@ use Rattle.orc_options.specs.declared.settings.Settings.{Settings}
 use Rattle.orc_program.specs.declared.ended.Ended.{Ended}
 use Rattle.orc_program.specs.declared.trace_mode.Told.{Told}
 use Rattle.orc_program.specs.declared.trace_mode.Told.TheVariants as told
-use Rattle.orc_program.specs.Ended.{HasReported, HasStaged, HasSummed, HasWatched, NothingEnded, generated_lines}
+use Rattle.orc_program.specs.Ended.{HasReported, TellsStages, HasSummed, HasWatched, NothingEnded, generated_lines}
 use Rattle.orc_jobs.specs.declared.lines.TheConstants.{MOST_BYTES}
 use Rattle.orc_program.specs.Refusals.{input_too_large, malformed_line, malformed_watch, words_refused}
 
@@ -43,9 +43,9 @@ abbrev pub made_text : Settings → List ℕ
 made_text settings = text_of_lines (generated_lines settings)
 
 -- the text tells what the run of this trace leaves, or the audit of the run
-abbrev pub Tells : Told → List ℕ → List ℕ → Type 0
-Tells told.Census bytes text = (played : Replayed) × IsReplay bytes played × (text ≡ replay_line played)
-Tells told.Audit bytes text = (audit : Audit) × IsAudit bytes audit × (text ≡ audit_lines audit)
+abbrev pub TellsTrace : Told → List ℕ → List ℕ → Type 0
+TellsTrace told.Census bytes text = (played : Replayed) × IsReplay bytes played × (text ≡ replay_line played)
+TellsTrace told.Audit bytes text = (audit : Audit) × IsAudit bytes audit × (text ≡ audit_lines audit)
 
 -- the lines of a file are worked through and told; other bytes are refused at their first record outside the grammar
 abbrev pub AnswersFile : {L C : Type 0} → (List L → Type 0) → (ℕ → C → Type 0) → (ℕ → C → List ℕ) → (List L → List ℕ → Type 0) → Ended → ℕ → List ℕ → Type 0
@@ -65,11 +65,11 @@ AnswersWatch settings bytes ended = AnswersFile (λ lines. IsWatchFile lines byt
 -- of a job file, whose jobs go through a pipeline
 abbrev pub AnswersStages : Settings → List ℕ → Ended → ℕ → List ℕ → Type 0
 AnswersStages settings bytes ended = AnswersFile (λ lines. IsFileOf lines bytes) (λ place why. Refuses bytes (fault.Malformed place why)) malformed_line
-    (λ lines text. HasStaged lines settings ended text) ended
+    (λ lines text. TellsStages lines settings ended text) ended
 
 -- a trace is told; other bytes are refused at their first fault
 abbrev pub AnswersTrace : Told → List ℕ → ℕ → List ℕ → Type 0
-AnswersTrace what bytes status text = ((status ≡ 0) × Tells what bytes text) ⊎ ((status ≡ 8) × NamesFault bytes text)
+AnswersTrace what bytes status text = ((status ≡ 0) × TellsTrace what bytes text) ⊎ ((status ≡ 8) × NamesFault bytes text)
 
 -- what each mode answers to bytes that are not too large
 abbrev pub ModeAnswers : Mode → Settings → List ℕ → Ended → ℕ → List ℕ → Type 0
@@ -82,19 +82,19 @@ ModeAnswers mode.Watch settings bytes ended status text = AnswersWatch settings 
 ModeAnswers mode.Stages settings bytes ended status text = AnswersStages settings bytes ended status text
 
 -- more records than a job file may have, or a watch file
-abbrev pub HasTooMany : Mode → List ℕ → Type 0
-HasTooMany mode.Run bytes = Refuses bytes fault.TooMany
-HasTooMany mode.Watch bytes = RefusesWatch bytes watch.TooMany
-HasTooMany mode.Stages bytes = Refuses bytes fault.TooMany
-HasTooMany m bytes = ⊥
+abbrev pub HasTooManyRecords : Mode → List ℕ → Type 0
+HasTooManyRecords mode.Run bytes = Refuses bytes fault.TooMany
+HasTooManyRecords mode.Watch bytes = RefusesWatch bytes watch.TooMany
+HasTooManyRecords mode.Stages bytes = Refuses bytes fault.TooMany
+HasTooManyRecords m bytes = ⊥
 
 -- more bytes than an input may have, or, in mode run, watch or stages, more records than its file may have
 abbrev pub IsTooLarge : Mode → List ℕ → Type 0
-IsTooLarge m bytes = (MOST_BYTES < length bytes) ⊎ HasTooMany m bytes
+IsTooLarge m bytes = (MOST_BYTES < length bytes) ⊎ HasTooManyRecords m bytes
 
 -- what the program answers in these settings to these bytes: that they are too large, or what the mode answers
-abbrev pub Answers : Settings → List ℕ → Ended → ℕ → List ℕ → Type 0
-Answers settings bytes ended status text =
+abbrev pub ProgramAnswers : Settings → List ℕ → Ended → ℕ → List ℕ → Type 0
+ProgramAnswers settings bytes ended status text =
     ((status ≡ 6) × NothingEnded ended × IsTooLarge settings.mode bytes × (text ≡ input_too_large))
     ⊎ ((length bytes ≤ MOST_BYTES) × ModeAnswers settings.mode settings bytes ended status text)
 
@@ -120,7 +120,7 @@ abbrev pub AnswersWords : List (List ℕ) → Option (List ℕ) → Option (List
 AnswersWords words left after ended status text =
     (RefusesWords words × NothingEnded ended × (status ≡ 2) × (text ≡ words_refused))
     ⊎ ((settings : Settings) × (bytes : List ℕ) × GivesSettings words settings × IsInput (reads settings.mode) left after bytes
-    × Answers settings bytes ended status text)
+    × ProgramAnswers settings bytes ended status text)
 
 -- the words ask for a mode that reads
 abbrev pub AskToRead : List (List ℕ) → Type 0

@@ -20,8 +20,8 @@ use Rattle.orc_run.specs.declared.set.SetRest.TheVariants as at_rest
 use Rattle.orc_sound.specs.Journals.{plain}
 use Rattle.orc_stages_run.specs.Runs.{WentThrough}
 use Rattle.orc_stages_run.specs.declared.run.StagesFinished.{StagesFinished}
-use Rattle.orc_stages_text.specs.StagesText.{text_of as stages_text_of}
-use Rattle.orc_watch.specs.WatchText.{text_of}
+use Rattle.orc_stages_text.specs.StagesText.{stages_report as stages_text_of}
+use Rattle.orc_watch.specs.WatchText.{watch_report}
 use Rattle.orc_watch.specs.declared.line.WatchLine.{WatchLine}
 use Rattle.orc_watch.specs.declared.text.CellNumbers.{CellNumbers}
 use Rattle.orc_watch_domain.specs.Runs.{WatchedThrough}
@@ -126,11 +126,11 @@ pub record HasWatched (lines : List WatchLine) (settings : Settings) (ended : En
   pub finished : WatchFinished
   pub kept : WatchEnded finished ended
   pub run : WatchedThrough lines settings.posters settings.rows finished
-  pub told : text ≡ text_of finished.replies.items finished.now_left finished.now_right (if settings.rest then Some (cell_numbers finished) else None)
+  pub told : text ≡ watch_report finished.replies.items finished.now_left finished.now_right (if settings.rest then Some (cell_numbers finished) else None)
 
 -- the jobs of these lines went through as many stages as the settings say, behind as many posters and over queues of as many rows, and
 -- the text tells all replies and what came out
-pub record HasStaged (lines : List Line) (settings : Settings) (ended : Ended) (text : List ℕ) : Type 0 where
+pub record TellsStages (lines : List Line) (settings : Settings) (ended : Ended) (text : List ℕ) : Type 0 where
   pub finished : StagesFinished
   pub kept : StagesEnded finished ended
   pub run : WentThrough lines settings.posters settings.stages settings.rows finished

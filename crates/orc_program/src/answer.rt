@@ -1,7 +1,7 @@
 //! What the program answers to the bytes of an input.
 ghost use Rattle.std.specs.Prelude.{◌≡◌, IfOk, OnErr};
 ghost use Rattle.orc_options.specs.Settings.{AreInRange};
-ghost use Rattle.orc_program.specs.Answers.{Answers};
+ghost use Rattle.orc_program.specs.Answers.{ProgramAnswers};
 ghost use Rattle.orc_program.specs.Ended.{NothingEnded};
 ghost use Rattle.orc_program.specs.Refusals.{RefusesJobs, cause_word, input_too_large, record_line};
 
@@ -39,7 +39,7 @@ pub(crate) fn answer_of<R: Threads + Wait + Sync, G: Gate + Sync>(
 ) -> Result<Answer, NoMemory>
     requires ranges { AreInRange settings }
     requires new { NothingEnded ended.old }
-    ensures answers { IfOk result (λ a. Answers settings bytes.now ended.new a.status a.text) }
+    ensures answers { IfOk result (λ a. ProgramAnswers settings bytes.now ended.new a.status a.text) }
     ensures nothing { OnErr result (NothingEnded ended.new) }
 {
     if bytes.len() > MOST_BYTES {

@@ -8,12 +8,12 @@ ghost use Rattle.orc_watch.specs.declared.fault.WatchCause.{WatchCause};
 ghost use Rattle.orc_watch.specs.declared.line.WatchLine.{WatchLine};
 ghost use Rattle.orc_trace.specs.Answers.{audit_lines, fault_line, replay_line};
 ghost use Rattle.orc_trace.specs.Audit.{IsAudit};
-ghost use Rattle.orc_trace.specs.Replay.{IsReplay, Refuses as RefusesTrace};
+ghost use Rattle.orc_trace.specs.Replay.{IsReplay, RefusesTrace};
 ghost use Rattle.orc_trace.specs.declared.answers.Audit.{Audit};
 ghost use Rattle.orc_trace.specs.declared.answers.Replayed.{Replayed};
 ghost use Rattle.orc_trace.specs.declared.answers.TraceFault.{TraceFault};
 ghost use Rattle.orc_options.specs.declared.settings.Settings.{Settings};
-ghost use Rattle.orc_program.specs.Answers.{Answers, IsInput, IsTooLarge, made_text};
+ghost use Rattle.orc_program.specs.Answers.{ProgramAnswers, IsInput, IsTooLarge, made_text};
 ghost use Rattle.orc_program.specs.Refusals.{input_too_large, malformed_line, malformed_watch};
 ghost use Rattle.orc_program.specs.declared.ended.Ended.{Ended};
 
@@ -25,33 +25,33 @@ use orc_watch::WatchFault;
 /// A law, with nothing to run: settings and bytes have one status, and but for a report, a summary and what came of a watch or of a pipeline one text.
 /// So whatever answers a file of lines is its report, and so on.
 pub fn inputs_have_one_answer()
-    ensures large { (s : Settings) (bytes : List ℕ) (e : Ended) (status : ℕ) (text : List ℕ) → Answers s bytes e status text
+    ensures large { (s : Settings) (bytes : List ℕ) (e : Ended) (status : ℕ) (text : List ℕ) → ProgramAnswers s bytes e status text
         → IsTooLarge s.mode bytes → (status ≡ 6) × (text ≡ input_too_large) }
-    ensures file { (s : Settings) (bytes : List ℕ) (e : Ended) (status : ℕ) (text : List ℕ) → Answers s bytes e status text
+    ensures file { (s : Settings) (bytes : List ℕ) (e : Ended) (status : ℕ) (text : List ℕ) → ProgramAnswers s bytes e status text
         → s.mode ≡ Mode.Run → length bytes ≤ MOST_BYTES → (lines : List Line) → IsFileOf lines bytes → status ≡ 0 }
-    ensures record { (s : Settings) (bytes : List ℕ) (e : Ended) (status : ℕ) (text : List ℕ) → Answers s bytes e status text
+    ensures record { (s : Settings) (bytes : List ℕ) (e : Ended) (status : ℕ) (text : List ℕ) → ProgramAnswers s bytes e status text
         → s.mode ≡ Mode.Run → length bytes ≤ MOST_BYTES → (place : ℕ) (why : Cause) → Refuses bytes (JobsFault.Malformed place why)
         → (status ≡ 3) × (text ≡ malformed_line place why) }
-    ensures make { (s : Settings) (e : Ended) (status : ℕ) (text : List ℕ) → Answers s [] e status text
+    ensures make { (s : Settings) (e : Ended) (status : ℕ) (text : List ℕ) → ProgramAnswers s [] e status text
         → s.mode ≡ Mode.Make → (status ≡ 0) × (text ≡ made_text s) }
-    ensures trial { (s : Settings) (e : Ended) (status : ℕ) (text : List ℕ) → Answers s [] e status text → s.mode ≡ Mode.Trial → status ≡ 0 }
-    ensures replay { (s : Settings) (bytes : List ℕ) (e : Ended) (status : ℕ) (text : List ℕ) → Answers s bytes e status text
+    ensures trial { (s : Settings) (e : Ended) (status : ℕ) (text : List ℕ) → ProgramAnswers s [] e status text → s.mode ≡ Mode.Trial → status ≡ 0 }
+    ensures replay { (s : Settings) (bytes : List ℕ) (e : Ended) (status : ℕ) (text : List ℕ) → ProgramAnswers s bytes e status text
         → s.mode ≡ Mode.Replay → length bytes ≤ MOST_BYTES → (played : Replayed) → IsReplay bytes played
         → (status ≡ 0) × (text ≡ replay_line played) }
-    ensures audit { (s : Settings) (bytes : List ℕ) (e : Ended) (status : ℕ) (text : List ℕ) → Answers s bytes e status text
+    ensures audit { (s : Settings) (bytes : List ℕ) (e : Ended) (status : ℕ) (text : List ℕ) → ProgramAnswers s bytes e status text
         → s.mode ≡ Mode.Audit → length bytes ≤ MOST_BYTES → (audit : Audit) → IsAudit bytes audit
         → (status ≡ 0) × (text ≡ audit_lines audit) }
-    ensures fault { (s : Settings) (bytes : List ℕ) (e : Ended) (status : ℕ) (text : List ℕ) → Answers s bytes e status text
+    ensures fault { (s : Settings) (bytes : List ℕ) (e : Ended) (status : ℕ) (text : List ℕ) → ProgramAnswers s bytes e status text
         → (s.mode ≡ Mode.Replay) ⊎ (s.mode ≡ Mode.Audit) → length bytes ≤ MOST_BYTES → (why : TraceFault) → why ≢ TraceFault.NoMemory
         → RefusesTrace bytes why → (status ≡ 8) × (text ≡ fault_line why) }
-    ensures watch { (s : Settings) (bytes : List ℕ) (e : Ended) (status : ℕ) (text : List ℕ) → Answers s bytes e status text
+    ensures watch { (s : Settings) (bytes : List ℕ) (e : Ended) (status : ℕ) (text : List ℕ) → ProgramAnswers s bytes e status text
         → s.mode ≡ Mode.Watch → length bytes ≤ MOST_BYTES → (lines : List WatchLine) → IsWatchFile lines bytes → status ≡ 0 }
-    ensures watch_record { (s : Settings) (bytes : List ℕ) (e : Ended) (status : ℕ) (text : List ℕ) → Answers s bytes e status text
+    ensures watch_record { (s : Settings) (bytes : List ℕ) (e : Ended) (status : ℕ) (text : List ℕ) → ProgramAnswers s bytes e status text
         → s.mode ≡ Mode.Watch → length bytes ≤ MOST_BYTES → (place : ℕ) (why : WatchCause) → RefusesWatch bytes (WatchFault.Malformed place why)
         → (status ≡ 3) × (text ≡ malformed_watch place why) }
-    ensures stages { (s : Settings) (bytes : List ℕ) (e : Ended) (status : ℕ) (text : List ℕ) → Answers s bytes e status text
+    ensures stages { (s : Settings) (bytes : List ℕ) (e : Ended) (status : ℕ) (text : List ℕ) → ProgramAnswers s bytes e status text
         → s.mode ≡ Mode.Stages → length bytes ≤ MOST_BYTES → (lines : List Line) → IsFileOf lines bytes → status ≡ 0 }
-    ensures stages_record { (s : Settings) (bytes : List ℕ) (e : Ended) (status : ℕ) (text : List ℕ) → Answers s bytes e status text
+    ensures stages_record { (s : Settings) (bytes : List ℕ) (e : Ended) (status : ℕ) (text : List ℕ) → ProgramAnswers s bytes e status text
         → s.mode ≡ Mode.Stages → length bytes ≤ MOST_BYTES → (place : ℕ) (why : Cause) → Refuses bytes (JobsFault.Malformed place why)
         → (status ≡ 3) × (text ≡ malformed_line place why) }
 {}

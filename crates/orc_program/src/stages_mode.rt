@@ -4,7 +4,7 @@ ghost use Rattle.orc_jobs.specs.GoodLines.{AreGood};
 ghost use Rattle.orc_jobs.specs.JobGrammar.{Refuses};
 ghost use Rattle.orc_options.specs.Settings.{AreInRange};
 ghost use Rattle.orc_program.specs.Answers.{AnswersStages};
-ghost use Rattle.orc_program.specs.Ended.{HasStaged, NothingEnded};
+ghost use Rattle.orc_program.specs.Ended.{TellsStages, NothingEnded};
 ghost use Rattle.orc_program.specs.Refusals.{input_too_large};
 
 use crate::Ended;
@@ -53,7 +53,7 @@ fn send_through<R: Threads + Wait + Sync, G: Gate + Sync>(
     requires ranges { AreInRange settings }
     requires good { AreGood lines.now }
     requires new { NothingEnded ended.old }
-    ensures told { IfOk result (λ a. (a.status ≡ 0) × HasStaged lines.now settings ended.new a.text) }
+    ensures told { IfOk result (λ a. (a.status ≡ 0) × TellsStages lines.now settings ended.new a.text) }
     ensures nothing { OnErr result (NothingEnded ended.new) }
 {
     let Settings {

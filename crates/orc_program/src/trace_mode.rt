@@ -1,8 +1,8 @@
 //! Modes replay and audit: a trace is played on the machine, and its census or its audit is told.
 ghost use Rattle.std.specs.Prelude.{IfErr, IfOk};
 ghost use Rattle.std.specs.String.{string_bytes};
-ghost use Rattle.orc_trace.specs.Replay.{Refuses};
-ghost use Rattle.orc_program.specs.Answers.{AnswersTrace, Tells};
+ghost use Rattle.orc_trace.specs.Replay.{RefusesTrace};
+ghost use Rattle.orc_program.specs.Answers.{AnswersTrace, TellsTrace};
 
 use crate::answer::Answer;
 use orc_fault::NoMemory;
@@ -36,8 +36,8 @@ pub(crate) fn answer_trace(alloc: Global, bytes: &[u8], what: Told) -> Result<An
 
 // What is told of the trace of these bytes.
 fn told_of(alloc: Global, bytes: &[u8], what: Told) -> Result<String, TraceFault>
-    ensures told { IfOk result (λ text. Tells what bytes.now (string_bytes text)) }
-    ensures refused { IfErr result (Refuses bytes.now) }
+    ensures told { IfOk result (λ text. TellsTrace what bytes.now (string_bytes text)) }
+    ensures refused { IfErr result (RefusesTrace bytes.now) }
 {
     match what {
         Told::Census => {

@@ -10,13 +10,13 @@ use Rattle.std.proofs.lemmas.Grind.{flat_map-append}
 use Rattle.std.proofs.lemmas.Option.{get_or_from_slice_get, slice_get_within}
 use Rattle.std.proofs.Math.Seq.{take-suc}
 use Rattle.orc_report.specs.declared.summary.Total.{Total}
-use Rattle.orc_report.specs.Totals.{operation_totals, key_of, total_of}
+use Rattle.orc_report.specs.Totals.{operation_totals, key_of_operation, total_of}
 
 -- the operation is one of these
 abbrev pub known : Job → List Job → Bool
 known op ops = list_any (same_op op) ops
 
-pub same-key : (a b : Job) → nat_eq (key_of a) (key_of b) ≡ same_op a b
+pub same-key : (a b : Job) → nat_eq (key_of_operation a) (key_of_operation b) ≡ same_op a b
 same-key job.Bytes job.Bytes = refl
 same-key job.Bytes job.Words = refl
 same-key job.Bytes job.Sum = refl
@@ -86,7 +86,7 @@ firsts-more (x ∷ xs) op =
       ]
     ]
 
-pub lookup-known : (jobs : List (Job × ℕ)) (op : Job) (ops : List Job) → is_some (lookup (nat_eq (key_of op)) (operation_totals jobs ops)) ≡ known op ops
+pub lookup-known : (jobs : List (Job × ℕ)) (op : Job) (ops : List Job) → is_some (lookup (nat_eq (key_of_operation op)) (operation_totals jobs ops)) ≡ known op ops
 lookup-known jobs op [] = refl
 lookup-known jobs op (y ∷ ys) = elim (cases_Bool (same_op op y)) [
   | inl e ↦ rw (same-key op y ∙ e, e) refl
@@ -100,9 +100,9 @@ pub firsts-new : (ops : List Job) (op : Job) → known op (firsts ops) ≡ false
 firsts-new ops op e = firsts-more ops op ∙ ap (λ b. firsts ops ++ cond b [] (op ∷ [])) e
 
 pub entries-more : (jobs : List (Job × ℕ)) (ops : List Job) (op : Job)
-    → operation_totals jobs (ops ++ op ∷ []) ≡ operation_totals jobs ops ++ (key_of op, total_of jobs op) ∷ []
+    → operation_totals jobs (ops ++ op ∷ []) ≡ operation_totals jobs ops ++ (key_of_operation op, total_of jobs op) ∷ []
 entries-more jobs [] op = refl
-entries-more jobs (x ∷ xs) op = ap (λ t. (key_of x, total_of jobs x) ∷ t) (entries-more jobs xs op)
+entries-more jobs (x ∷ xs) op = ap (λ t. (key_of_operation x, total_of jobs x) ∷ t) (entries-more jobs xs op)
 
 pub there : {X : Type 0} (r : Option (Bor X)) (m : Option X) → option_copied r ≡ m → is_some r ≡ is_some m
 there None m e = ap is_some e
@@ -116,7 +116,7 @@ none-there (Some x) e = cc e
 pub total-at : (jobs : List (Job × ℕ)) (ops : List Job) (place key : ℕ) (t : Total) → slice_get (operation_totals jobs ops) place ≡ Some (key, t)
     → (op : Job) × (slice_get ops place ≡ Some op) × (t ≡ total_of jobs op)
 total-at jobs [] place key t e = cc e
-total-at jobs (x ∷ xs) zero key t e = let same : (key_of x, total_of jobs x) ≡ (key, t) = cc e in (x, refl, sym (ap (λ (p : ℕ × Total). p.1) same))
+total-at jobs (x ∷ xs) zero key t e = let same : (key_of_operation x, total_of jobs x) ≡ (key, t) = cc e in (x, refl, sym (ap (λ (p : ℕ × Total). p.1) same))
 total-at jobs (x ∷ xs) (suc place) key t e = total-at jobs xs place key t e
 
 -- the lines of one more operation

@@ -8,10 +8,10 @@ use Rattle.orc_report.specs.Summary.{values_of}
 use Rattle.orc_report.specs.declared.summary.Total.{Total}
 
 -- the key of an operation
-abbrev pub key_of : Job → ℕ
-key_of job.Bytes = 0
-key_of job.Words = 1
-key_of job.Sum = 2
+abbrev pub key_of_operation : Job → ℕ
+key_of_operation job.Bytes = 0
+key_of_operation job.Words = 1
+key_of_operation job.Sum = 2
 
 -- how many of these jobs have this operation, and the sum of their values
 abbrev pub total_of : List (Job × ℕ) → Job → Total
@@ -19,7 +19,7 @@ total_of jobs op = record { op = op; jobs = length (values_of op jobs); sum = su
 
 -- the totals of these operations, by their keys
 abbrev pub operation_totals : List (Job × ℕ) → List Job → List (ℕ × Total)
-operation_totals jobs ops = map (λ op. (key_of op, total_of jobs op)) ops
+operation_totals jobs ops = map (λ op. (key_of_operation op, total_of jobs op)) ops
 
 -- the line of a total
 abbrev pub line_of : Total → List ℕ

@@ -7,7 +7,7 @@ ghost use Rattle.orc_jobs.specs.GoodLines.{AreGood};
 ghost use Rattle.orc_board.specs.Follows.{by_key};
 ghost use Rattle.orc_board.specs.Reportable.{AreReportable};
 ghost use Rattle.orc_report.specs.Summary.{done_as, done_in, done_jobs as jobs_done, firsts, operations_of, summary_of};
-ghost use Rattle.orc_report.specs.Totals.{operation_totals, key_of as key, line_of, total_of as total};
+ghost use Rattle.orc_report.specs.Totals.{operation_totals, key_of_operation as key, line_of, total_of as total};
 ghost use Rattle.orc_jobs.specs.declared.line.Job.{Job};
 
 use indexmap::IndexMap;

@@ -190,10 +190,10 @@ pub record SplitMay (n : HeapNumbers) (es : List (Event SplitNote)) (e : Event S
   pub own : IsOwnEntry e.agent e.note
 
 -- the split place of a node, and 0 where it has none
-abbrev pub place_in : Option Node → ℕ
-place_in None = 0
-place_in (Some n) = unwrap_or (place_of n.first n.second) 0
+abbrev pub split_place_of : Option Node → ℕ
+split_place_of None = 0
+split_place_of (Some n) = unwrap_or (place_of n.first n.second) 0
 
 -- split places rise along the links
 abbrev pub split_rank : HeapNumbers → List (Event SplitNote) → ℕ → ℕ
-split_rank n es id = place_in (slice_get (run_heap n es).nodes id)
+split_rank n es id = split_place_of (slice_get (run_heap n es).nodes id)

@@ -40,7 +40,7 @@ use Rattle.orc_split_rule.specs.SplitOrder.{bucket_of, key_place, split_order}
 use Rattle.orc_ordered_search.specs.Turns.{LoadsOnce}
 use Rattle.orc_split_rule.specs.declared.split.SplitNote.{SplitNote}
 use Rattle.orc_split_set.specs.Crowds.{SeesOwn}
-use Rattle.orc_split_set.specs.Looks.{HasStart, LoadsFew, MayEnd, ReachesIn, StartsAt, count_of, root_loads, search_loads}
+use Rattle.orc_split_set.specs.Looks.{HasStart, LoadsFew, MayEnd, ReachesIn, StartsAt, node_count, root_loads, search_loads}
 use Rattle.orc_split_set.specs.SplitSearches.{SizeRead, split_reading}
 use Rattle.orc_split_set.proofs.Crowding.{own_alone, own_heap, own_later, own_no_turns, own_not_moved, own_part, own_read, own_shows, own_sooner, own_unmoved, puts_grow}
 use Rattle.orc_split_set.proofs.Ordered.{split_ordering}
@@ -262,7 +262,7 @@ module _ (n : HeapNumbers) (key many : ℕ) (start : Place) (s t u : Seat SplitN
     (later : (nodes : List ℕ) (to : Option ℕ) → IsPath (heap_of n t) start nodes to → MayEnd (heap_of n t) (key_place key) to
     → LoadsFew (search_loads nodes to + 1) t u) where
   by_bucket : (b : ℕ) → HasStart (heap_of n t) b → StartsAt (heap_of n t) b start → (nodes : List ℕ) (to : Option ℕ) → IsPath (heap_of n t) (Root b) nodes to
-      → MayEnd (heap_of n t) (key_place key) to → many ≡ length nodes + count_of to → LoadsFew (2 + root_loads b) s t
+      → MayEnd (heap_of n t) (key_place key) to → many ≡ length nodes + node_count to → LoadsFew (2 + root_loads b) s t
       → LoadsFew (6 + 4 * many - root_loads b) s u
   by_bucket zero has is nodes None path ends count first =
       let few = later nodes None (subst (λ (p : Place). IsPath (heap_of n t) p nodes None) (sym is) path) ends in

@@ -45,9 +45,9 @@ MayEnd h place None = Unit {0}
 MayEnd h place (Some id) = Stops split_order h place id
 
 -- 1 for a node, and 0 for none
-abbrev pub count_of : Option ℕ → ℕ
-count_of None = 0
-count_of (Some id) = 1
+abbrev pub node_count : Option ℕ → ℕ
+node_count None = 0
+node_count (Some id) = 1
 
 -- so many nodes stand on the chain from a bucket's dummy, or from root 0's target, to where a search for the split place may end
 pub record ReachesIn (h : Heap) (bucket place many : ℕ) : Type 0 where
@@ -55,7 +55,7 @@ pub record ReachesIn (h : Heap) (bucket place many : ℕ) : Type 0 where
   pub to : Option ℕ
   pub path : IsPath h (Root bucket) nodes to
   pub ends : MayEnd h place to
-  pub many_is : many ≡ length nodes + count_of to
+  pub many_is : many ≡ length nodes + node_count to
 
 -- the pass made only loads, at most so many, if it saw only own events
 abbrev pub LoadsFew : ℕ → Seat SplitNote → Seat SplitNote → Type 0

@@ -5,9 +5,9 @@ use Rattle.orc_split_set.specs.declared.node.NewNode.{NewNode}
 use Rattle.orc_split_set.specs.declared.node.NewNode.TheVariants.{Dummy, Key}
 
 -- the values of the node: the key and 1, or the bucket and 0
-abbrev pub value_of : NewNode → ℕ
-value_of (Key key) = key
-value_of (Dummy bucket) = bucket
+abbrev pub node_values : NewNode → ℕ
+node_values (Key key) = key
+node_values (Dummy bucket) = bucket
 
 abbrev pub kind_of : NewNode → ℕ
 kind_of (Key key) = 1

@@ -1,8 +1,8 @@
 //! Nodes that are to be linked.
 
 ghost use Rattle.std.specs.Prelude.{◌≡◌};
-ghost use Rattle.orc_split_set.specs.NewNodes.{kind_of, place_for, value_of};
-ghost use Rattle.orc_split_set.specs.SplitSearches.{rank_of};
+ghost use Rattle.orc_split_set.specs.NewNodes.{kind_of, place_for, node_values};
+ghost use Rattle.orc_split_set.specs.SplitSearches.{split_rank};
 
 use crate::order::SplitPlace;
 
@@ -18,7 +18,7 @@ pub enum NewNode {
 impl NewNode {
     // The first value of the node.
     pub(crate) fn value(self) -> u64
-        ensures { result ≡ value_of self }
+        ensures { result ≡ node_values self }
     {
         match self {
             NewNode::Key(key) => key,
@@ -38,7 +38,7 @@ impl NewNode {
 
     // The place in split order where the node belongs.
     pub(crate) fn place(self) -> SplitPlace
-        ensures { rank_of result ≡ place_for self }
+        ensures { split_rank result ≡ place_for self }
     {
         let value = self.value();
         let has_key = self.kind() == 1;

@@ -9,7 +9,7 @@ use Rattle.orc_board.specs.Stretches.{View}
 use Rattle.orc_board.proofs.ListFacts.{AllByRecursion-filter}
 use Rattle.orc_stages.specs.declared.replies.StageReply.{StageReply}
 use Rattle.orc_stages.specs.Stage.{jobs_of}
-use Rattle.orc_stages.specs.Pipeline.{kept, kept_one, lines_of, moves_of, IsPipeline}
+use Rattle.orc_stages.specs.Pipeline.{kept_replies, kept_one, lines_of, moves_of, IsPipeline}
 use Rattle.orc_stages.proofs.Jobs.{legal_jobs}
 
 -- a reply with a value is kept
@@ -17,9 +17,9 @@ one_kept : (line : ℕ) (value : Option ℕ) (rest : List ℕ) → value ≢ Non
 one_kept line None rest some = absurd (some refl)
 one_kept line (Some v) rest some = refl
 
-all_kept : (rs : List StageReply) → AllByRecursion (λ (r : StageReply). r.value ≢ None) rs → kept rs ≡ lines_of rs
+all_kept : (rs : List StageReply) → AllByRecursion (λ (r : StageReply). r.value ≢ None) rs → kept_replies rs ≡ lines_of rs
 all_kept [] h = refl
-all_kept (r ∷ rs) h = one_kept r.line r.value (kept rs) h.0 ∙ ap (λ z. r.line ∷ z) (all_kept rs h.1)
+all_kept (r ∷ rs) h = one_kept r.line r.value (kept_replies rs) h.0 ∙ ap (λ z. r.line ∷ z) (all_kept rs h.1)
 
 module _ {A : Type 0} (x : ℕ → View A QueueEntry QueueRefused) (lines : List Line) (posters stages : ℕ) (posts : List PostReply) (moves : List StageReply)
     (outs : List ℕ) (k : ℕ → List A) (p : IsPipeline x lines posters stages posts moves outs k)

@@ -20,7 +20,7 @@ use Rattle.orc_workers.proofs.Learned.{zero_ended}
 use Rattle.orc_stages.specs.declared.replies.StageReply.{StageReply}
 use Rattle.orc_stages.specs.Stage.{QueueShare, DidShares, IsItem, Posting, MoveTable, froms, tos, jobs_of, own_of}
 use Rattle.orc_stages.specs.Desks.{Acts, PosterActs, StageActs}
-use Rattle.orc_stages.specs.Pipeline.{jobs_by, kept, lines_of, moves_of, Placing, PostersFollow, StageFollows, IsPipeline}
+use Rattle.orc_stages.specs.Pipeline.{jobs_by, kept_replies, lines_of, moves_of, Placing, PostersFollow, StageFollows, IsPipeline}
 use Rattle.orc_stages.specs.Ran.{Ran, in_run, unseen}
 use Rattle.orc_stages.proofs.Shares.{own_of-append, jobs_of-append, shares_none, shares_stretch}
 use Rattle.orc_stages.proofs.Jobs.{jobs_only, jobs_two, legal_jobs, no_moves}
@@ -184,7 +184,7 @@ module _ {A : Type 0} (x : ℕ → View A QueueEntry QueueRefused) (lines : List
   caller_tooks : (i : ℕ) → i ≤ stages → jobs_by false 0 (h i) ≡ jobs_of false (own_of (took i))
   caller_tooks i low = caller_jobs false i ∙ ap (λ z. z ++ jobs_of false (own_of (took i))) (gave_tooks i low)
 
-  caller_puts : (i : ℕ) → i < stages → jobs_by true 0 (h (suc i)) ≡ kept (own i)
+  caller_puts : (i : ℕ) → i < stages → jobs_by true 0 (h (suc i)) ≡ kept_replies (own i)
   caller_puts i low =
       caller_jobs true (suc i)
       ∙ (ap (λ z. jobs_of true (own_of (gave (suc i))) ++ z) (took_puts (suc i) (omega (arith, low)))
@@ -219,14 +219,14 @@ module _ {A : Type 0} (x : ℕ → View A QueueEntry QueueRefused) (lines : List
   worker_not i e = absurd (omega (arith, e))
 
   -- the Puts of each queue but the first are those of its stage that found a place
-  puts_are : (i : ℕ) → i < stages → jobs_of true (h (suc i)) ≡ kept (work i ++ own i)
+  puts_are : (i : ℕ) → i < stages → jobs_of true (h (suc i)) ≡ kept_replies (work i ++ own i)
   puts_are i low =
       let w : ℕ = posters + suc i in
       let d = ran.moved i low in
       jobs_two true w (h (suc i)) (ran.zero_last (suc i)) (worker_not i) (no_puts i)
       ∙ (ap (λ z. z ++ jobs_by true 0 (h (suc i)))
       (ap (jobs_of true) (own_acts w d.acts d.acted (suc i) ∙ ap own_of d.wrote.to) ∙ to_jobs lines (suc i) w (work i) d.wrote.rows d.wrote.table true)
-      ∙ (ap (λ z. kept (work i) ++ z) (caller_puts i low) ∙ sym (kept-append (work i) (own i))))
+      ∙ (ap (λ z. kept_replies (work i) ++ z) (caller_puts i low) ∙ sym (kept-append (work i) (own i))))
 
   -- all jobs that are put are numbers of lines that post one
   own_items : (a : ℕ) → AllByRecursion (IsItem lines) (jobs_by true a (h 0))
@@ -250,7 +250,7 @@ module _ {A : Type 0} (x : ℕ → View A QueueEntry QueueRefused) (lines : List
       let less : i < stages = omega (arith, low) in
       let d = ran.moved i less in
       subst (AllByRecursion (IsItem lines)) (sym (puts_are i less ∙ kept-append (work i) (own i)))
-      (AllByRecursion-append (IsItem lines) (kept (work i)) (kept (own i))
+      (AllByRecursion-append (IsItem lines) (kept_replies (work i)) (kept_replies (own i))
       (kept_items lines (suc i) (posters + suc i) (work i) d.wrote.rows d.wrote.table)
       (kept_items lines (suc i) 0 (own i) (ran.caller.acts.rows i) (caller_table i less)))
 

@@ -11,7 +11,7 @@ use Rattle.orc_history.specs.Lists.{Pairwise}
 use Rattle.orc_board.proofs.ListFacts.{AllByRecursion-append}
 use Rattle.orc_stages.specs.declared.replies.StageReply.{StageReply}
 use Rattle.orc_stages.specs.Stage.{QueueShare, StageRow, froms, tos, IsItem, ItemPart, PostPart, IsPostShare, PutOf, MoveTable, jobs_of, own_of}
-use Rattle.orc_stages.specs.Pipeline.{kept, kept_one, lines_of}
+use Rattle.orc_stages.specs.Pipeline.{kept_replies, kept_one, lines_of}
 use Rattle.orc_stages.proofs.Shares.{jobs_of-append}
 
 -- what a row puts
@@ -24,16 +24,16 @@ put_jobs agent l stage job (Some value) to p false = rw p.1 refl
 
 -- of a table the Puts are those of the replies that found a place, and there are no Tooks
 pub to_jobs : (lines : List Line) (stage agent : ℕ) (rs : List StageReply) (rows : List StageRow) → MoveTable lines stage agent rs rows → (b : Bool)
-    → jobs_of b (own_of (tos rows)) ≡ cond b (kept rs) []
-to_jobs lines stage agent rs [] t true = sym (ap kept t)
+    → jobs_of b (own_of (tos rows)) ≡ cond b (kept_replies rs) []
+to_jobs lines stage agent rs [] t true = sym (ap kept_replies t)
 to_jobs lines stage agent rs [] t false = refl
-to_jobs lines stage agent rs (row ∷ rows) t b = elim t as (λ _. jobs_of b (own_of (tos (row ∷ rows))) ≡ cond b (kept rs) []) [
+to_jobs lines stage agent rs (row ∷ rows) t b = elim t as (λ _. jobs_of b (own_of (tos (row ∷ rows))) ≡ cond b (kept_replies rs) []) [
   | inl skip ↦ rw skip.0.to (to_jobs lines stage agent rs rows skip.1 b)
   | inr one ↦
       let here = put_jobs agent one.3.item.line stage one.0.line one.0.value row.to one.3.to in
       let more = to_jobs lines stage agent one.1 rows one.4 in
-      let both : (c : Bool) → cond c (kept_one one.0.line one.0.value) [] ++ cond c (kept one.1) [] ≡ cond c (kept rs) [] =
-      elim [ true ↦ sym (ap kept one.2) | false ↦ refl ] in
+      let both : (c : Bool) → cond c (kept_one one.0.line one.0.value) [] ++ cond c (kept_replies one.1) [] ≡ cond c (kept_replies rs) [] =
+      elim [ true ↦ sym (ap kept_replies one.2) | false ↦ refl ] in
       jobs_of-append b row.to.own (own_of (tos rows))
       ∙ (ap (λ z. z ++ jobs_of b (own_of (tos rows))) (here b)
       ∙ (ap (λ z. cond b (kept_one one.0.line one.0.value) [] ++ z) (more b) ∙ both b))
@@ -71,26 +71,26 @@ kept_cons lines job (Some value) rest item h = (item, h)
 
 -- what a stage put are items
 pub kept_items : (lines : List Line) (stage agent : ℕ) (rs : List StageReply) (rows : List StageRow) → MoveTable lines stage agent rs rows
-    → AllByRecursion (IsItem lines) (kept rs)
+    → AllByRecursion (IsItem lines) (kept_replies rs)
 kept_items lines stage agent rs [] t = rw t tt
-kept_items lines stage agent rs (row ∷ rows) t = elim t as (λ _. AllByRecursion (IsItem lines) (kept rs)) [
+kept_items lines stage agent rs (row ∷ rows) t = elim t as (λ _. AllByRecursion (IsItem lines) (kept_replies rs)) [
   | inl skip ↦ kept_items lines stage agent rs rows skip.1
   | inr one ↦
-      subst (λ (z : List StageReply). AllByRecursion (IsItem lines) (kept z)) (sym one.2)
-      (kept_cons lines one.0.line one.0.value (kept one.1) one.3.item (kept_items lines stage agent one.1 rows one.4))
+      subst (λ (z : List StageReply). AllByRecursion (IsItem lines) (kept_replies z)) (sym one.2)
+      (kept_cons lines one.0.line one.0.value (kept_replies one.1) one.3.item (kept_items lines stage agent one.1 rows one.4))
 ]
 
-pub kept-append : (xs ys : List StageReply) → kept (xs ++ ys) ≡ kept xs ++ kept ys
+pub kept-append : (xs ys : List StageReply) → kept_replies (xs ++ ys) ≡ kept_replies xs ++ kept_replies ys
 kept-append [] ys = refl
-kept-append (r ∷ xs) ys = ap (λ z. kept_one r.line r.value ++ z) (kept-append xs ys) ∙ sym (append_assoc (kept_one r.line r.value) (kept xs) (kept ys))
+kept-append (r ∷ xs) ys = ap (λ z. kept_one r.line r.value ++ z) (kept-append xs ys) ∙ sym (append_assoc (kept_one r.line r.value) (kept_replies xs) (kept_replies ys))
 
 kept_one_few : (job : ℕ) (value : Option ℕ) → length (kept_one job value) ≤ 1
 kept_one_few job None = omega arith
 kept_one_few job (Some value) = omega arith
 
-pub kept_few : (rs : List StageReply) → length (kept rs) ≤ length rs
+pub kept_few : (rs : List StageReply) → length (kept_replies rs) ≤ length rs
 kept_few [] = omega arith
-kept_few (r ∷ rs) = omega (arith, kept_few rs, kept_one_few r.line r.value, length-append (kept_one r.line r.value) (kept rs))
+kept_few (r ∷ rs) = omega (arith, kept_few rs, kept_one_few r.line r.value, length-append (kept_one r.line r.value) (kept_replies rs))
 
 -- what the share of a poster's reply says
 pub record PostSays (lines : List Line) (job : ℕ) (own : List QueueEntry) : Type 0 where

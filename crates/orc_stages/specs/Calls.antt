@@ -55,5 +55,5 @@ pub record MovesMore {Q P A : Type 0} (q : QueueOf Q P A) (from to : Q) (lines :
   pub moves : Moves q from to lines stage p r p2 r2 more
 
 -- these jobs are all that the pass's agent took, and it put none
-abbrev pub Takes : {Q P A : Type 0} → QueueOf Q P A → Q → P → P → List ℕ → Type 0
-Takes q queue p p2 outs = TookAlone (queue_view q queue) (q.agent_of queue p) outs (q.journal p) (q.journal p2)
+abbrev pub TakesOnly : {Q P A : Type 0} → QueueOf Q P A → Q → P → P → List ℕ → Type 0
+TakesOnly q queue p p2 outs = TookAlone (queue_view q queue) (q.agent_of queue p) outs (q.journal p) (q.journal p2)

@@ -27,9 +27,9 @@ kept_one line None = []
 kept_one line (Some value) = line ∷ []
 
 -- the lines of the replies whose job found a place, and the lines of all replies
-abbrev pub kept : List StageReply → List ℕ
-kept [] = []
-kept (r ∷ rs) = kept_one r.line r.value ++ kept rs
+abbrev pub kept_replies : List StageReply → List ℕ
+kept_replies [] = []
+kept_replies (r ∷ rs) = kept_one r.line r.value ++ kept_replies rs
 
 abbrev pub lines_of : List StageReply → List ℕ
 lines_of rs = map (λ (r : StageReply). r.line) rs
@@ -71,7 +71,7 @@ pub record PostersFollow {A : Type 0} (x : View A QueueEntry QueueRefused) (line
 pub record StageFollows {A : Type 0} (x y : View A QueueEntry QueueRefused) (lines : List Line) (posters stages stage : ℕ) (replies : List StageReply)
     (k n : List A) : Type 0 where
   pub tooks : jobs_of false (x.history k) ≡ lines_of replies
-  pub puts : jobs_of true (y.history n) ≡ kept replies
+  pub puts : jobs_of true (y.history n) ≡ kept_replies replies
   pub by_worker : List StageReply
   pub by_caller : List StageReply
   pub are : replies ≡ by_worker ++ by_caller

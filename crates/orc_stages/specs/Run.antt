@@ -78,7 +78,7 @@ IsRunOf q queues lines posters desks done =
 
 -- workers of the agents in order from this one
 abbrev pub AreNumbered : {P : Type 0} → ℕ → List (Worker P) → Type 0
-AreNumbered agent ws = NumberedFrom (λ (w : Worker P). w.agent) agent ws
+AreNumbered {P = P} agent ws = NumberedFrom (λ (w : Worker P). w.agent) agent ws
 
 -- a worker that has room for as many moves as there are lines, if it is a stage's
 abbrev pub HasRoomForMoves : {P : Type 0} → ℕ → List Line → Worker P → Type 0

@@ -3,7 +3,7 @@ ghost use Rattle.std.specs.Prelude.{◌≡◌, ◌≢◌, ◌<◌, ◌≤◌, �
 ghost use Rattle.orc_history.specs.declared.queue.QueueEntry.{QueueEntry};
 ghost use Rattle.orc_board.specs.DeskCalls.{KeepsQueueAgent, QueueEndsWith};
 ghost use Rattle.orc_jobs.specs.GoodLines.{AreGood};
-ghost use Rattle.orc_stages.specs.Calls.{Takes};
+ghost use Rattle.orc_stages.specs.Calls.{TakesOnly};
 ghost use Rattle.orc_stages.specs.Caller.{CallerMoved, MovedBetween};
 ghost use Rattle.orc_stages.specs.Desks.{ArePasses};
 
@@ -20,7 +20,7 @@ pub fn take_outs<R: Wait, Q: SharedQueue>(rt: &R, queue: &Q, pass: &mut Q::Pass,
     requires none { outs.old.items ≡ [] }
     ensures usable { Q.usable queue.now pass.new }
     ensures agent { KeepsQueueAgent Q.SharedQueue queue.now pass.old pass.new }
-    ensures taken { Takes Q.SharedQueue queue.now pass.old pass.new outs.new.items }
+    ensures taken { TakesOnly Q.SharedQueue queue.now pass.old pass.new outs.new.items }
     ensures last { outs.new.spare ≢ 0 → QueueEndsWith Q.SharedQueue queue.now pass.old pass.new (λ agent. QueueEntry.Empty agent) }
     ensures spare { length outs.new.items + outs.new.spare ≡ outs.old.spare }
 {

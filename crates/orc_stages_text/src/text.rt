@@ -2,7 +2,7 @@
 ghost use Rattle.std.specs.Prelude.{◌≡◌, ◌≤◌, ◌++◌, ◌^◌, IfOk, OnOk, length};
 ghost use Rattle.std.specs.List.{flat_map};
 ghost use Rattle.std.specs.String.{string_bytes};
-ghost use Rattle.orc_stages_text.specs.StagesText.{move_line, out_line, out_lines, post_line, text_of};
+ghost use Rattle.orc_stages_text.specs.StagesText.{move_line, out_line, out_lines, stage_post_line, stages_report};
 
 use orc_board::{PostReply, PostWord};
 use orc_fault::NoMemory;
@@ -16,7 +16,7 @@ use std::alloc::{AllocError, Global};
 ///
 /// `NoMemory` where memory is refused.
 pub fn stages_text(alloc: Global, done: &StagesDone) -> Result<Text, NoMemory>
-    ensures { IfOk result (λ t. t ≡ text_of done.now.posts.items done.now.moves.items done.now.outs.items) }
+    ensures { IfOk result (λ t. t ≡ stages_report done.now.posts.items done.now.moves.items done.now.outs.items) }
 {
     let text = write_text(
         alloc,
@@ -34,7 +34,7 @@ fn write_text(
     moves: &[StageReply],
     outs: &[u64],
 ) -> Result<String, AllocError>
-    ensures { IfOk result (λ t. string_bytes t ≡ text_of posts.now moves.now outs.now) }
+    ensures { IfOk result (λ t. string_bytes t ≡ stages_report posts.now moves.now outs.now) }
 {
     let mut text = String::from_str(alloc, "stages\n")?;
     push_posts(&mut text, posts)?;
@@ -45,7 +45,7 @@ fn write_text(
 
 // The lines of the posters' replies.
 fn push_posts(text: &mut String, posts: &[PostReply]) -> Result<(), AllocError>
-    ensures { OnOk result (string_bytes text.new ≡ string_bytes text.old ++ flat_map post_line posts.now) }
+    ensures { OnOk result (string_bytes text.new ≡ string_bytes text.old ++ flat_map stage_post_line posts.now) }
 {
     for reply in posts {
         push_post(text, reply)?;
@@ -75,7 +75,7 @@ fn push_outs(text: &mut String, outs: &[u64]) -> Result<(), AllocError>
 
 // One poster's reply.
 fn push_post(text: &mut String, reply: &PostReply) -> Result<(), AllocError>
-    ensures { OnOk result (string_bytes text.new ≡ string_bytes text.old ++ post_line reply.now) }
+    ensures { OnOk result (string_bytes text.new ≡ string_bytes text.old ++ stage_post_line reply.now) }
 {
     let poster = reply.poster;
     let line = reply.line;

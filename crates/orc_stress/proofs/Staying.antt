@@ -5,7 +5,7 @@ use Rattle.std.specs.Prelude.{All, Bool, false, if◌then◌else◌, nat_lt, sli
 use Rattle.std.specs.List.{AllByRecursion}
 use Rattle.orc_stress.specs.Answers.{calls_of, summed}
 use Rattle.orc_stress.specs.declared.tally.Answers.{Answers}
-use Rattle.orc_stress.specs.Parts.{part_of, parts_of}
+use Rattle.orc_stress.specs.Parts.{calls_of_agent, calls_of_agents}
 use Rattle.orc_stress.specs.Passes.{AllStay, AreReady, Stay, Stays}
 use Rattle.orc_stress.specs.declared.load.Plan.{Plan}
 
@@ -74,9 +74,9 @@ module _ {P : Type 0} (ready : P → Type 0) (agent : P → ℕ) where
   stay_long (x ∷ xs) [] h = absurd h
 
   -- the calls of their agents are the same
-  pub parts_still : (plan : Plan) (xs ys : List P) → AllStay ready agent xs ys → parts_of plan agent ys ≡ parts_of plan agent xs
+  pub parts_still : (plan : Plan) (xs ys : List P) → AllStay ready agent xs ys → calls_of_agents plan agent ys ≡ calls_of_agents plan agent xs
   parts_still plan [] [] h = refl
-  parts_still plan (x ∷ xs) (y ∷ ys) h = ap₂ ◌+◌ (ap (part_of plan) h.0.same) (parts_still plan xs ys h.1)
+  parts_still plan (x ∷ xs) (y ∷ ys) h = ap₂ ◌+◌ (ap (calls_of_agent plan) h.0.same) (parts_still plan xs ys h.1)
   parts_still plan [] (y ∷ ys) h = absurd h
   parts_still plan (x ∷ xs) [] h = absurd h
 
@@ -105,12 +105,12 @@ module _ {P : Type 0} (ready : P → Type 0) (agent : P → ℕ) where
   all_ready (x ∷ xs) h = (h 0 x (omega arith), all_ready xs (λ i p below. h (suc i) p (omega (arith, below))))
 
   -- one agent more
-  pub parts_more : (plan : Plan) (xs : List P) (x : P) → parts_of plan agent (xs ++ x ∷ []) ≡ parts_of plan agent xs + part_of plan (agent x)
+  pub parts_more : (plan : Plan) (xs : List P) (x : P) → calls_of_agents plan agent (xs ++ x ∷ []) ≡ calls_of_agents plan agent xs + calls_of_agent plan (agent x)
   parts_more plan [] x = omega arith
   parts_more plan (y ∷ ys) x = let more = parts_more plan ys x in omega (arith, more)
 
   -- the calls of few agents are few
-  pub parts_few : (plan : Plan) (xs : List P) → parts_of plan agent xs ≤ length xs * 4294967296
+  pub parts_few : (plan : Plan) (xs : List P) → calls_of_agents plan agent xs ≤ length xs * 4294967296
   parts_few plan [] = omega arith
   parts_few plan (x ∷ xs) =
       let more = parts_few plan xs in
@@ -135,7 +135,7 @@ module _ {P : Type 0} (ready : P → Type 0) (agent : P → ℕ) where
   pub stay_twice : (xs ys zs : List P) → Stay ready agent xs ys → Stay ready agent ys zs → Stay ready agent xs zs
   stay_twice xs ys zs h k = record { all = twice xs ys zs h.all k.all }
 
-  pub stay_parts : (plan : Plan) (xs ys : List P) → Stay ready agent xs ys → parts_of plan agent ys ≡ parts_of plan agent xs
+  pub stay_parts : (plan : Plan) (xs ys : List P) → Stay ready agent xs ys → calls_of_agents plan agent ys ≡ calls_of_agents plan agent xs
   stay_parts plan xs ys h = parts_still plan xs ys h.all
 
   -- passes of the first agents stay those
@@ -150,18 +150,18 @@ module _ {P : Type 0} (ready : P → Type 0) (agent : P → ℕ) where
 
   -- the calls of agents from this number on, among which are all that work
   parts_from : (plan : Plan) (k : ℕ) (xs : List P) → ((i : ℕ) (p : P) → i < length xs → agent (slice_index_or xs i p) ≡ k + i)
-      → plan.threads ≤ k + length xs → parts_of plan agent xs ≡ (plan.threads - k) * plan.load.calls
+      → plan.threads ≤ k + length xs → calls_of_agents plan agent xs ≡ (plan.threads - k) * plan.load.calls
   parts_from plan k [] order enough =
       let none : plan.threads - k ≡ 0 = omega (arith, enough) in
       rw none (omega arith)
   parts_from plan k (x ∷ xs) order enough =
       let first : agent x ≡ k = omega (arith, order 0 x (omega arith)) in
       let rest = parts_from plan (k + 1) xs (λ i p below. omega (arith, order (suc i) p (omega (arith, below)))) (omega (arith, enough)) in
-      ap₂ ◌+◌ (ap (part_of plan) first) rest ∙ one_part (nat_lt k plan.threads) plan.threads k plan.load.calls refl
+      ap₂ ◌+◌ (ap (calls_of_agent plan) first) rest ∙ one_part (nat_lt k plan.threads) plan.threads k plan.load.calls refl
 
   -- the calls of the first agents, among which are all that work
   pub parts_all : (plan : Plan) (xs : List P) → AreReady ready agent xs → plan.threads ≤ length xs
-      → parts_of plan agent xs ≡ plan.threads * plan.load.calls
+      → calls_of_agents plan agent xs ≡ plan.threads * plan.load.calls
   parts_all plan xs all enough =
       let all_work = parts_from plan 0 xs (λ i p below. omega (arith, all.order i p below)) (omega (arith, enough)) in
       let whole : plan.threads - 0 ≡ plan.threads = omega arith in

@@ -4,7 +4,7 @@ ghost use Rattle.std.specs.Prelude.{◌≡◌, ◌+◌, ◌<◌, ◌≤◌, ◌^
 ghost use Rattle.std.specs.List.{AllByRecursion};
 ghost use Rattle.std.specs.Thread.{IsSync};
 ghost use Rattle.orc_stress.specs.Answers.{calls_of};
-ghost use Rattle.orc_stress.specs.Parts.{HaveRun, part_of, parts_of};
+ghost use Rattle.orc_stress.specs.Parts.{HaveRun, calls_of_agent, calls_of_agents};
 ghost use Rattle.orc_stress.specs.Passes.{Stay, Stays};
 
 use crate::container::{Container, Outcome};
@@ -179,7 +179,7 @@ fn run_agent<R: Clock, C: Container>(
 ) -> Done<C::Pass>
     requires ready { C.ready container.now pass }
     ensures ready { Stays (C.ready container.now) (C.agent_of container.now) pass result.pass }
-    ensures calls { calls_of result.tally.answers ≡ part_of plan.now (C.agent_of container.now pass) }
+    ensures calls { calls_of result.tally.answers ≡ calls_of_agent plan.now (C.agent_of container.now pass) }
 {
     let agent = container.agent(&pass);
     let tally = if agent < plan.threads {
@@ -227,7 +227,7 @@ where
     let one = move || -> Done<C::Pass>
         requires { C.ready container.now pass }
         ensures ready { Stays (C.ready container.entry.now) (C.agent_of container.entry.now) pass result.pass }
-        ensures calls { calls_of result.tally.answers ≡ part_of plan.entry.now (C.agent_of container.entry.now pass) }
+        ensures calls { calls_of result.tally.answers ≡ calls_of_agent plan.entry.now (C.agent_of container.entry.now pass) }
     { run_agent(rt, container, pass, plan, start) };
     let others = move || -> Ran<C::Pass>
         requires { IsSync R.row × AllByRecursion (C.ready container.now) waiting.items × (vec_len waiting ≤ 16)
@@ -261,7 +261,7 @@ where
     requires empty { room.items ≡ [] }
     requires room { vec_len passes ≤ vec_capacity room }
     ensures stay { Stay (C.ready container.now) (C.agent_of container.now) passes.items result.passes.items }
-    ensures calls { calls_of result.tally.answers ≡ parts_of plan.now (C.agent_of container.now) passes.items }
+    ensures calls { calls_of result.tally.answers ≡ calls_of_agents plan.now (C.agent_of container.now) passes.items }
 {
     run_agents(rt, container, passes, plan, start, room)
 }

@@ -3,7 +3,7 @@
 ghost use Rattle.std.specs.Prelude.{◌≡◌, ◌≤◌, IfOk, vec_len};
 ghost use Rattle.std.specs.List.{AllByRecursion};
 ghost use Rattle.orc_stress.specs.Answers.{calls_of};
-ghost use Rattle.orc_stress.specs.Parts.{parts_of};
+ghost use Rattle.orc_stress.specs.Parts.{calls_of_agents};
 ghost use Rattle.orc_stress.specs.Passes.{Stay, Stays};
 
 use crate::agents::{Ran, Start, run_all};
@@ -257,7 +257,7 @@ where
     requires ready { AllByRecursion (C.ready container.now) passes.items }
     requires few { vec_len passes ≤ 16 }
     ensures stay { IfOk result (λ r. Stay (C.ready container.now) (C.agent_of container.now) passes.items r.0.items) }
-    ensures calls { IfOk result (λ r. calls_of r.1.tally.answers ≡ parts_of plan.now (C.agent_of container.now) passes.items) }
+    ensures calls { IfOk result (λ r. calls_of r.1.tally.answers ≡ calls_of_agents plan.now (C.agent_of container.now) passes.items) }
 {
     let room = Vec::with_capacity(alloc, passes.len())?;
     let start = Start::new(alloc, plan, instant)?;

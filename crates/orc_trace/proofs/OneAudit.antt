@@ -10,7 +10,7 @@ use Rattle.orc_core.specs.declared.ops.Op.{Op}
 use Rattle.orc_trace.proofs.Unique.{refusal-unique, replay-not_refused, steps-unique}
 use Rattle.orc_trace.proofs.Verdicts.{memory-or}
 use Rattle.orc_trace.specs.Audit.{Audits, IsAudit, IsFirstLeak, IsWorst, Leaks, after_steps}
-use Rattle.orc_trace.specs.Replay.{IsReplay, Refuses}
+use Rattle.orc_trace.specs.Replay.{IsReplay, RefusesTrace}
 use Rattle.orc_trace.specs.declared.answers.Audit.{Audit}
 use Rattle.orc_trace.specs.declared.answers.Leak.{Leak}
 use Rattle.orc_trace.specs.declared.answers.Replayed.{Replayed}
@@ -85,10 +85,10 @@ audit-unique bytes x y h k =
     let same = steps-unique bytes p.0 q.0 p.1 q.1 in
     one_audit k.0 k.2 x y (subst (λ (z : List (ℕ × Op)). Audits k.0 z x) same.1 (subst (λ (z : Bounds). Audits z h.2 x) same.0 h.5)) k.5
 
-audit-not_refused : (bytes : List ℕ) (a : Audit) (f : TraceFault) → f ≢ fault.NoMemory → IsAudit bytes a → Refuses bytes f → ⊥
+audit-not_refused : (bytes : List ℕ) (a : Audit) (f : TraceFault) → f ≢ fault.NoMemory → IsAudit bytes a → RefusesTrace bytes f → ⊥
 audit-not_refused bytes a f other h k = let p = played bytes a h in replay-not_refused bytes p.0 f other p.1 k
 
-pub only-audit : (bytes : List ℕ) (r : Result Audit TraceFault) → IfOk r (IsAudit bytes) → IfErr r (Refuses bytes) → (a : Audit) → IsAudit bytes a
+pub only-audit : (bytes : List ℕ) (r : Result Audit TraceFault) → IfOk r (IsAudit bytes) → IfErr r (RefusesTrace bytes) → (a : Audit) → IsAudit bytes a
     → MatchResult r (λ x. x ≡ a) (λ e. e ≡ fault.NoMemory)
 only-audit bytes (Ok x) ok err a h = audit-unique bytes x a ok h
 only-audit bytes (Err e) ok err a h = elim (memory-or e) [
@@ -96,8 +96,8 @@ only-audit bytes (Err e) ok err a h = elim (memory-or e) [
   | inr other ↦ absurd (audit-not_refused bytes a e other h err)
 ]
 
-pub only-refusal : (bytes : List ℕ) (r : Result Audit TraceFault) → IfOk r (IsAudit bytes) → IfErr r (Refuses bytes) → (why : TraceFault)
-    → why ≢ fault.NoMemory → Refuses bytes why → MatchResult r (λ x. ⊥) (λ e. (e ≡ why) ⊎ (e ≡ fault.NoMemory))
+pub only-refusal : (bytes : List ℕ) (r : Result Audit TraceFault) → IfOk r (IsAudit bytes) → IfErr r (RefusesTrace bytes) → (why : TraceFault)
+    → why ≢ fault.NoMemory → RefusesTrace bytes why → MatchResult r (λ x. ⊥) (λ e. (e ≡ why) ⊎ (e ≡ fault.NoMemory))
 only-refusal bytes (Ok x) ok err why real h = audit-not_refused bytes x why real ok h
 only-refusal bytes (Err e) ok err why real h = elim (memory-or e) [
   | inl memory ↦ inr memory

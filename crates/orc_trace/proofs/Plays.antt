@@ -9,7 +9,7 @@ use Rattle.orc_core.specs.Runs.{run}
 use Rattle.orc_sound.proofs.ForRuns.{room_left}
 use Rattle.orc_trace.specs.Replay.{BeginsWithSteps}
 use Rattle.orc_trace_text.specs.FirstLines.{HasStepLine}
-use Rattle.orc_trace_text.specs.TraceText.{IsReadable, line_text, steps_text}
+use Rattle.orc_trace_text.specs.TraceText.{IsReadable, step_line, steps_text}
 
 pub Begins-nil : (b : Bounds) (m : Machine) (bytes : List ℕ) → BeginsWithSteps b m [] bytes bytes
 Begins-nil b m bytes = record { text = refl; readable = All-nil (IsReadable b); lawful = tt }
@@ -19,7 +19,7 @@ pub Begins-cons : (b : Bounds) (m : Machine) (s : ℕ × Op) (front : List (ℕ 
     → HasStepLine b s more bytes → is_allowed m s.0 s.1 ≡ true → BeginsWithSteps b (step m s.0 s.1) front rest more → BeginsWithSteps b m (s ∷ front) rest bytes
 Begins-cons b m s front rest more bytes line made h =
     record {
-      text = line.text ∙ ap (λ (t : List ℕ). line_text s.0 s.1 ++ 10 ∷ t) h.text ∙ sym (append_assoc (line_text s.0 s.1) (10 ∷ steps_text front) rest);
+      text = line.text ∙ ap (λ (t : List ℕ). step_line s.0 s.1 ++ 10 ∷ t) h.text ∙ sym (append_assoc (step_line s.0 s.1) (10 ∷ steps_text front) rest);
       readable = All-cons (IsReadable b) s front line.readable h.readable;
       lawful = (made, h.lawful);
     }
@@ -34,7 +34,7 @@ pub Begins-first : (b : Bounds) (m : Machine) (s : ℕ × Op) (front : List (ℕ
     → First b m s front rest bytes
 Begins-first b m s front rest bytes h = record {
   line = record {
-    text = h.text ∙ append_assoc (line_text s.0 s.1) (10 ∷ steps_text front) rest;
+    text = h.text ∙ append_assoc (step_line s.0 s.1) (10 ∷ steps_text front) rest;
     readable = All-head (IsReadable b) s front h.readable;
   };
   made = h.lawful.0;
@@ -87,5 +87,5 @@ some-left (x ∷ xs) h e = cc e
 pub step-shorter : (b : Bounds) (s : ℕ × Op) (more bytes : List ℕ) → HasStepLine b s more bytes → length more + 1 ≤ length bytes
 step-shorter b s more bytes h =
     let size = ap length h.text in
-    let parts = length-append (line_text s.0 s.1) (10 ∷ more) in
+    let parts = length-append (step_line s.0 s.1) (10 ∷ more) in
     omega (arith, size, parts)

@@ -12,8 +12,8 @@ use Rattle.orc_core.specs.Machine.{Machine, word_in}
 use Rattle.orc_core.specs.RecordParts.{names}
 use Rattle.orc_core.specs.Sums.{some_below}
 use Rattle.orc_sound.proofs.Shown.{some_here}
-use Rattle.orc_trace.specs.Audit.{IsLinkedToARoot, IsWay}
-use Rattle.orc_trace.specs.Reaching.{AreFound, AreTargetsMarked, MarksReached, found_at, is_marked, unmarked}
+use Rattle.orc_trace.specs.Audit.{IsLinkedToARoot, IsWayFromRoot}
+use Rattle.orc_trace.specs.Reaching.{AreFound, AreTargetsMarked, MarksReached, found_at, is_marked, count_unmarked}
 
 -- ---- links and ways
 
@@ -52,7 +52,7 @@ marked_before marks q r h = cases (r == q) refl
     cases true e = inl (eqb-true r q e)
     cases false e = inr (sym (get_or-set_other marks q r true false (eqb-false r q e)) ∙ h)
 
-one_fewer : (marks : List Bool) (q : ℕ) → q < length marks → is_marked marks q ≡ false → unmarked (slice_set marks q true) + 1 ≡ unmarked marks
+one_fewer : (marks : List Bool) (q : ℕ) → q < length marks → is_marked marks q ≡ false → count_unmarked (slice_set marks q true) + 1 ≡ count_unmarked marks
 one_fewer marks q l h = let e = rw h at (sum_by-set (λ x. bit (not x)) marks q true false l) in omega arith
 
 -- while a row has no mark, the list has room
@@ -111,7 +111,7 @@ named_linked m word q is reach = reach q (names_link (word / 2) q (rw is (eq-eqb
 
 -- ---- no row is found at first
 
-all_unmarked : (marks : List Bool) → ((r : ℕ) → is_marked marks r ≡ false) → unmarked marks ≡ length marks
+all_unmarked : (marks : List Bool) → ((r : ℕ) → is_marked marks r ≡ false) → count_unmarked marks ≡ length marks
 all_unmarked [] h = refl
 all_unmarked (x ∷ xs) h =
     let first : bit (not x) ≡ 1 = rw (h 0) refl in
@@ -152,7 +152,7 @@ some_follows (suc n) p t h e =
 
 -- along a way from a root all rows are marked
 all_marked : (m : Machine) (marks : List Bool) (found : List ℕ) (count : ℕ) → Followed m marks found count count → (rows : List ℕ) (r : ℕ)
-    → r < m.bounds.rows → IsWay m rows r → is_marked marks r ≡ true
+    → r < m.bounds.rows → IsWayFromRoot m rows r → is_marked marks r ≡ true
 all_marked m marks found count h [] r l way =
     some_follows m.bounds.roots (λ i. links_to (word_in m (Root i)) r) (is_marked marks r) (λ i k e. h.roots i r k l e) way
 all_marked m marks found count h (j ∷ js) r l way =

@@ -10,9 +10,9 @@ use Rattle.orc_trace_text.specs.declared.shape_line.ShapeWord.{ShapeWord}
 use Rattle.orc_trace_text.specs.declared.shape_line.ShapeWord.TheVariants as word
 use Rattle.orc_trace.specs.declared.answers.TraceFault.{TraceFault}
 use Rattle.orc_trace.specs.declared.answers.TraceFault.TheVariants as fault
-use Rattle.orc_trace.specs.Replay.{BeginsWithSteps, IsBadRecord, IsReplay, IsUnreadable, Refuses}
+use Rattle.orc_trace.specs.Replay.{BeginsWithSteps, IsBadRecord, IsReplay, IsUnreadable, RefusesTrace}
 use Rattle.orc_trace_text.specs.FirstLines.{HasShapeLine, HasStepLine, HasTable, IsFirstOut, IsShapeFault}
-use Rattle.orc_trace_text.specs.TraceText.{line_text, steps_text}
+use Rattle.orc_trace_text.specs.TraceText.{step_line, steps_text}
 use Rattle.orc_trace_text.proofs.Lines.{shape-unique, step-unique, wide-shape}
 use Rattle.orc_trace.proofs.Plays.{Begins-first}
 
@@ -33,7 +33,7 @@ longer [] r e = cc e
 longer (c ∷ xs) r e = cc e
 
 not_empty : (b : Bounds) (s : ℕ × Op) (more rest : List ℕ) → HasStepLine b s more rest → rest ≡ [] → ⊥
-not_empty b s more rest line e = longer (line_text s.0 s.1) more (sym line.text ∙ e)
+not_empty b s more rest line e = longer (step_line s.0 s.1) more (sym line.text ∙ e)
 
 same_end : (b : Bounds) (m : Machine) (rest : List ℕ) (e f : End) → IsShape b → Ends b m rest e → Ends b m rest f → e ≡ f
 same_end b m rest whole whole s h k = refl
@@ -106,10 +106,10 @@ one_reached bytes b c front back e f h k =
 whole_trace : (bytes : List ℕ) (r : Replayed) → (h : IsReplay bytes r) → Reached bytes h.0 h.2 whole
 whole_trace bytes r h = record { lines = h.1; rest = []; table = h.3; steps = h.4; end = refl }
 
-unread_step : (bytes : List ℕ) (n : ℕ) → (h : Refuses bytes (fault.Unreadable n)) → Reached bytes h.0 h.3.0 unread
+unread_step : (bytes : List ℕ) (n : ℕ) → (h : RefusesTrace bytes (fault.Unreadable n)) → Reached bytes h.0 h.3.0 unread
 unread_step bytes n h = record { lines = h.1; rest = h.3.1; table = h.2; steps = h.3.2; end = h.3.4 }
 
-refused_step : (bytes : List ℕ) (n : ℕ) → (h : Refuses bytes (fault.NotAllowed n)) → Reached bytes h.0 h.3.0 refused
+refused_step : (bytes : List ℕ) (n : ℕ) → (h : RefusesTrace bytes (fault.NotAllowed n)) → Reached bytes h.0 h.3.0 refused
 refused_step bytes n h = record { lines = h.1; rest = h.3.1; table = h.2; steps = h.3.2; end = h.3.4 }
 
 -- ---- first lines
@@ -201,7 +201,7 @@ replay-unique bytes r q h k =
     let answer : Bounds → List (ℕ × Op) → Replayed = λ b steps. record { steps = length steps; census = census_of (run (new_machine b) steps) } in
     h.5 ∙ ap₂ answer same.0 same.1 ∙ sym k.5
 
-pub replay-not_refused : (bytes : List ℕ) (r : Replayed) (f : TraceFault) → f ≢ fault.NoMemory → IsReplay bytes r → Refuses bytes f → ⊥
+pub replay-not_refused : (bytes : List ℕ) (r : Replayed) (f : TraceFault) → f ≢ fault.NoMemory → IsReplay bytes r → RefusesTrace bytes f → ⊥
 replay-not_refused bytes r (fault.Shape w) other h k = in_range bytes h.0 h.2 whole w (whole_trace bytes r h) k
 replay-not_refused bytes r (fault.Unreadable n) other h k =
     let same = one_reached bytes h.0 k.0 h.2 k.3.0 whole unread (whole_trace bytes r h) (unread_step bytes n k) in
@@ -211,7 +211,7 @@ replay-not_refused bytes r (fault.NotAllowed n) other h k =
     let bad = same.2 in cc bad
 replay-not_refused bytes r fault.NoMemory other h k = other refl
 
-pub refusal-unique : (bytes : List ℕ) (f g : TraceFault) → f ≢ fault.NoMemory → g ≢ fault.NoMemory → Refuses bytes f → Refuses bytes g → f ≡ g
+pub refusal-unique : (bytes : List ℕ) (f g : TraceFault) → f ≢ fault.NoMemory → g ≢ fault.NoMemory → RefusesTrace bytes f → RefusesTrace bytes g → f ≡ g
 refusal-unique bytes fault.NoMemory g h k i j = absurd (h refl)
 refusal-unique bytes f fault.NoMemory h k i j = absurd (k refl)
 refusal-unique bytes (fault.Shape w) (fault.Shape v) h k i j = ap fault.Shape (one_shape_fault bytes w v i j)

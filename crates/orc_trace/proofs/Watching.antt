@@ -20,16 +20,16 @@ use Rattle.orc_trace.specs.Watched.{LeakOn, SeesSteps, WorseOf, waiting}
 use Rattle.orc_trace.specs.declared.answers.Leak.{Leak}
 use Rattle.orc_trace.specs.declared.auditing.Seen.{Seen}
 use Rattle.orc_trace_text.specs.FirstLines.{HasStepLine}
-use Rattle.orc_trace_text.specs.TraceText.{IsReadable, line_text, steps_text}
+use Rattle.orc_trace_text.specs.TraceText.{IsReadable, step_line, steps_text}
 
 -- ---- one more step behind those that are played
 
-steps_text-more : (front : List (ℕ × Op)) (s : ℕ × Op) (more : List ℕ) → steps_text front ++ (line_text s.0 s.1 ++ 10 ∷ more) ≡ steps_text (front ++ s ∷ []) ++ more
-steps_text-more [] s more = sym (append_assoc (line_text s.0 s.1) (10 ∷ []) more)
+steps_text-more : (front : List (ℕ × Op)) (s : ℕ × Op) (more : List ℕ) → steps_text front ++ (step_line s.0 s.1 ++ 10 ∷ more) ≡ steps_text (front ++ s ∷ []) ++ more
+steps_text-more [] s more = sym (append_assoc (step_line s.0 s.1) (10 ∷ []) more)
 steps_text-more (t ∷ ts) s more =
-    append_assoc (line_text t.0 t.1) (10 ∷ steps_text ts) (line_text s.0 s.1 ++ 10 ∷ more) ∙
-    ap (λ (x : List ℕ). line_text t.0 t.1 ++ 10 ∷ x) (steps_text-more ts s more) ∙
-    sym (append_assoc (line_text t.0 t.1) (10 ∷ steps_text (ts ++ s ∷ [])) more)
+    append_assoc (step_line t.0 t.1) (10 ∷ steps_text ts) (step_line s.0 s.1 ++ 10 ∷ more) ∙
+    ap (λ (x : List ℕ). step_line t.0 t.1 ++ 10 ∷ x) (steps_text-more ts s more) ∙
+    sym (append_assoc (step_line t.0 t.1) (10 ∷ steps_text (ts ++ s ∷ [])) more)
 
 Begins-more : (b : Bounds) (m : Machine) (front : List (ℕ × Op)) (rest lines : List ℕ) (s : ℕ × Op) (more : List ℕ) → BeginsWithSteps b m front rest lines
     → HasStepLine b s more rest → is_allowed (run m front) s.0 s.1 ≡ true → BeginsWithSteps b m (front ++ s ∷ []) more lines

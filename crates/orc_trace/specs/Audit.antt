@@ -17,14 +17,14 @@ use Rattle.orc_trace.specs.declared.answers.Leak.{Leak}
 use Rattle.orc_trace_text.specs.FirstLines.{HasTable}
 
 -- link words lead from a root over these rows, the last of them first, to the row; from each by any of its links
-abbrev pub IsWay : Machine → List ℕ → ℕ → Type 0
-IsWay m [] r = is_root_target m r ≡ true
-IsWay m (j ∷ js) r = IsWay m js j × (j < m.bounds.rows) × (some_links_to m j r m.bounds.links ≡ true)
+abbrev pub IsWayFromRoot : Machine → List ℕ → ℕ → Type 0
+IsWayFromRoot m [] r = is_root_target m r ≡ true
+IsWayFromRoot m (j ∷ js) r = IsWayFromRoot m js j × (j < m.bounds.rows) × (some_links_to m j r m.bounds.links ≡ true)
 
 -- link words lead from some root to the row
 pub record IsLinkedToARoot (m : Machine) (r : ℕ) : Type 0 where
   pub rows : List ℕ
-  pub way : IsWay m rows r
+  pub way : IsWayFromRoot m rows r
 
 -- the state is at rest and the row is out, but no link words lead to it from a root
 pub record Leaks (m : Machine) (r : ℕ) : Type 0 where

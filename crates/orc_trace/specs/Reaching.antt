@@ -18,8 +18,8 @@ abbrev pub is_marked : List Bool → ℕ → Bool
 is_marked marks r = slice_index_or marks r false
 
 -- how many rows have no mark
-abbrev pub unmarked : List Bool → ℕ
-unmarked marks = sum_by (λ x. bit (not x)) marks
+abbrev pub count_unmarked : List Bool → ℕ
+count_unmarked marks = sum_by (λ x. bit (not x)) marks
 
 -- the row at this place of the list
 abbrev pub found_at : List ℕ → ℕ → ℕ
@@ -29,7 +29,7 @@ found_at found i = slice_index_or found i 0
 pub record AreFound (m : Machine) (marks : List Bool) (found : List ℕ) (count : ℕ) : Type 0 where
   pub long : length marks ≡ m.bounds.rows
   pub room : length found ≡ m.bounds.rows
-  pub counted : count + unmarked marks ≡ m.bounds.rows
+  pub counted : count + count_unmarked marks ≡ m.bounds.rows
   pub reached : (r : ℕ) → is_marked marks r ≡ true → IsLinkedToARoot m r
   pub below : (i : ℕ) → i < count → found_at found i < m.bounds.rows
   pub marked : (i : ℕ) → i < count → is_marked marks (found_at found i) ≡ true

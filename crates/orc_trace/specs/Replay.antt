@@ -39,8 +39,8 @@ IsStepFault b m lines (fault.Shape w) = ⊥
 IsStepFault b m lines fault.NoMemory = ⊥
 
 -- the bytes are no trace, and this is their first fault; want of memory says nothing of the bytes
-abbrev pub Refuses : List ℕ → TraceFault → Type 0
-Refuses bytes (fault.Shape w) = IsShapeFault bytes w
-Refuses bytes (fault.Unreadable n) = (b : Bounds) × (lines : List ℕ) × HasTable b lines bytes × IsStepFault b (new_machine b) lines (fault.Unreadable n)
-Refuses bytes (fault.NotAllowed n) = (b : Bounds) × (lines : List ℕ) × HasTable b lines bytes × IsStepFault b (new_machine b) lines (fault.NotAllowed n)
-Refuses bytes fault.NoMemory = ⊤
+abbrev pub RefusesTrace : List ℕ → TraceFault → Type 0
+RefusesTrace bytes (fault.Shape w) = IsShapeFault bytes w
+RefusesTrace bytes (fault.Unreadable n) = (b : Bounds) × (lines : List ℕ) × HasTable b lines bytes × IsStepFault b (new_machine b) lines (fault.Unreadable n)
+RefusesTrace bytes (fault.NotAllowed n) = (b : Bounds) × (lines : List ℕ) × HasTable b lines bytes × IsStepFault b (new_machine b) lines (fault.NotAllowed n)
+RefusesTrace bytes fault.NoMemory = ⊤

@@ -8,7 +8,7 @@ ghost use Rattle.orc_core.specs.Runs.{run};
 ghost use Rattle.orc_trace.specs.declared.answers.Audit.{Audit};
 ghost use Rattle.orc_trace.specs.declared.answers.TraceFault.{TraceFault};
 ghost use Rattle.orc_trace.specs.Audit.{IsAudit, lives_of};
-ghost use Rattle.orc_trace.specs.Replay.{BeginsWithSteps, IsStepFault, Refuses};
+ghost use Rattle.orc_trace.specs.Replay.{BeginsWithSteps, IsStepFault, RefusesTrace};
 ghost use Rattle.orc_trace.specs.Reaching.{HasMarks};
 ghost use Rattle.orc_trace.specs.Watched.{LeakOn, SeesSteps, WorseOf, waiting};
 
@@ -29,12 +29,12 @@ use std::alloc::Global;
 /// The first fault of the trace, as `replay` tells it, or want of memory.
 pub fn audit(alloc: Global, bytes: &[u8]) -> Result<Audit, TraceFault>
     ensures ok { IfOk result (IsAudit bytes.now) }
-    ensures err { IfErr result (Refuses bytes.now) }
+    ensures err { IfErr result (RefusesTrace bytes.now) }
 
     // A trace is audited, and other bytes are refused for their first fault, unless memory runs out.
     ensures only { (audit : Audit) → IsAudit bytes.now audit
         → MatchResult result (λ r. r ≡ audit) (λ e. e ≡ TraceFault.NoMemory) }
-    ensures bad { (why : TraceFault) → why ≢ TraceFault.NoMemory → Refuses bytes.now why
+    ensures bad { (why : TraceFault) → why ≢ TraceFault.NoMemory → RefusesTrace bytes.now why
         → MatchResult result (λ _. ⊥) (λ e. (e ≡ why) ⊎ (e ≡ TraceFault.NoMemory)) }
 {
     audit_trace(alloc, bytes)
@@ -43,7 +43,7 @@ pub fn audit(alloc: Global, bytes: &[u8]) -> Result<Audit, TraceFault>
 // The same, without that each other answer is wrong.
 fn audit_trace(alloc: Global, bytes: &[u8]) -> Result<Audit, TraceFault>
     ensures ok { IfOk result (IsAudit bytes.now) }
-    ensures err { IfErr result (Refuses bytes.now) }
+    ensures err { IfErr result (RefusesTrace bytes.now) }
 {
     let (shape, lines) = match read_shape(bytes) {
         Ok(found) => found,

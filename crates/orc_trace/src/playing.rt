@@ -7,7 +7,7 @@ ghost use Rattle.orc_core.specs.Machine.{new_machine};
 ghost use Rattle.orc_core.specs.Runs.{run};
 ghost use Rattle.orc_trace.specs.declared.answers.Replayed.{Replayed};
 ghost use Rattle.orc_trace.specs.declared.answers.TraceFault.{TraceFault};
-ghost use Rattle.orc_trace.specs.Replay.{BeginsWithSteps, IsReplay, IsStepFault, Refuses};
+ghost use Rattle.orc_trace.specs.Replay.{BeginsWithSteps, IsReplay, IsStepFault, RefusesTrace};
 
 use crate::answers::{Replayed, TraceFault};
 use orc_core::{State, apply, census};
@@ -21,12 +21,12 @@ use std::alloc::Global;
 /// of the steps in order: each must be readable, and then allowed where it stands. No line is copied.
 pub fn replay(alloc: Global, bytes: &[u8]) -> Result<Replayed, TraceFault>
     ensures ok { IfOk result (IsReplay bytes.now) }
-    ensures err { IfErr result (Refuses bytes.now) }
+    ensures err { IfErr result (RefusesTrace bytes.now) }
 
     // A trace is played, and other bytes are refused for their first fault, unless memory runs out.
     ensures only { (played : Replayed) → IsReplay bytes.now played
         → MatchResult result (λ r. r ≡ played) (λ e. e ≡ TraceFault.NoMemory) }
-    ensures bad { (why : TraceFault) → why ≢ TraceFault.NoMemory → Refuses bytes.now why
+    ensures bad { (why : TraceFault) → why ≢ TraceFault.NoMemory → RefusesTrace bytes.now why
         → MatchResult result (λ _. ⊥) (λ e. (e ≡ why) ⊎ (e ≡ TraceFault.NoMemory)) }
 {
     play_trace(alloc, bytes)
@@ -35,7 +35,7 @@ pub fn replay(alloc: Global, bytes: &[u8]) -> Result<Replayed, TraceFault>
 // The same, without that each other answer is wrong.
 fn play_trace(alloc: Global, bytes: &[u8]) -> Result<Replayed, TraceFault>
     ensures ok { IfOk result (IsReplay bytes.now) }
-    ensures err { IfErr result (Refuses bytes.now) }
+    ensures err { IfErr result (RefusesTrace bytes.now) }
 {
     let (shape, lines) = match read_shape(bytes) {
         Ok(found) => found,

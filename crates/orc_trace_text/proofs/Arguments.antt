@@ -9,7 +9,7 @@ use Rattle.orc_words.specs.declared.packed.RowLink.{RowLink}
 use Rattle.orc_words.specs.declared.place.Word.{Word}
 use Rattle.orc_words.specs.declared.place.Word.TheVariants.{Root, Next, Side}
 use Rattle.orc_words.specs.Bounds.{Bounds, IsShape}
-use Rattle.orc_trace_text.specs.TraceText.{IsLink, IsPlace, link_text, marked, place_text, target_text}
+use Rattle.orc_trace_text.specs.TraceText.{IsLink, IsPlace, link_text, mark_text, place_text, target_text}
 use Rattle.orc_trace_text.proofs.Visible.{IsVisible, visible-append, visible-decimal}
 use Rattle.orc_trace_text.proofs.Words.{Lacks, cut-none, cut-unique, differs}
 use Rattle.orc_trace_text.specs.Reading.{Cuts}
@@ -81,14 +81,14 @@ visible-target : (b : Bounds) (to : Option ℕ) → IsShape b → IsTarget b to 
 visible-target b None s h = refl
 visible-target b (Some r) s h = let few = s.rows in let below = row_below b r h in visible-decimal r (omega arith)
 
-visible-marked : (m : Bool) (t : List ℕ) → IsVisible t → IsVisible (marked m t)
+visible-marked : (m : Bool) (t : List ℕ) → IsVisible t → IsVisible (mark_text m t)
 visible-marked true t h = visible-append t (codes "m") h refl
 visible-marked false t h = h
 
 pub visible-link : (b : Bounds) (l : RowLink) → IsShape b → IsLink b l → IsVisible (link_text l)
 visible-link b l s h = visible-marked l.mark (target_text l.to) (visible-target b l.to s h)
 
-pub marks-same : (m n : Bool) (t u : List ℕ) → Lacks 109 t → Lacks 109 u → marked m t ≡ marked n u → (m ≡ n) × (t ≡ u)
+pub marks-same : (m n : Bool) (t u : List ℕ) → Lacks 109 t → Lacks 109 u → mark_text m t ≡ mark_text n u → (m ≡ n) × (t ≡ u)
 marks-same true true t u h k e = (refl, (cut-unique 109 t u [] [] h k e).0)
 marks-same true false t u h k e = absurd (cut-none 109 u t [] k (sym e))
 marks-same false true t u h k e = absurd (cut-none 109 t u [] h e)
@@ -106,7 +106,7 @@ abbrev pub behind : Bool → Option (List ℕ)
 behind true = Some []
 behind false = None
 
-marks-cut : (m : Bool) (t text front : List ℕ) (rest : Option (List ℕ)) → Lacks 109 t → text ≡ marked m t → Cuts 109 text front rest
+marks-cut : (m : Bool) (t text front : List ℕ) (rest : Option (List ℕ)) → Lacks 109 t → text ≡ mark_text m t → Cuts 109 text front rest
     → (front ≡ t) × (rest ≡ behind m)
 marks-cut true t text front None h e cut = absurd (cut-none 109 front t [] cut.1 (sym cut.0 ∙ e))
 marks-cut true t text front (Some more) h e cut =

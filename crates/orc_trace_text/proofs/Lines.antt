@@ -8,7 +8,7 @@ use Rattle.orc_words.specs.Bounds.{Bounds, IsShape, bounds_of}
 use Rattle.orc_core.specs.declared.ops.Op.{Op}
 use Rattle.orc_trace_text.specs.Reading.{Cuts, EndsInLinks, words_in, words_left}
 use Rattle.orc_trace_text.specs.FirstLines.{HasShapeLine, HasStepLine}
-use Rattle.orc_trace_text.specs.TraceText.{AreWide, IsReadable, IsShapeText, IsWide, line_text, words_of}
+use Rattle.orc_trace_text.specs.TraceText.{AreWide, IsReadable, IsShapeText, IsWide, step_line, words_of}
 use Rattle.orc_trace_text.proofs.Spelled.{words_of-injective}
 use Rattle.orc_trace_text.proofs.Visible.{AreVisible, AreWords-visible, Lacks-joined, visible-decimal}
 use Rattle.orc_trace_text.proofs.VisibleWords.{visible-words}
@@ -19,13 +19,13 @@ use Rattle.orc_trace_text.proofs.Words.{Lacks, cut-unique, words-cut, words-join
 visible-line : (b : Bounds) (s : ℕ × Op) → IsShape b → IsReadable b s → AreVisible (decimal s.0 ∷ words_of s.1)
 visible-line b s shape h = let few = shape.agents in let agent = h.0 in (visible-decimal s.0 (omega arith), visible-words b s.1 shape h.1)
 
-pub line-words : (b : Bounds) (s : ℕ × Op) → IsShape b → IsReadable b s → words_in (line_text s.0 s.1) ≡ decimal s.0 ∷ words_of s.1
+pub line-words : (b : Bounds) (s : ℕ × Op) → IsShape b → IsReadable b s → words_in (step_line s.0 s.1) ≡ decimal s.0 ∷ words_of s.1
 line-words b s shape h = words-joined (decimal s.0) (words_of s.1) (AreWords-visible (decimal s.0 ∷ words_of s.1) (visible-line b s shape h))
 
-pub Lacks-line : (b : Bounds) (s : ℕ × Op) → IsShape b → IsReadable b s → Lacks 10 (line_text s.0 s.1)
+pub Lacks-line : (b : Bounds) (s : ℕ × Op) → IsShape b → IsReadable b s → Lacks 10 (step_line s.0 s.1)
 Lacks-line b s shape h = Lacks-joined (decimal s.0 ∷ words_of s.1) (visible-line b s shape h)
 
-line-same : (b : Bounds) (s t : ℕ × Op) → IsShape b → IsReadable b s → IsReadable b t → line_text s.0 s.1 ≡ line_text t.0 t.1 → s ≡ t
+line-same : (b : Bounds) (s t : ℕ × Op) → IsShape b → IsReadable b s → IsReadable b t → step_line s.0 s.1 ≡ step_line t.0 t.1 → s ≡ t
 line-same b s t shape h k e =
     let words : decimal s.0 ∷ words_of s.1 ≡ decimal t.0 ∷ words_of t.1 = sym (line-words b s shape h) ∙ ap words_in e ∙ line-words b t shape k in
     let few = shape.agents in
@@ -39,12 +39,12 @@ line-same b s t shape h k e =
 pub step-unique : (b : Bounds) (s t : ℕ × Op) (more other bytes : List ℕ) → IsShape b → HasStepLine b s more bytes → HasStepLine b t other bytes
     → (s ≡ t) × (more ≡ other)
 step-unique b s t more other bytes shape h k =
-    let cut = cut-unique 10 (line_text s.0 s.1) (line_text t.0 t.1) more other (Lacks-line b s shape h.readable) (Lacks-line b t shape k.readable)
+    let cut = cut-unique 10 (step_line s.0 s.1) (step_line t.0 t.1) more other (Lacks-line b s shape h.readable) (Lacks-line b t shape k.readable)
     (sym h.text ∙ k.text) in
     (line-same b s t shape h.readable k.readable cut.0, cut.1)
 
 -- a line that spells a step, cut at its first space
-pub line-parts : (b : Bounds) (s : ℕ × Op) (line front : List ℕ) (rest : Option (List ℕ)) → IsShape b → IsReadable b s → line ≡ line_text s.0 s.1
+pub line-parts : (b : Bounds) (s : ℕ × Op) (line front : List ℕ) (rest : Option (List ℕ)) → IsShape b → IsReadable b s → line ≡ step_line s.0 s.1
     → Cuts 32 line front rest
     → (front ≡ decimal s.0) × (words_left rest ≡ words_of s.1)
 line-parts b s line front rest shape h e cut =

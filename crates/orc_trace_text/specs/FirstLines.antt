@@ -5,7 +5,7 @@ use Rattle.orc_words.specs.Bounds.{Bounds, IsShape, IsFirstFault}
 use Rattle.orc_core.specs.declared.ops.Op.{Op}
 use Rattle.orc_trace_text.specs.declared.shape_line.ShapeWord.{ShapeWord}
 use Rattle.orc_trace_text.specs.declared.shape_line.ShapeWord.TheVariants as word
-use Rattle.orc_trace_text.specs.TraceText.{AreWide, IsReadable, IsShapeText, line_text}
+use Rattle.orc_trace_text.specs.TraceText.{AreWide, IsReadable, IsShapeText, step_line}
 
 -- the bytes begin with the line of a shape, its numbers in range or not
 pub record HasShapeLine (b : Bounds) (rest bytes : List ℕ) : Type 0 where
@@ -16,7 +16,7 @@ pub record HasShapeLine (b : Bounds) (rest bytes : List ℕ) : Type 0 where
 
 -- the bytes begin with the line of a step that can be read
 pub record HasStepLine (b : Bounds) (s : ℕ × Op) (rest bytes : List ℕ) : Type 0 where
-  pub text : bytes ≡ line_text s.0 s.1 ++ 10 ∷ rest
+  pub text : bytes ≡ step_line s.0 s.1 ++ 10 ∷ rest
   pub readable : IsReadable b s
 
 -- the bytes are the line of a shape in range, and then these lines

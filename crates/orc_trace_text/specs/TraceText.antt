@@ -24,13 +24,13 @@ target_text None = codes "-"
 target_text (Some r) = decimal r
 
 -- a text with `m` behind it where there is a mark
-abbrev pub marked : Bool → List ℕ → List ℕ
-marked true text = text ++ codes "m"
-marked false text = text
+abbrev pub mark_text : Bool → List ℕ → List ℕ
+mark_text true text = text ++ codes "m"
+mark_text false text = text
 
 -- a link: `-` or its row
 abbrev pub link_text : RowLink → List ℕ
-link_text l = marked l.mark (target_text l.to)
+link_text l = mark_text l.mark (target_text l.to)
 
 -- the words of a kind of step
 abbrev pub words_of : Op → List (List ℕ)
@@ -63,8 +63,8 @@ words_of (HandoverLook k) = codes "handover" ∷ decimal k ∷ []
 words_of (DecHeld r) = codes "decheld" ∷ decimal r ∷ []
 
 -- a step of an agent, on its line: the agent and the words, with one space between two of them
-abbrev pub line_text : ℕ → Op → List ℕ
-line_text a op = join_with_byte 32 (decimal a ∷ words_of op)
+abbrev pub step_line : ℕ → Op → List ℕ
+step_line a op = join_with_byte 32 (decimal a ∷ words_of op)
 
 -- a first line with these numbers
 abbrev pub shape_line : List ℕ → List ℕ
@@ -79,7 +79,7 @@ IsShapeText b text =
 -- steps, each line of them ended by a line feed
 abbrev pub steps_text : List (ℕ × Op) → List ℕ
 steps_text [] = []
-steps_text (s ∷ ss) = line_text s.0 s.1 ++ 10 ∷ steps_text ss
+steps_text (s ∷ ss) = step_line s.0 s.1 ++ 10 ∷ steps_text ss
 
 -- ---- which numbers can be read
 

@@ -6,7 +6,7 @@ ghost use Rattle.orc_words.specs.Bounds.{bounds_of};
 ghost use Rattle.orc_core.specs.declared.ops.Op.{Op};
 ghost use Rattle.orc_trace_text.specs.Reading.{Spells, words_left};
 ghost use Rattle.orc_trace_text.specs.FirstLines.{HasStepLine};
-ghost use Rattle.orc_trace_text.specs.TraceText.{IsReadable, line_text};
+ghost use Rattle.orc_trace_text.specs.TraceText.{IsReadable, step_line};
 
 use crate::argument::{number_below, one_number, read_link, read_place, row_and_link, two_numbers};
 use crate::cut::{cut, first_word, three_words, two_words};
@@ -196,8 +196,8 @@ fn op_of(shape: &Shape, kind: Kind, left: Option<&[u8]>) -> Option<Op>
 
 // The agent and the op that a line spells.
 fn step_of(shape: &Shape, line: &[u8]) -> Option<(u32, Op)>
-    ensures some { IfSome result (λ step. IsReadable (bounds_of shape.now) step × (line.now ≡ line_text step.0 step.1)) }
-    ensures none { IfNone result ((step : ℕ × Op) → IsReadable (bounds_of shape.now) step → line.now ≢ line_text step.0 step.1) }
+    ensures some { IfSome result (λ step. IsReadable (bounds_of shape.now) step × (line.now ≡ step_line step.0 step.1)) }
+    ensures none { IfNone result ((step : ℕ × Op) → IsReadable (bounds_of shape.now) step → line.now ≢ step_line step.0 step.1) }
 {
     let (agent, left) = cut(line, b' ');
     let agent = number_below(agent, shape.agents())?;

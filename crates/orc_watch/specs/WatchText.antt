@@ -8,15 +8,15 @@ use Rattle.orc_watch.specs.declared.reply.WatchWord.TheVariants as word
 use Rattle.orc_watch.specs.declared.text.CellNumbers.{CellNumbers}
 
 -- what came of a record
-abbrev pub word_of : WatchWord → List ℕ
-word_of (word.Set left right) = codes "set " ++ decimal left ++ codes " " ++ decimal right
-word_of (word.Saw left right) = codes "saw " ++ decimal left ++ codes " " ++ decimal right
-word_of word.NoNode = codes "nonode"
-word_of word.Spent = codes "spent"
+abbrev pub watch_word : WatchWord → List ℕ
+watch_word (word.Set left right) = codes "set " ++ decimal left ++ codes " " ++ decimal right
+watch_word (word.Saw left right) = codes "saw " ++ decimal left ++ codes " " ++ decimal right
+watch_word word.NoNode = codes "nonode"
+watch_word word.Spent = codes "spent"
 
 -- the line of a reply
 abbrev pub reply_line : WatchReply → List ℕ
-reply_line r = codes "worker " ++ decimal r.worker ++ codes " line " ++ decimal r.line ++ codes " " ++ word_of r.what ++ codes "\n"
+reply_line r = codes "worker " ++ decimal r.worker ++ codes " line " ++ decimal r.line ++ codes " " ++ watch_word r.what ++ codes "\n"
 
 -- the line of both parts at last
 abbrev pub now_line : ℕ → ℕ → List ℕ
@@ -31,5 +31,5 @@ rest_lines None = []
 rest_lines (Some n) = codes "rest\n" ++ cell_line n.given n.reused n.linked
 
 -- the text of these replies and these parts
-abbrev pub text_of : List WatchReply → ℕ → ℕ → Option CellNumbers → List ℕ
-text_of replies left right rest = codes "watch\n" ++ flat_map reply_line replies ++ now_line left right ++ rest_lines rest
+abbrev pub watch_report : List WatchReply → ℕ → ℕ → Option CellNumbers → List ℕ
+watch_report replies left right rest = codes "watch\n" ++ flat_map reply_line replies ++ now_line left right ++ rest_lines rest

@@ -3,7 +3,7 @@ ghost use Rattle.std.specs.Prelude.{◌≡◌, ◌++◌, IfOk, OnOk, Some};
 ghost use Rattle.std.specs.Option.{option_copied};
 ghost use Rattle.std.specs.List.{flat_map};
 ghost use Rattle.std.specs.String.{string_bytes};
-ghost use Rattle.orc_watch.specs.WatchText.{cell_line, now_line, reply_line, rest_lines, text_of};
+ghost use Rattle.orc_watch.specs.WatchText.{cell_line, now_line, reply_line, rest_lines, watch_report};
 
 use crate::{WatchList, WatchReply, WatchWord};
 use orc_fault::NoMemory;
@@ -30,7 +30,7 @@ pub fn watch_text(
     now_right: u64,
     rest: Option<&CellNumbers>,
 ) -> Result<Text, NoMemory>
-    ensures { IfOk result (λ t. t ≡ text_of replies.now.items now_left now_right (option_copied rest.entry)) }
+    ensures { IfOk result (λ t. t ≡ watch_report replies.now.items now_left now_right (option_copied rest.entry)) }
 {
     let text = write_text(alloc, replies.items(), now_left, now_right, rest)?;
     Ok(Text::from_string(text))
@@ -44,7 +44,7 @@ fn write_text(
     now_right: u64,
     rest: Option<&CellNumbers>,
 ) -> Result<String, AllocError>
-    ensures { IfOk result (λ t. string_bytes t ≡ text_of replies.now now_left now_right (option_copied rest.entry)) }
+    ensures { IfOk result (λ t. string_bytes t ≡ watch_report replies.now now_left now_right (option_copied rest.entry)) }
 {
     let mut text = String::from_str(alloc, "watch\n")?;
     push_replies(&mut text, replies)?;

@@ -24,7 +24,7 @@ use Rattle.orc_watch_run.specs.CameBack.{AllCameBack, AreNumbered, IsBack, IsNew
 use Rattle.orc_watch_run.specs.CellView.{cell_view, of_cell}
 use Rattle.orc_watch_run.specs.Follows.{EndsWithRead, IsInRun}
 use Rattle.orc_watch_run.specs.Learning.{LawsTell, IsOther, LearnsAll, SameWorker}
-use Rattle.orc_watch_run.specs.Passes.{IsPassOf}
+use Rattle.orc_watch_run.specs.Passes.{IsUsablePassOf}
 use Rattle.orc_watch_run.specs.Team.{DidWork}
 use Rattle.orc_watch_run.specs.declared.team.Worker.{Worker}
 use Rattle.orc_watch_run.proofs.Beside.{told_first, told_more}
@@ -131,7 +131,7 @@ pub came_back : {L D P S : Type 0} (m : LinksOf L D P S PairsNote) (links : L) (
     → LearnsAll m links 0 p0 p1 vs us → Pairwise SameWorker vs us
     → Stretch of_cell (cell_view m links) 0 (Seen 0 a b ∷ []) (m.journal p1) (m.journal p2)
     → LearnsAll m links 0 p2 p3 us ts → Pairwise SameWorker us ts
-    → IsPassOf m links 0 p3 → LawsTell m links p3 → AllByRecursion (IsOther m links 0) ts
+    → IsUsablePassOf m links 0 p3 → LawsTell m links p3 → AllByRecursion (IsOther m links 0) ts
     → AllCameBack m links lines workers p3 a b ts
 came_back {P = P} {S = S} m links lines workers p0 p1 p2 p3 a b ws vs us ts laws below1 below3 new num many fresh did l1 same1 read l2 same2 pass known others =
     let C : ℕ → Type 0 = IsInRun workers in

@@ -19,7 +19,7 @@ use Rattle.orc_watch.specs.declared.reply.WatchReply.{WatchReply}
 use Rattle.orc_watch_run.specs.CameBack.{AllCameBack, AreNumbered, IsBack, IsTold}
 use Rattle.orc_watch_run.specs.CellView.{cell_view}
 use Rattle.orc_watch_run.specs.Follows.{AreInOrder, CellShare, IsInRun, IsReplyShare, Watching, replies_of}
-use Rattle.orc_watch_run.specs.Passes.{AreUsable, FollowsPasses, HaveSeen, HaveSeenTheSame, IsPassOf}
+use Rattle.orc_watch_run.specs.Passes.{AreUsable, FollowsPasses, HaveSeen, HaveSeenTheSame, IsUsablePassOf}
 use Rattle.orc_watch_run.specs.declared.team.Worker.{Worker}
 use Rattle.orc_board.proofs.Workers.{own-many}
 use Rattle.orc_workers.proofs.Blocks.{AreKeyed, all_blocks, block_of, blocks, blocks_by_key, blocks_cons, nth_of}
@@ -172,7 +172,7 @@ passes_usable : {L D P S : Type 0} (m : LinksOf L D P S PairsNote) (links : L) (
     → AllByRecursion (IsBack m links k) ws → AreUsable m links a (map (λ (w : Worker P). w.pass) ws)
 passes_usable m links k a [] num h = tt
 passes_usable m links k a (w ∷ ws) num h =
-    (subst (λ (n : ℕ). IsPassOf m links n w.pass) num.0 h.0.is_pass, passes_usable m links k (suc a) ws num.1 h.1)
+    (subst (λ (n : ℕ). IsUsablePassOf m links n w.pass) num.0 h.0.is_pass, passes_usable m links k (suc a) ws num.1 h.1)
 
 passes_seen : {L D P S : Type 0} (m : LinksOf L D P S PairsNote) (links : L) (k : List S) (ws : List (Worker P)) → AllByRecursion (IsBack m links k) ws
     → HaveSeen m links k (map (λ (w : Worker P). w.pass) ws)

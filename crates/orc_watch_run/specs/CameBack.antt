@@ -13,13 +13,13 @@ use Rattle.orc_watch.specs.declared.line.WatchLine.{WatchLine}
 use Rattle.orc_watch.specs.declared.reply.WatchReply.{WatchReply}
 use Rattle.orc_watch_run.specs.CellView.{cell_view}
 use Rattle.orc_watch_run.specs.Follows.{EndsWithRead, IsInRun, Watching}
-use Rattle.orc_watch_run.specs.Passes.{IsPassOf}
+use Rattle.orc_watch_run.specs.Passes.{IsUsablePassOf}
 use Rattle.orc_watch_run.specs.declared.team.Worker.{Worker}
 use Rattle.orc_workers.specs.Team.{NumberedFrom}
 
 -- workers of the agents in order from this one
 abbrev pub AreNumbered : {P : Type 0} → ℕ → List (Worker P) → Type 0
-AreNumbered agent ws = NumberedFrom (λ (w : Worker P). w.agent) agent ws
+AreNumbered {P = P} agent ws = NumberedFrom (λ (w : Worker P). w.agent) agent ws
 
 -- what a worker did, as this journal tells of it from its beginning
 pub record IsTold {A : Type 0} (x : View A CellEntry CellRefused) (lines : List WatchLine) (workers agent : ℕ) (replies : List WatchReply) (k : List A)
@@ -34,12 +34,12 @@ module _ {L D P S : Type 0} (members : LinksOf L D P S PairsNote) (links : L) wh
 
   -- a worker at the end: a usable pass that has seen this journal
   pub record IsBack (k : List S) (w : Worker P) : Type 0 where
-    pub is_pass : IsPassOf members links w.agent w.pass
+    pub is_pass : IsUsablePassOf members links w.agent w.pass
     pub seen : members.journal w.pass ≡ k
 
   -- what the caller and the workers have come to
   pub record AllCameBack (lines : List WatchLine) (workers : ℕ) (p : P) (left right : ℕ) (ws : List (Worker P)) : Type 0 where
-    pub caller : IsPassOf members links 0 p
+    pub caller : IsUsablePassOf members links 0 p
     pub numbered : AreNumbered 1 ws
     pub back : AllByRecursion (IsBack (members.journal p)) ws
     pub told : AllByRecursion

@@ -30,7 +30,7 @@ AsksToPublish (line.Both first second) left right = (left ≡ Some first) × (ri
 AsksToPublish line.See left right = ⊥
 
 -- the line asks to publish these parts, and both parts are these since
-pub record IsPublished (agent : ℕ) (line : WatchLine) (x y : ℕ) (share : CellShare) : Type 0 where
+pub record IsPublishedByLine (agent : ℕ) (line : WatchLine) (x y : ℕ) (share : CellShare) : Type 0 where
   pub left : Option ℕ
   pub right : Option ℕ
   pub asks : AsksToPublish line left right
@@ -45,7 +45,7 @@ pub record IsRefusedPublish (line : WatchLine) (why : CellRefused) (share : Cell
 
 -- what the reply to a line says of the cell
 abbrev pub IsAnswer : ℕ → WatchLine → WatchWord → CellShare → Type 0
-IsAnswer agent l (word.Set x y) share = IsPublished agent l x y share
+IsAnswer agent l (word.Set x y) share = IsPublishedByLine agent l x y share
 IsAnswer agent l (word.Saw x y) share = (l ≡ line.See) × (share ≡ just (Seen agent x y ∷ []))
 IsAnswer agent l word.NoNode share = IsRefusedPublish l refused.NoNode share
 IsAnswer agent l word.Spent share = (why : SpentRow) × IsRefusedPublish l (refused.Spent why) share

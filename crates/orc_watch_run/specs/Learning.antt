@@ -8,7 +8,7 @@ use Rattle.orc_pairs_rule.specs.CellHistory.{IsLegalCell, agent_of_entry}
 use Rattle.orc_pairs_rule.specs.PairsDiscipline.{entries_of}
 use Rattle.orc_pairs_rule.specs.declared.pairs.PairsNote.{PairsNote}
 use Rattle.orc_workers.specs.Learning.{Learned, LearnedAll}
-use Rattle.orc_watch_run.specs.Passes.{IsPassOf}
+use Rattle.orc_watch_run.specs.Passes.{IsUsablePassOf}
 use Rattle.orc_watch_run.specs.declared.team.Worker.{Worker}
 
 -- at most the pass has changed
@@ -19,7 +19,7 @@ pub record SameWorker {P : Type 0} (w v : Worker P) : Type 0 where
 module _ {L D P S : Type 0} (members : LinksOf L D P S PairsNote) (links : L) where
   -- a worker with a usable pass of its own, which is another agent than this one
   pub record IsOther (me : ℕ) (w : Worker P) : Type 0 where
-    pub is_pass : IsPassOf members links w.agent w.pass
+    pub is_pass : IsUsablePassOf members links w.agent w.pass
     pub other : me ≢ w.agent
 
   -- what is known of the journal that a pass of the cell has seen

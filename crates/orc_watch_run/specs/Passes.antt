@@ -12,13 +12,13 @@ use Rattle.orc_watch_run.specs.Follows.{WatchRepliesFollow}
 
 module _ {L D P S : Type 0} (members : LinksOf L D P S PairsNote) (links : L) where
   -- a usable pass of this agent
-  pub record IsPassOf (by : ℕ) (p : P) : Type 0 where
+  pub record IsUsablePassOf (by : ℕ) (p : P) : Type 0 where
     pub usable : IsUsable members links p
     pub agent_is : agent members links p ≡ by
 
   -- one that has seen no entry
   pub record IsFreshPass (by : ℕ) (p : P) : Type 0 where
-    pub is_pass : IsPassOf by p
+    pub is_pass : IsUsablePassOf by p
     pub new : history members links p ≡ []
 
   -- one fresh pass per agent, in order from this one
@@ -29,7 +29,7 @@ module _ {L D P S : Type 0} (members : LinksOf L D P S PairsNote) (links : L) wh
   -- one usable pass per agent, in order from this one
   abbrev pub AreUsable : ℕ → List P → Type 0
   AreUsable by [] = Unit {0}
-  AreUsable by (p ∷ ps) = IsPassOf by p × AreUsable (suc by) ps
+  AreUsable by (p ∷ ps) = IsUsablePassOf by p × AreUsable (suc by) ps
 
   -- the journal that the first pass has seen
   abbrev pub first_seen : List P → List S

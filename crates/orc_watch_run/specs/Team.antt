@@ -5,7 +5,7 @@ use Rattle.orc_heap.specs.declared.links.Links.{Ghosts as LinksOf}
 use Rattle.orc_pairs_rule.specs.declared.pairs.PairsNote.{PairsNote}
 use Rattle.orc_watch.specs.declared.line.WatchLine.{WatchLine}
 use Rattle.orc_watch.specs.declared.reply.WatchReply.{WatchReply}
-use Rattle.orc_watch_run.specs.Passes.{IsPassOf}
+use Rattle.orc_watch_run.specs.Passes.{IsUsablePassOf}
 use Rattle.orc_watch_run.specs.WatchCalls.{Watches}
 use Rattle.orc_watch_run.specs.declared.team.Worker.{Worker}
 
@@ -15,7 +15,7 @@ module _ {L D P S : Type 0} (members : LinksOf L D P S PairsNote) (links : L) (l
     pub few : length lines ≤ 65535
     pub no_caller : 1 ≤ w.agent
     pub in_run : w.agent ≤ workers
-    pub is_pass : IsPassOf members links w.agent w.pass
+    pub is_pass : IsUsablePassOf members links w.agent w.pass
     pub none : w.replies.items ≡ []
     pub room : length (own_records workers w.agent (length lines)) ≤ w.replies.spare
 
@@ -23,6 +23,6 @@ module _ {L D P S : Type 0} (members : LinksOf L D P S PairsNote) (links : L) (l
   pub record DidWork (w v : Worker P) : Type 0 where
     pub agent_is : v.agent ≡ w.agent
     pub no_caller : 1 ≤ v.agent
-    pub is_pass : IsPassOf members links v.agent v.pass
+    pub is_pass : IsUsablePassOf members links v.agent v.pass
     pub watched : Watches members links w.pass v.pass lines v.agent v.replies.items
     pub in_file_order : map (λ (r : WatchReply). r.line) v.replies.items ≡ own_records workers v.agent (length lines)

@@ -4,7 +4,7 @@ ghost use Rattle.std.specs.Prelude.{◌≡◌, vec_len};
 ghost use Rattle.std.specs.List.{AllByRecursion};
 ghost use Rattle.orc_history.specs.Lists.{Pairwise};
 ghost use Rattle.orc_watch_run.specs.Learning.{LawsTell, IsOther, LearnsAll, LearnsOnce, SameWorker};
-ghost use Rattle.orc_watch_run.specs.Passes.{IsPassOf};
+ghost use Rattle.orc_watch_run.specs.Passes.{IsUsablePassOf};
 
 use crate::team::Worker;
 use orc_cell::Cell;
@@ -18,9 +18,9 @@ fn learn_once<L: Links<Rule = Pairs>>(
     pass: &mut L::Pass,
     others: &mut [Worker<L::Pass>],
 )
-    requires pass { IsPassOf L.Links cell.now.links me pass.old }
+    requires pass { IsUsablePassOf L.Links cell.now.links me pass.old }
     requires others { AllByRecursion (IsOther L.Links cell.now.links me) others.old }
-    ensures pass { IsPassOf L.Links cell.now.links me pass.new }
+    ensures pass { IsUsablePassOf L.Links cell.now.links me pass.new }
     ensures others { AllByRecursion (IsOther L.Links cell.now.links me) others.new }
     ensures same { Pairwise SameWorker others.old others.new }
     ensures learned { LearnsOnce L.Links cell.now.links me pass.old pass.new others.old others.new }
@@ -39,9 +39,9 @@ fn learn_all<L: Links<Rule = Pairs>>(
     pass: &mut L::Pass,
     others: &mut [Worker<L::Pass>],
 )
-    requires pass { IsPassOf L.Links cell.now.links me pass.old }
+    requires pass { IsUsablePassOf L.Links cell.now.links me pass.old }
     requires others { AllByRecursion (IsOther L.Links cell.now.links me) others.old }
-    ensures pass { IsPassOf L.Links cell.now.links me pass.new }
+    ensures pass { IsUsablePassOf L.Links cell.now.links me pass.new }
     ensures others { AllByRecursion (IsOther L.Links cell.now.links me) others.new }
     ensures same { Pairwise SameWorker others.old others.new }
     ensures learned { LearnsAll L.Links cell.now.links me pass.old pass.new others.old others.new }
@@ -57,9 +57,9 @@ pub(crate) fn learn_from_team<L: Links<Rule = Pairs>>(
     pass: &mut L::Pass,
     others: &mut Vec<Worker<L::Pass>>,
 )
-    requires pass { IsPassOf L.Links cell.now.links me pass.old }
+    requires pass { IsUsablePassOf L.Links cell.now.links me pass.old }
     requires others { AllByRecursion (IsOther L.Links cell.now.links me) others.old.items }
-    ensures pass { IsPassOf L.Links cell.now.links me pass.new }
+    ensures pass { IsUsablePassOf L.Links cell.now.links me pass.new }
     ensures known { LawsTell L.Links cell.now.links pass.new }
     ensures others { AllByRecursion (IsOther L.Links cell.now.links me) others.new.items }
     ensures same { Pairwise SameWorker others.old.items others.new.items }

@@ -2,7 +2,7 @@
 
 ghost use Rattle.std.specs.Prelude.{◌≡◌, ◌+◌, ◌≤◌, [], length, map};
 ghost use Rattle.orc_board.specs.Follows.{own_records};
-ghost use Rattle.orc_watch_run.specs.Passes.{IsPassOf};
+ghost use Rattle.orc_watch_run.specs.Passes.{IsUsablePassOf};
 ghost use Rattle.orc_watch_run.specs.WatchCalls.{Watches};
 
 use crate::answer::answer_line;
@@ -24,12 +24,12 @@ pub fn watch_lines<R: Wait, L: Links<Rule = Pairs>, G: Gate>(
     gate: &G,
     replies: &mut WatchList,
 )
-    requires pass { IsPassOf L.Links cell.now.links worker pass.old }
+    requires pass { IsUsablePassOf L.Links cell.now.links worker pass.old }
     requires few { length lines.now ≤ 65535 }
     requires worker { (1 ≤ worker) × (worker ≤ workers) }
     requires none { replies.old.items ≡ [] }
     requires room { length (own_records workers worker (length lines.now)) ≤ replies.old.spare }
-    ensures pass { IsPassOf L.Links cell.now.links worker pass.new }
+    ensures pass { IsUsablePassOf L.Links cell.now.links worker pass.new }
     ensures watched { Watches L.Links cell.now.links pass.old pass.new lines.now worker replies.new.items }
     ensures in_file_order { map (λ r. r.line) replies.new.items ≡ own_records workers worker (length lines.now) }
     ensures spare { length replies.new.items + replies.new.spare ≡ replies.old.spare }

@@ -24,7 +24,7 @@ use Rattle.orc_board.specs.Runs.{Ran}
 
 -- workers of the agents in order from this one
 abbrev pub AreNumbered : {P R : Type 0} → ℕ → List (Worker P R) → Type 0
-AreNumbered agent ws = NumberedFrom (λ (w : Worker P R). w.agent) agent ws
+AreNumbered {P = P} {R = R} agent ws = NumberedFrom (λ (w : Worker P R). w.agent) agent ws
 
 -- a worker's passes have seen no entry
 pub record IsNew {Q S P R A B : Type 0} (q : QueueOf Q P A) (s : SetOf S R B) (queue rush : Q) (set : S) (w : Worker P R) : Type 0 where

@@ -17,6 +17,6 @@ pub record IsStopped {L D P S N : Type 0} (members : LinksOf L D P S N) (links :
   pub slots : HoldsOnly held (members.seat links p).slots
 
 -- the pass of a stopped agent of a cell: it has staged this part, or nothing
-abbrev pub HasStopped : {L D P S : Type 0} → LinksOf L D P S PairsNote → L → Option Hold → P → Type 0
-HasStopped members links None p = IsUsable members links p
-HasStopped members links (Some h) p = StagesPart members links h p
+abbrev pub StoppedAtCell : {L D P S : Type 0} → LinksOf L D P S PairsNote → L → Option Hold → P → Type 0
+StoppedAtCell members links None p = IsUsable members links p
+StoppedAtCell members links (Some h) p = StagesPart members links h p

@@ -4,7 +4,7 @@ ghost use Rattle.std.specs.Prelude.{◌≡◌, length};
 ghost use Rattle.orc_cell.specs.CellCalls.{IsUsable};
 ghost use Rattle.orc_heap.specs.Domains.{agent};
 ghost use Rattle.orc_stress.specs.Passes.{AreReady};
-ghost use Rattle.stress.specs.Stops.{HasStopped};
+ghost use Rattle.stress.specs.Stops.{StoppedAtCell};
 
 use crate::calls::call_cell;
 use crate::runs::{Resting, rested};
@@ -45,7 +45,7 @@ impl<L: Domain<Rule = Pairs>> Container for DrivenCell<L> {
 
     ghost agent_of = { λ c p. agent L.Links c.cell.links p };
 
-    ghost stopped = { λ c hold p. HasStopped L.Links c.cell.links hold p };
+    ghost stopped = { λ c hold p. StoppedAtCell L.Links c.cell.links hold p };
 
     fn agent(&self, p: &L::Pass) -> u32 {
         self.cell.links().agent(p)

@@ -2,7 +2,7 @@
 
 ghost use Rattle.std.specs.Prelude.{◌≡◌, ◌+◌, ◌≤◌, All, IfSome, length};
 ghost use Rattle.std.specs.Thread.{IsSync};
-ghost use Rattle.workers_bench.specs.Usable.{IsUsable};
+ghost use Rattle.workers_bench.specs.Usable.{MayCallBoth};
 
 use orc_history::{SharedQueue, SharedSet};
 use std::thread::{Threads, join};
@@ -47,7 +47,7 @@ pub(crate) fn next_passes<Q: SharedQueue, S: SharedSet>(
     requires set { All (λ p. S.usable set.now p) set_passes.old.items }
     ensures queue { All (λ p. Q.usable queue.now p) queue_passes.new.items }
     ensures set { All (λ p. S.usable set.now p) set_passes.new.items }
-    ensures passes { IfSome result (IsUsable Q.SharedQueue S.SharedSet queue.now set.now) }
+    ensures passes { IfSome result (MayCallBoth Q.SharedQueue S.SharedSet queue.now set.now) }
     ensures fewer { IfSome result (λ p. length queue_passes.old.items ≡ length queue_passes.new.items + 1) }
 {
     let queue = next_queue_pass(queue, queue_passes)?;
@@ -64,7 +64,7 @@ fn post_bare<Q: SharedQueue, S: SharedSet>(
     first: u32,
     step: u32,
 )
-    requires passes { IsUsable Q.SharedQueue S.SharedSet queue.now set.now passes }
+    requires passes { MayCallBoth Q.SharedQueue S.SharedSet queue.now set.now passes }
     requires some { 1 ≤ step }
 {
     for index in 0..posts {
@@ -98,7 +98,7 @@ where
     };
     let first = u32::try_from(queue_passes.len()).unwrap_or(0);
     let one = move ||
-        requires { IsUsable Q.SharedQueue S.SharedSet queue.now set.now passes × (1 ≤ threads) }
+        requires { MayCallBoth Q.SharedQueue S.SharedSet queue.now set.now passes × (1 ≤ threads) }
     { post_bare(queue, set, passes, posts, first, threads) };
     let others = move ||
         requires { IsSync R.row × All (λ p. Q.usable queue.now p) queue_passes.items
@@ -114,7 +114,7 @@ pub(crate) fn take_bare<Q: SharedQueue, S: SharedSet>(
     mut passes: Passes<Q::Pass, S::Pass>,
     posts: u32,
 ) -> u64
-    requires passes { IsUsable Q.SharedQueue S.SharedSet queue.now set.now passes }
+    requires passes { MayCallBoth Q.SharedQueue S.SharedSet queue.now set.now passes }
 {
     let mut taken: u64 = 0;
     for _call in 0..posts {

@@ -6,7 +6,7 @@ ghost use Rattle.orc_core.specs.declared.ops.CounterUse.{CounterUse};
 ghost use Rattle.orc_words.specs.declared.place.Word.{Word};
 ghost use Rattle.orc_trace_text.specs.FirstLines.{IsFirstOut};
 ghost use Rattle.orc_trace_text.specs.Reading.{Cuts, words_in, words_left};
-ghost use Rattle.orc_trace_text.specs.TraceText.{IsReadable, IsShapeText, line_text, place_text, link_text, steps_text};
+ghost use Rattle.orc_trace_text.specs.TraceText.{IsReadable, IsShapeText, step_line, place_text, link_text, steps_text};
 
 use orc_core::{CounterUse, Op};
 use orc_trace_text::*;
@@ -22,13 +22,13 @@ fn lines()
     ensures marked { link_text (record { to = Some 2; mark = true }) ≡ codes "2m" }
     ensures null { link_text (record { to = None; mark = false }) ≡ codes "-" }
     ensures not_marked { link_text (record { to = Some 2; mark = false }) ≢ codes "2m" }
-    ensures publish { line_text 1 (Op.Publish 2 0) ≡ codes "1 publish 2 0" }
-    ensures cas { line_text 0 (Op.LinkCas (Word.Next 0) (record { to = None; mark = false }) (record { to = Some 1; mark = true })) ≡ codes "0 cas n0 - 1m" }
-    ensures store { line_text 0 (Op.LinkStore 1 (record { to = None; mark = false }) 0) ≡ codes "0 store 1 -" }
-    ensures side_store { line_text 0 (Op.LinkStore 1 (record { to = Some 0; mark = false }) 1) ≡ codes "0 side 1 0" }
-    ensures moveon { line_text 1 (Op.MoveOn 2 0) ≡ codes "1 moveon 2 0" }
-    ensures handover { line_text 1 (Op.HandoverLook 2) ≡ codes "1 handover 2" }
-    ensures decheld { line_text 0 (Op.DecHeld 1) ≡ codes "0 decheld 1" }
+    ensures publish { step_line 1 (Op.Publish 2 0) ≡ codes "1 publish 2 0" }
+    ensures cas { step_line 0 (Op.LinkCas (Word.Next 0) (record { to = None; mark = false }) (record { to = Some 1; mark = true })) ≡ codes "0 cas n0 - 1m" }
+    ensures store { step_line 0 (Op.LinkStore 1 (record { to = None; mark = false }) 0) ≡ codes "0 store 1 -" }
+    ensures side_store { step_line 0 (Op.LinkStore 1 (record { to = Some 0; mark = false }) 1) ≡ codes "0 side 1 0" }
+    ensures moveon { step_line 1 (Op.MoveOn 2 0) ≡ codes "1 moveon 2 0" }
+    ensures handover { step_line 1 (Op.HandoverLook 2) ≡ codes "1 handover 2" }
+    ensures decheld { step_line 0 (Op.DecHeld 1) ≡ codes "0 decheld 1" }
     ensures steps { steps_text ((0, Op.Enroll) ∷ (0, Op.CounterLoad 0 CounterUse.Start) ∷ []) ≡ codes "0 enroll\n0 start 0\n" }
 {}
 

@@ -7,14 +7,14 @@ use Rattle.mooringakee_c_passes.specs.declared.answer.Answer.{Answer}
 use Rattle.mooringakee_c_passes.specs.declared.answer.Answer.TheVariants.{Done, Kept, NoMemory, NoPass, Others}
 use Rattle.mooringakee_c_passes.specs.declared.seat.Seat.{Seat}
 use Rattle.mooringakee_c_passes.proofs.Saying.{says_of}
-use Rattle.mooringakee_c.specs.Closing.{Closes, TellsOf}
+use Rattle.mooringakee_c.specs.Closing.{ClosesPass, TellsOf}
 use Rattle.mooringakee_c.specs.declared.Counts.{Counts}
 use Rattle.mooringakee_c.proofs.mooringakee_proved_close.Goals as goal
 
 -- the pass was closed, or there was none
 says_closed : (counts : Counts) (old new before : Option Seat) (answer : Answer) (code : ℤ) → code ≡ code_of answer → old ≡ before → new ≡ None
-    → Closes counts before answer None → Says (to_z w32 (of_z w32 code)) (λ a. Closes counts old a new)
-says_closed counts old new before answer code is was left done = says_of (Closes counts) old new before None answer code is was left done
+    → ClosesPass counts before answer None → Says (to_z w32 (of_z w32 code)) (λ a. ClosesPass counts old a new)
+says_closed counts old new before answer code is was left done = says_of (ClosesPass counts) old new before None answer code is was left done
 
 -- these are the counts of this container
 told_of : (told : RowCounts) → TellsOf told (record { given = told.given; reused = told.reused; linked = told.linked })

@@ -34,7 +34,7 @@ use Rattle.orc_ordered_chains.proofs.Unlinking.{chains_unlink, live_before_unlin
 use Rattle.orc_split_rule.specs.declared.split.SplitNote.{SplitNote}
 use Rattle.orc_split_rule.specs.declared.split.SplitNote.TheVariants.{Anchor, Bucket, Entry, Grow, Unlink}
 use Rattle.orc_split_rule.specs.SplitOrder.{dummy_place, key_place, split_order}
-use Rattle.orc_split_rule.specs.SplitDiscipline.{AreBuckets, HasKey, HasValues, IsOwnEntry, MayAct, MayAdd, MayAnchor, MayGrow, MayMakeBucket, MayRemove, SplitHolds, SplitMay, entries_of, greatest, place_in, set_after, split_rank}
+use Rattle.orc_split_rule.specs.SplitDiscipline.{AreBuckets, HasKey, HasValues, IsOwnEntry, MayAct, MayAdd, MayAnchor, MayGrow, MayMakeBucket, MayRemove, SplitHolds, SplitMay, entries_of, greatest, split_place_of, set_after, split_rank}
 use Rattle.orc_split_rule.specs.Laws.Buckets.{IsLaid, anchor_still, buckets_anchor, buckets_grow, buckets_moved, buckets_unmoved, grow_still}
 use Rattle.orc_split_rule.specs.Laws.Kinds.{each_kind}
 use Rattle.orc_split_rule.specs.Laws.Sets.{IsLiveKey, IsSetOf, entries_more, entries_same, live_present, present_live, set_added, set_more, set_removed, set_same}
@@ -405,7 +405,7 @@ split_keeps n seen e holds may =
     }
 
 -- links lead to greater places
-pub rank_at : (h : Heap) (id rank : ℕ) → HasRank split_order h id rank → place_in (slice_get h.nodes id) ≡ rank
+pub rank_at : (h : Heap) (id rank : ℕ) → HasRank split_order h id rank → split_place_of (slice_get h.nodes id) ≡ rank
 rank_at h id rank r = rw r.there (ap (λ (o : Option ℕ). unwrap_or o 0) r.rank_is)
 
 pub split_rises : (n : HeapNumbers) (seen : List (Event SplitNote)) → SplitHolds n seen → Rises (split_rank n seen) (run_heap n seen)

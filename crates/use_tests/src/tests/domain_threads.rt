@@ -3,7 +3,7 @@
 ghost use Rattle.std.specs.Prelude.{◌≡◌, ◌≤◌, All, IfOk, IfSome};
 ghost use Rattle.orc_words.specs.Bounds.{bounds_of};
 ghost use Rattle.orc_plain_domain.specs.Passes.{IsPassOf, domain_numbers, seat_of};
-ghost use Rattle.use_tests.specs.Ready.{IsReady};
+ghost use Rattle.use_tests.specs.Ready.{HasEmptyRoot};
 
 use links_example::{OwnRoots, PushRefused, through_a_stack};
 use orc_fault::NoMemory;
@@ -22,7 +22,7 @@ type Pass = PlainPass<OwnRoots>;
 fn with_roots(alloc: Global, shape: &Shape) -> Result<(Domain, Vec<Pass>), NoMemory>
     requires roots { (bounds_of shape.now).agents ≤ (bounds_of shape.now).roots }
     ensures pass { IfOk result (λ made. All (λ p. IsPassOf made.0 p) made.1.items) }
-    ensures ready { IfOk result (λ made. All (λ p. IsReady (domain_numbers made.0) (seat_of made.0 p)) made.1.items) }
+    ensures ready { IfOk result (λ made. All (λ p. HasEmptyRoot (domain_numbers made.0) (seat_of made.0 p)) made.1.items) }
 {
     Domain::make(alloc, shape, Seed::Empty)
 }
@@ -30,11 +30,11 @@ fn with_roots(alloc: Global, shape: &Shape) -> Result<(Domain, Vec<Pass>), NoMem
 // Answers the last of the domain's new passes.
 fn next_pass(domain: &Domain, passes: &mut Vec<Pass>) -> Option<Pass>
     requires pass { All (λ p. IsPassOf domain.now p) passes.old.items }
-    requires ready { All (λ p. IsReady (domain_numbers domain.now) (seat_of domain.now p)) passes.old.items }
+    requires ready { All (λ p. HasEmptyRoot (domain_numbers domain.now) (seat_of domain.now p)) passes.old.items }
     ensures pass { All (λ p. IsPassOf domain.now p) passes.new.items }
-    ensures ready { All (λ p. IsReady (domain_numbers domain.now) (seat_of domain.now p)) passes.new.items }
+    ensures ready { All (λ p. HasEmptyRoot (domain_numbers domain.now) (seat_of domain.now p)) passes.new.items }
     ensures popped { IfSome result (λ p. IsPassOf domain.now p) }
-    ensures next { IfSome result (λ p. IsReady (domain_numbers domain.now) (seat_of domain.now p)) }
+    ensures next { IfSome result (λ p. HasEmptyRoot (domain_numbers domain.now) (seat_of domain.now p)) }
 {
     passes.pop()
 }
@@ -47,7 +47,7 @@ fn through_own_stack(
     upper: u64,
 ) -> Result<(u64, u64), PushRefused>
     requires pass { IsPassOf domain.now p.old }
-    requires ready { IsReady (domain_numbers domain.now) (seat_of domain.now p.old) }
+    requires ready { HasEmptyRoot (domain_numbers domain.now) (seat_of domain.now p.old) }
     ensures pass { IsPassOf domain.now p.new }
     ensures read { IfOk result (λ got. got ≡ (upper, lower)) }
 {
@@ -65,7 +65,7 @@ fn on_two_threads<R: Threads + Sync>(
     Result<(u64, u64), PushRefused>,
 )
     requires pass { IsPassOf domain.now one.old × IsPassOf domain.now two.old }
-    requires ready { IsReady (domain_numbers domain.now) (seat_of domain.now one.old) × IsReady (domain_numbers domain.now) (seat_of domain.now two.old) }
+    requires ready { HasEmptyRoot (domain_numbers domain.now) (seat_of domain.now one.old) × HasEmptyRoot (domain_numbers domain.now) (seat_of domain.now two.old) }
 {
     join_mut(
         rt,

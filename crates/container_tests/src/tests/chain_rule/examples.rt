@@ -14,7 +14,7 @@ ghost use Rattle.orc_ordered_chains.specs.Chains.{IsPath, IsRun};
 ghost use Rattle.orc_chain_rule.specs.ChainDiscipline.{ChainMay, FollowsOn, IsAbove, IsOnNoChain, IsPresent, MayAct, entries_of, key_of, set_after};
 ghost use Rattle.orc_chain_rule.specs.Counts.{AreLeftOver, IsLeftOver, adds_in, entries_of_others, removes_in, unlinks_in};
 ghost use Rattle.orc_chain_rule.specs.Watches.{LeavesOut};
-ghost use Rattle.container_tests.specs.ChainHeaps.{added, leads_root, linked, marked, new_node, run_of_two, two_roots};
+ghost use Rattle.container_tests.specs.ChainHeaps.{added, leads_root, linked_node, marked_link, unlinked_node, run_of_two, two_roots};
 
 // Agents 0 and 1 make a chain of three: 5, then 3 before it, then 9 behind them. Node 1 has the key 3, node 0 the key
 // 5, node 2 the key 9.
@@ -52,12 +52,12 @@ fn a_run_of_two_marked_nodes()
 // With two roots, root 1 names node 0 with the key 3, behind which a key must be greater and odd. Node 1 with the key 5
 // is given, and nothing links to it.
 fn keys_and_roots()
-    ensures follows { let h = two_roots (linked 3 None ∷ new_node 5 None ∷ []) in
+    ensures follows { let h = two_roots (linked_node 3 None ∷ unlinked_node 5 None ∷ []) in
         FollowsOn 2 h (Place.Root 1) 5 × FollowsOn 2 h (Place.Next 0) 5 × (¬ FollowsOn 2 h (Place.Root 0) 5) × (¬ FollowsOn 2 h (Place.Next 0) 4)
         × (¬ FollowsOn 2 h (Place.Next 0) 3) × (¬ FollowsOn 2 h (Place.Next 1) 7) }
-    ensures above { let h = two_roots (linked 3 None ∷ new_node 5 None ∷ []) in
+    ensures above { let h = two_roots (linked_node 3 None ∷ unlinked_node 5 None ∷ []) in
         IsAbove h None 5 × IsAbove h (Some 0) 2 × (¬ IsAbove h (Some 0) 3) × (key_of h 0 ≡ 3) × (key_of h 2 ≡ 0) }
-    ensures present { let h = two_roots (linked 3 None ∷ new_node 5 None ∷ []) in
+    ensures present { let h = two_roots (linked_node 3 None ∷ unlinked_node 5 None ∷ []) in
         IsPresent 2 h 3 × IsOnNoChain h 1 }
 {}
 
@@ -66,11 +66,11 @@ fn keys_and_roots()
 fn moves_are_counted()
     ensures { let es : List (Event ChainNote) =
         event_by 0 (Act.Move (Place.Root 0) null (link_to 0)) (Some (ChainNote.Entry (SetEntry.Added 0 5 true)))
-        ∷ event_by 1 (Act.Move (Place.Next 0) null (marked None)) (Some (ChainNote.Entry (SetEntry.Removed 1 5 true)))
+        ∷ event_by 1 (Act.Move (Place.Next 0) null (marked_link None)) (Some (ChainNote.Entry (SetEntry.Removed 1 5 true)))
         ∷ event_by 0 (Act.Move (Place.Root 0) (link_to 0) (link_to 1)) (Some (ChainNote.Entry (SetEntry.Added 0 7 true)))
         ∷ event_by 1 (Act.Look (Place.Next 1) null) (Some (ChainNote.Entry (SetEntry.Asked 1 7 true)))
         ∷ event_by 1 (Act.Look (Place.Root 0) (link_to 1)) (Some (ChainNote.Entry (SetEntry.Removed 1 5 false)))
-        ∷ event_by 1 (Act.Move (Place.Next 1) null (marked None)) (Some (ChainNote.Entry (SetEntry.Removed 1 7 true)))
+        ∷ event_by 1 (Act.Move (Place.Next 1) null (marked_link None)) (Some (ChainNote.Entry (SetEntry.Removed 1 7 true)))
         ∷ event_by 0 (Act.Move (Place.Root 0) (link_to 1) null) (Some ChainNote.Unlink) ∷ [] in
         (adds_in (entries_of es) ≡ 2) × (removes_in (entries_of es) ≡ 2) × (unlinks_in es ≡ 1) × (moves_in es ≡ 5) × (set_after es ≡ [])
         × (entries_of_others 1 (entries_of es) ≡ SetEntry.Added 0 5 true ∷ SetEntry.Added 0 7 true ∷ []) }

@@ -2,7 +2,7 @@
 
 ghost use Rattle.std.specs.Prelude.{◌≡◌, ◌≢◌, [], codes};
 ghost use Rattle.orc_trace.specs.Answers.{fault_line, replay_line};
-ghost use Rattle.orc_trace.specs.Replay.{Refuses};
+ghost use Rattle.orc_trace.specs.Replay.{RefusesTrace};
 
 use orc_trace::{ShapeWord, TraceFault};
 
@@ -13,7 +13,7 @@ fn answers()
     ensures unreadable { fault_line (TraceFault.Unreadable 4) ≡ codes "step 4: unreadable\n" }
     ensures not_allowed { fault_line (TraceFault.NotAllowed 5) ≢ codes "step 4: not allowed\n" }
     ensures memory { fault_line TraceFault.NoMemory ≡ [] }
-    ensures empty { Refuses [] (TraceFault.Shape ShapeWord.Unreadable) }
-    ensures not_rows { ¬ Refuses [] (TraceFault.Shape ShapeWord.Rows) }
-    ensures no_step { ¬ Refuses [] (TraceFault.Unreadable 0) }
+    ensures empty { RefusesTrace [] (TraceFault.Shape ShapeWord.Unreadable) }
+    ensures not_rows { ¬ RefusesTrace [] (TraceFault.Shape ShapeWord.Rows) }
+    ensures no_step { ¬ RefusesTrace [] (TraceFault.Unreadable 0) }
 {}

@@ -1,7 +1,7 @@
 use Rattle.std.proofs.Common.{ap, arith, sym, ◌∙◌}
 use Rattle.std.specs.Prelude.{is_some}
 use Rattle.orc_machine_rest.proofs.Joins.{opens_goes, opens_then}
-use Rattle.orc_machine_rest.specs.Passes.{record_of, state_of}
+use Rattle.orc_machine_rest.specs.Passes.{agent_record, state_of}
 use Rattle.orc_machine_board.specs.Views.{board_bounds, shows}
 use Rattle.orc_rest.proofs.Rounds.{no_some, start_allowed}
 use Rattle.orc_machine_rest.proofs.rounds.round.Goals as goal
@@ -12,7 +12,7 @@ settle_step-requires-clause-allowed g c =
     let a = c.args.agent in
     start_allowed (state_of board c.args.p.now) a c.args.row c.requires.pass.reached c.requires.pass.low c.requires.between
     c.requires.next
-    (no_some (record_of board a c.args.p.now).scan
+    (no_some (agent_record board a c.args.p.now).scan
     (ap is_some (sym c.kept.ensures.scan) ∙ (sym c.is_some.ensures ∙ c.if-is_some.false)))
 
 pub returns-clause-opens : goal.returns-clause-opens

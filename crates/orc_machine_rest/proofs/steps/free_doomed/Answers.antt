@@ -2,7 +2,7 @@ use Rattle.std.proofs.Common.{ap, arith, sym, ◌≡◌}
 use Rattle.std.specs.Prelude.{is_some}
 use Rattle.orc_machine_rest.proofs.Joins.{goes_is, goes_then}
 use Rattle.orc_machine_rest.proofs.Passes.{links_are}
-use Rattle.orc_machine_rest.specs.Passes.{record_of, state_of}
+use Rattle.orc_machine_rest.specs.Passes.{agent_record, state_of}
 use Rattle.orc_machine_board.specs.Views.{board_bounds}
 use Rattle.orc_rest.proofs.Calls.{free_bare, unretire_cut}
 use Rattle.orc_words.specs.Packed.{bit}
@@ -26,7 +26,7 @@ pub returns-clause-goes : goal.returns-clause-goes
 returns-clause-goes g c =
     let b = board_bounds c.args.board.now in
     let a = c.args.agent in
-    let d = record_of c.args.board.now a c.take_links_out.new.p in
+    let d = agent_record c.args.board.now a c.take_links_out.new.p in
     let zero : bit (is_some d.scan) ≡ 0 = ap (λ o. bit (is_some o)) c.take_links_out.ensures.scan in
     goes_then b a 0 1 c.take_links_out.ensures.goes
     (goes_then b a 0 1 (goes_is b a (bit (is_some d.scan)) 0 zero c.settle_step.ensures.goes) c.settle_step-2.ensures.goes)

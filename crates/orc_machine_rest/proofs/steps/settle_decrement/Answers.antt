@@ -5,7 +5,7 @@ use Rattle.orc_core.specs.declared.records.Agent.{Agent}
 use Rattle.orc_words.specs.Operations.{word_add}
 use Rattle.orc_words.specs.declared.packed.TheConstants.{DECREMENT}
 use Rattle.orc_machine_rest.proofs.Joins.{goes_none, goes_then}
-use Rattle.orc_machine_rest.specs.Passes.{record_of, state_of}
+use Rattle.orc_machine_rest.specs.Passes.{agent_record, state_of}
 use Rattle.orc_machine_board.specs.Views.{board_bounds, shows}
 use Rattle.orc_rest.proofs.Calls.{arm_dec, dec_armed, due_decremented}
 use Rattle.orc_machine_rest.proofs.steps.settle_decrement.Goals as goal
@@ -55,7 +55,7 @@ returns-in_default-clause-few g c = omega arith
 
 pub settle_due-requires-clause-pending : goal.settle_due-requires-clause-pending
 settle_due-requires-clause-pending g c =
-    let before = record_of c.args.board.now c.args.agent c.settle_step.new.p in
+    let before = agent_record c.args.board.now c.args.agent c.settle_step.new.p in
     let word = c.settle_step-word.result in
     let none : before.due ≡ None = ap (λ (e : Agent). e.due) c.settle_step.ensures.after.is ∙ c.requires.due in
     ap (λ (e : Agent). e.due) (c.settle_step-word.ensures.read refl)

@@ -2,7 +2,7 @@ use Rattle.std.proofs.Common.{ℕ, ◌≡◌}
 use Rattle.std.specs.Prelude.{None}
 use Rattle.orc_machine_rest.proofs.Makes.{silent}
 use Rattle.orc_machine_rest.proofs.Passes.{StepOf, after_step, goes, may_do, next_pass, one_step, opens, read_step, word_answered}
-use Rattle.orc_machine_rest.specs.Passes.{record_of, state_of}
+use Rattle.orc_machine_rest.specs.Passes.{agent_record, state_of}
 use Rattle.orc_core.specs.Machine.{word_in}
 use Rattle.orc_machine_board.specs.Views.{shows}
 use Rattle.orc_projection.specs.PresentIds.{PresentIds}
@@ -16,8 +16,8 @@ made : (g : Over) (c : After-plain_step g) → StepOf c.args.board.now c.args.ag
 made g c = record { pass = c.requires.pass; belongs = c.plain_step.ensures.belongs; makes = c.plain_step.ensures.makes }
 
 -- it is no act
-no_act : (g : Over) (c : After-plain_step g) (i : PresentIds) (w : ℕ) → act_of i (record_of c.args.board.now c.args.agent c.args.p.now) w c.args.op None ≡ None
-no_act g c i w = silent i (record_of c.args.board.now c.args.agent c.args.p.now) (record_of c.args.board.now c.args.agent c.args.p.now) w
+no_act : (g : Over) (c : After-plain_step g) (i : PresentIds) (w : ℕ) → act_of i (agent_record c.args.board.now c.args.agent c.args.p.now) w c.args.op None ≡ None
+no_act g c i w = silent i (agent_record c.args.board.now c.args.agent c.args.p.now) (agent_record c.args.board.now c.args.agent c.args.p.now) w
     (word_in (state_of c.args.board.now c.args.p.now)) c.args.op c.requires.plain c.requires.settles
 
 pub plain_step-requires-clause-allowed : goal.plain_step-requires-clause-allowed

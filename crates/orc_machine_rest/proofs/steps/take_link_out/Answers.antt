@@ -2,7 +2,7 @@ use Rattle.std.proofs.Common.{ap, false, sym, ℕ, ◌∙◌, ◌/◌}
 use Rattle.std.specs.Prelude.{None, Option, cond}
 use Rattle.orc_machine_rest.proofs.Cuts.{cut_settles, no_fresh_act}
 use Rattle.orc_machine_rest.proofs.Passes.{StepOf, after_step, goes, may_do, next_pass, one_step, read_step, target_left}
-use Rattle.orc_machine_rest.specs.Passes.{record_of, state_of}
+use Rattle.orc_machine_rest.specs.Passes.{agent_record, state_of}
 use Rattle.orc_core.specs.Machine.{word_in}
 use Rattle.orc_core.specs.RecordParts.{same_target}
 use Rattle.orc_core.specs.declared.records.Agent.{Agent}
@@ -22,17 +22,17 @@ made g c = record { pass = c.requires.pass; belongs = c.link_store-link.ensures.
 pub link_store-link-requires-clause-allowed : goal.link_store-link-requires-clause-allowed
 link_store-link-requires-clause-allowed g c =
     may_do c.args.board.now c.args.agent c.args.p.now c.requires.pass (LinkStore c.args.row (record { to = None; mark = false }) c.args.number)
-    (cut_settles c.args.row c.args.number (record_of c.args.board.now c.args.agent c.args.p.now) (word_in (state_of c.args.board.now c.args.p.now)) c.requires.doom)
+    (cut_settles c.args.row c.args.number (agent_record c.args.board.now c.args.agent c.args.p.now) (word_in (state_of c.args.board.now c.args.p.now)) c.requires.doom)
     (cut_allowed (state_of c.args.board.now c.args.p.now) c.args.agent c.args.row c.args.number c.requires.number c.requires.pass.reached
     c.requires.pass.low c.requires.still c.requires.doom)
 
 pub returns-clause-goes : goal.returns-clause-goes
 returns-clause-goes g c =
     goes (made g (goal.at.returns-clause-goes g c).After-link_store-link)
-    (λ i w. no_fresh_act i (record_of c.args.board.now c.args.agent c.args.p.now) w c.args.row c.args.number c.requires.still) tt
+    (λ i w. no_fresh_act i (agent_record c.args.board.now c.args.agent c.args.p.now) w c.args.row c.args.number c.requires.still) tt
     (cut_allowed (state_of c.args.board.now c.args.p.now) c.args.agent c.args.row c.args.number c.requires.number c.requires.pass.reached
     c.requires.pass.low c.requires.still c.requires.doom)
-    (cut_settles c.args.row c.args.number (record_of c.args.board.now c.args.agent c.args.p.now) (word_in (state_of c.args.board.now c.args.p.now)) c.requires.doom)
+    (cut_settles c.args.row c.args.number (agent_record c.args.board.now c.args.agent c.args.p.now) (word_in (state_of c.args.board.now c.args.p.now)) c.requires.doom)
 
 pub returns-clause-pass : goal.returns-clause-pass
 returns-clause-pass g c = next_pass (made g (goal.at.returns-clause-pass g c).After-link_store-link)

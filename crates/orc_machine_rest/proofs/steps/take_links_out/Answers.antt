@@ -1,7 +1,7 @@
 use Rattle.std.proofs.Common.{ap, arith, subst, ◌∙◌, ◌≡◌}
 use Rattle.orc_machine_rest.proofs.Joins.{goes_none, goes_then}
 use Rattle.orc_machine_rest.proofs.Passes.{links_are}
-use Rattle.orc_machine_rest.specs.Passes.{record_of, state_of}
+use Rattle.orc_machine_rest.specs.Passes.{agent_record, state_of}
 use Rattle.orc_core.specs.declared.records.Agent.{Agent}
 use Rattle.orc_machine_board.specs.Views.{board_bounds, shows}
 use Rattle.orc_rest.proofs.Calls.{doom_is_cut}
@@ -55,7 +55,7 @@ returns-clause-doom g c =
     let high = c.loop-number.auto.number-end in
     let asked = c.links-links.ensures ∙ ap (λ (b : Bounds). b.links) c.shape.ensures in
     let end : c.loop-number.number ≡ (board_bounds board).links = omega (arith, low, high, asked) in
-    subst (λ n. IsDoomOf c.args.row n (record_of board c.args.agent c.loop-number.p).doom) end c.loop-number.invariant.doom
+    subst (λ n. IsDoomOf c.args.row n (agent_record board c.args.agent c.loop-number.p).doom) end c.loop-number.invariant.doom
 
 pub returns-clause-few : goal.returns-clause-few
 returns-clause-few g c =

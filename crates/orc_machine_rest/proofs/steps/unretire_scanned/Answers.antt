@@ -5,7 +5,7 @@ use Rattle.orc_core.specs.After.{due_after}
 use Rattle.orc_words.specs.Operations.{word_sub}
 use Rattle.orc_words.specs.declared.packed.TheConstants.{RETIRED}
 use Rattle.orc_machine_rest.proofs.Joins.{goes_is, goes_then, opens_then}
-use Rattle.orc_machine_rest.specs.Passes.{record_of, state_of}
+use Rattle.orc_machine_rest.specs.Passes.{agent_record, state_of}
 use Rattle.orc_core.specs.RecordParts.{scans}
 use Rattle.orc_core.specs.declared.records.Agent.{Agent}
 use Rattle.orc_machine_board.specs.Views.{board_bounds}
@@ -35,7 +35,7 @@ pub returns-clause-opens : goal.returns-clause-opens
 returns-clause-opens g c =
     let b = board_bounds c.args.board.now in
     let a = c.args.agent in
-    let d = record_of c.args.board.now a c.settle_step.new.p in
+    let d = agent_record c.args.board.now a c.settle_step.new.p in
     let one : bit (is_some d.scan) ≡ 1 = scan_some d.scan c.args.row (ap (λ (e : Agent). scans e.scan c.args.row) c.settle_step.ensures.after.is
     ∙ c.requires.scans) in
     opens_then b a 0 1 (c.settle_step.ensures.opens tt)
@@ -52,7 +52,7 @@ returns-clause-few g c =
 
 pub settle_due-requires-clause-pending : goal.settle_due-requires-clause-pending
 settle_due-requires-clause-pending g c =
-    let before = record_of c.args.board.now c.args.agent c.settle_step.new.p in
+    let before = agent_record c.args.board.now c.args.agent c.settle_step.new.p in
     let row = c.args.row in
     let word = c.settle_step-word.result in
     let is = c.settle_step.ensures.after.is in

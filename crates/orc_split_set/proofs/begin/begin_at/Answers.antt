@@ -2,7 +2,7 @@
 use Rattle.std.proofs.Common.{ap, arith, refl, ℕ, ◌%◌, ◌∙◌, ◌≡◌}
 use Rattle.orc_heap.specs.declared.events.Place.TheVariants.{Root}
 use Rattle.orc_split_rule.specs.SplitOrder.{bucket_of}
-use Rattle.orc_split_set.specs.NewNodes.{value_of}
+use Rattle.orc_split_set.specs.NewNodes.{node_values}
 use Rattle.orc_split_set.proofs.Looking.{half_same, look_agent, none_new, root_few, start_shown}
 use Rattle.orc_ordered_search.proofs.Ranking.{looks_from}
 use Rattle.orc_split_set.proofs.Beginning.{root_at, root_moved, root_null}
@@ -51,8 +51,8 @@ bucket_is value other size most one two = ap (λ (x : ℕ). x % most) one ∙ ap
 pub returns-then-bucket-size-clause-none : goal.returns-then-bucket-size-clause-none
 returns-then-bucket-size-clause-none g c = λ is has k.
     let s = g.L.Links.seat c.args.links.now c.args.p.now in
-    let same = bucket_is c.value.result (value_of c.args.new) c.args.size c.from.result c.value.ensures c.from.ensures in
-    (half_same _ (value_of c.args.new) c.args.size c.requires.size.0 c.requires.size.1 (omega (arith, c.if-bucket-size.true, same)), none_new s s refl k)
+    let same = bucket_is c.value.result (node_values c.args.new) c.args.size c.from.result c.value.ensures c.from.ensures in
+    (half_same _ (node_values c.args.new) c.args.size c.requires.size.0 c.requires.size.1 (omega (arith, c.if-bucket-size.true, same)), none_new s s refl k)
 
 pub returns-in-Stable-default-Some-clause-agent : goal.returns-in-Stable-default-Some-clause-agent
 returns-in-Stable-default-Some-clause-agent g c =
@@ -72,15 +72,15 @@ returns-in-Moved-clause-agent g c =
 pub returns-in-Stable-default-Some-clause-few : goal.returns-in-Stable-default-Some-clause-few
 returns-in-Stable-default-Some-clause-few g c = λ begun is.
     let d = c.args.links.now in
-    let same = bucket_is c.value.result (value_of c.args.new) c.args.size c.from.result c.value.ensures c.from.ensures in
-    root_few (bucket_of (value_of c.args.new) c.args.size) _ (g.L.Links.seat d c.args.p.now) (g.L.Links.seat d c.look.new.p) _
+    let same = bucket_is c.value.result (node_values c.args.new) c.args.size c.from.result c.value.ensures c.from.ensures in
+    root_few (bucket_of (node_values c.args.new) c.args.size) _ (g.L.Links.seat d c.args.p.now) (g.L.Links.seat d c.look.new.p) _
     (omega (arith, c.if-bucket-size.false, same, c.requires.size.1)) c.in-Stable-default-Some.ensures.looked
 
 pub returns-in-Moved-clause-few : goal.returns-in-Moved-clause-few
 returns-in-Moved-clause-few g c = λ begun is.
     let d = c.args.links.now in
-    let same = bucket_is c.value.result (value_of c.args.new) c.args.size c.from.result c.value.ensures c.from.ensures in
-    root_few (bucket_of (value_of c.args.new) c.args.size) _ (g.L.Links.seat d c.args.p.now) (g.L.Links.seat d c.look.new.p) _
+    let same = bucket_is c.value.result (node_values c.args.new) c.args.size c.from.result c.value.ensures c.from.ensures in
+    root_few (bucket_of (node_values c.args.new) c.args.size) _ (g.L.Links.seat d c.args.p.now) (g.L.Links.seat d c.look.new.p) _
     (omega (arith, c.if-bucket-size.false, same, c.requires.size.1)) c.in-Moved.ensures.looked
 
 pub returns-in-Stable-default-None-clause-none : goal.returns-in-Stable-default-None-clause-none
@@ -90,9 +90,9 @@ returns-in-Stable-default-None-clause-none g c = λ is has k.
     let t = g.L.Links.seat d c.args.p.now in
     let u = g.L.Links.seat d c.look.new.p in
     let x = c.in-Stable-default-None in
-    let b = bucket_of (value_of c.args.new) c.args.size in
+    let b = bucket_of (node_values c.args.new) c.args.size in
     let same : c.value.result % c.from.result ≡ b =
-    bucket_is c.value.result (value_of c.args.new) c.args.size c.from.result c.value.ensures c.from.ensures in
+    bucket_is c.value.result (node_values c.args.new) c.args.size c.from.result c.value.ensures c.from.ensures in
     let looks = looks_from _ (Root b) 2 _ t u (ap Root same) (looks_none _ 2 x.field-0 x.field-1 t u x.field-1-is x.ensures.looked) in
     absurd (start_shown n t u b x.field-0 (omega (arith, c.if-bucket-size.false, same, c.requires.size.1)) looks
     (g.met.L.Links.allowed d c.look.new.p x.ensures.pass) has k)

@@ -1,6 +1,6 @@
 use Rattle.std.proofs.Common.{List, [], ap, ap₂, append_assoc, arith, subst, sym, ◌+◌, ◌++◌, ◌∙◌, ◌∷◌, ◌≡◌}
 use Rattle.orc_stress.specs.Answers.{calls_of}
-use Rattle.orc_stress.specs.Parts.{parts_of}
+use Rattle.orc_stress.specs.Parts.{calls_of_agents}
 use Rattle.orc_stress.specs.Passes.{AllStay}
 use Rattle.orc_stress.proofs.Staying.{calls_summed, one_more, parts_few, parts_more}
 use Rattle.orc_stress.proofs.agents.+agents.Goals as goal
@@ -33,5 +33,5 @@ returns-clause-ran g t c =
             (one_more ready agent ws ran.new w v ran.stay.all c.join-one.ensures.first.0);
       };
       calls = ap calls_of c.join.ensures ∙ (sums ∙ (ap₂ ◌+◌ ran.calls c.join-one.ensures.first.1
-          ∙ (sym more ∙ ap (parts_of c.args.plan.now agent) (sym was))));
+          ∙ (sym more ∙ ap (calls_of_agents c.args.plan.now agent) (sym was))));
     }

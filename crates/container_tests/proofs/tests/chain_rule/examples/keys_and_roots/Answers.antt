@@ -6,30 +6,30 @@ use Rattle.orc_heap.specs.declared.events.Place.{Place}
 use Rattle.orc_heap.specs.declared.events.Place.TheVariants.{Next, Root, Side}
 use Rattle.orc_ordered_chains.specs.Chains.{IsPath}
 use Rattle.orc_chain_rule.specs.Laws.Kinds.{key_one}
-use Rattle.container_tests.specs.ChainHeaps.{linked, new_node, two_roots}
+use Rattle.container_tests.specs.ChainHeaps.{linked_node, unlinked_node, two_roots}
 use Rattle.container_tests.proofs.tests.chain_rule.examples.keys_and_roots.Goals as goal
 
 pub returns-clause-follows : goal.returns-clause-follows
 returns-clause-follows c = (
   refl,
-  (3, record { node = _; there = refl; linked = refl; rank_is = refl }, omega arith, refl),
+  (3, record { node = _; there = refl; linked_node = refl; rank_is = refl }, omega arith, refl),
   (λ f. cc),
-  (λ f. let (low, own, less, same) = f in omega (arith, same, key_one _ 0 low 3 own (record { node = _; there = refl; linked = refl; rank_is = refl }))),
-  (λ f. let (low, own, less, same) = f in omega (arith, less, key_one _ 0 low 3 own (record { node = _; there = refl; linked = refl; rank_is = refl }))),
+  (λ f. let (low, own, less, same) = f in omega (arith, same, key_one _ 0 low 3 own (record { node = _; there = refl; linked_node = refl; rank_is = refl }))),
+  (λ f. let (low, own, less, same) = f in omega (arith, less, key_one _ 0 low 3 own (record { node = _; there = refl; linked_node = refl; rank_is = refl }))),
   (λ f. let (low, own, less, same) = f in cc),
 )
 
 pub returns-clause-above : goal.returns-clause-above
 returns-clause-above c = (
   tt,
-  (3, record { node = _; there = refl; linked = refl; rank_is = refl }, omega arith),
-  (λ a. let (high, own, less) = a in omega (arith, less, key_one _ 0 high 3 own (record { node = _; there = refl; linked = refl; rank_is = refl }))),
+  (3, record { node = _; there = refl; linked_node = refl; rank_is = refl }, omega arith),
+  (λ a. let (high, own, less) = a in omega (arith, less, key_one _ 0 high 3 own (record { node = _; there = refl; linked_node = refl; rank_is = refl }))),
   refl,
   refl,
 )
 
 abbrev two : Heap
-two = two_roots (linked 3 None ∷ new_node 5 None ∷ [])
+two = two_roots (linked_node 3 None ∷ unlinked_node 5 None ∷ [])
 
 -- no place has a link to node 1
 apart : (p : Place) (link : Link) → shown two p ≡ Some link → link.to ≡ Some 1 → ⊥
@@ -50,7 +50,7 @@ pub returns-clause-present : goal.returns-clause-present
 returns-clause-present c = (
   record {
     id = 0;
-    has_key = record { node = _; there = refl; linked = refl; rank_is = refl };
+    has_key = record { node = _; there = refl; linked_node = refl; rank_is = refl };
     link = _;
     at = refl;
     unmarked = refl;
