@@ -117,7 +117,7 @@ module _ {D N : Type 0} {d : discipline.Ghosts D N} {m : machine.Ghosts Reclaimi
             }
 
         -- all gates were looked at
-        module _ (last : row < rows → ⊥) (inside : row ≤ rows) where
+        module _ (last : rows ≤ row) (inside : row ≤ rows) where
           all_rows : row ≡ (board_bounds board).rows
           all_rows = let end : row ≡ rows = omega (arith, last, inside) in end ∙ c.inside
 

@@ -36,8 +36,8 @@ module _ {D N : Type 0} {d : discipline.Ghosts D N} {m : machine.Ghosts Reclaimi
       (used : is_empty (slot_of (agent_record board a p) 0) ≡ false) (dec : (agent_record board a p).dec ≡ None) (due : (agent_record board a p).due ≡ None) where
     pub take_may : MayDo (board_bounds board) (shows q) (TakeIn 0)
     take_may =
-        may_do board a q (next_pass one) (TakeIn 0) refl
-        (then_taken (state_of board p) a one.pass.low calm used dec due (state_of board q) one.pass.reached (made one)).0
+        let left = (first_cleared (state_of board p) a one.pass.low calm used dec due).1 (state_of board q) one.pass.reached (made one) in
+        may_do board a q (next_pass one) (TakeIn 0) refl (take_allowed (state_of board q) a (next_pass one).low left.so.still)
 
     module _ {r : Pass d m} {y : ℕ} (two : StepOf board a (TakeIn 0) q r y) where
       pub leaving : Leaving board a p r
