@@ -1,3 +1,4 @@
+pub mod Entering
 pub mod Lists
 pub mod NewPasses
 pub mod Pointers
@@ -7,5 +8,6 @@ pub mod Quiet
 pub mod Results
 pub mod SamePlaces
 pub mod Saying
+pub mod SetAnswers
 pub mod SetPlaces
 pub mod SplitPlaces

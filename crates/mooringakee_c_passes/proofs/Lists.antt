@@ -19,13 +19,11 @@ EachAt-push {A} P xs x all one i d low = cases (eq-or-lt_of_le (omega (arith, lo
 abbrev pub IsRest : {A : Type 0} → List A → ℕ → List A → Type 0
 IsRest {A} all n rest = (i : ℕ) (d : A) → i < length rest → slice_index_or rest i d ≡ slice_index_or all (n + i) d
 
--- the next element has the number of its place
-pub next_at : {A : Type 0} (number : A → ℕ) (all rest xs : List A) (x : A) (n : ℕ) → rest ≡ x ∷ xs → IsRest all n rest
-    → n + length rest ≡ length all → EachAt (λ i a. number a ≡ i) all → number x ≡ n
-next_at number all rest xs x n is same many each =
+-- the next element is the n-th
+pub here_at : {A : Type 0} (all rest xs : List A) (x : A) (n : ℕ) (d : A) → rest ≡ x ∷ xs → IsRest all n rest → slice_index_or all n d ≡ x
+here_at all rest xs x n d is same =
     let long : length rest ≡ suc (length xs) = ap length is in
-    let here : x ≡ slice_index_or all (n + 0) x = sym (ap (λ ys. slice_index_or ys 0 x) is) ∙ same 0 x (omega (arith, long)) in
-    ap number here ∙ (each (n + 0) x (omega (arith, long, many)) ∙ add-zero n)
+    ap (λ (k : ℕ). slice_index_or all k d) (sym (add-zero n)) ∙ (sym (same 0 d (omega (arith, long))) ∙ ap (λ ys. slice_index_or ys 0 d) is)
 
 -- and the others are left
 pub rest_after : {A : Type 0} (all rest xs : List A) (x : A) (n m : ℕ) → rest ≡ x ∷ xs → m ≡ n + 1 → IsRest all n rest → IsRest all m xs

@@ -20,24 +20,23 @@ use Rattle.orc_domain.specs.Laws.Passes.{all_allowed, all_below, all_obey, begin
 use Rattle.orc_domain.specs.Passes.{IsPassOf, domain_bounds, domain_numbers, domain_opening, journal_of, seat_of}
 use Rattle.orc_domain.specs.declared.domain.OrcDomain.{OrcDomain}
 use Rattle.orc_sound.specs.declared.steps.Step.{Step}
-use Rattle.mooringakee_c_passes.specs.Ending.{ArePlacesOf}
 use Rattle.mooringakee_c_passes.specs.Making.{IsNewQueueSeat}
 use Rattle.mooringakee_c_passes.specs.QueueCalls.{GoesOn, Refuses}
-use Rattle.mooringakee_c_passes.specs.QueueSeats.{IsQueueSeat, agent_at, agents_at, calls_seen}
+use Rattle.mooringakee_c_passes.specs.QueueSeats.{IsQueueSeat, agent_at, agents_at, calls_seen, queue_domain}
+use Rattle.mooringakee_c_passes.specs.Usable.{CanBeUsed}
 use Rattle.mooringakee_c_passes.specs.declared.queue.QueueSeat.{QueueSeat}
-use Rattle.mooringakee_c_passes.specs.declared.seat.Seat.{Seat}
 use Rattle.mooringakee_c_passes.specs.declared.seat.Seat.TheVariants.{Queue}
-use Rattle.mooringakee_c_passes.proofs.SamePlaces.{places_later}
+use Rattle.mooringakee_c_passes.proofs.SamePlaces.{places_later, usable_by, used_by}
 use Rattle.mooringakee_c_passes.proofs.Quiet.{enters_none}
 
 -- the calls that its pass has seen are those of a legal queue
 seen_are_legal : (s : QueueSeat) → IsQueueSeat s → IsLegalQueue 0 (calls_seen s)
 seen_are_legal s h =
-    let d = s.queue.value.links in
+    let d = s.share.queue.value.links in
     let p = s.pass in
     subst (λ (n : ℕ). IsLegalQueue n (calls_seen s)) h.first
-    (seen_legal (domain_numbers d) (domain_opening d) (seat_of d p).seen (project (domain_bounds d) (journal_of p)) s.queue.value.made
-    (begins_so d p h.belongs) (all_allowed d p h.belongs) (all_obey d p h.belongs) refl)
+    (seen_legal (domain_numbers d) (domain_opening d) (seat_of d p).seen (project (domain_bounds d) (journal_of p)) s.share.queue.value.made
+    (begins_so d p h.usable.belongs) (all_allowed d p h.usable.belongs) (all_obey d p h.usable.belongs) refl)
 
 -- the position of the first value over this domain
 abbrev first_over : OrcDomain Fifo FifoNote → ℕ
@@ -54,20 +53,18 @@ cause_over x first agent turns why journal from to =
     agent turns why journal from to
 
 -- a call by which the place's pass went on, as the queue's domain tells it
-module _ (old new : QueueSeat) (before : IsQueueSeat old) (queue : new.queue ≡ old.queue) (places : new.places ≡ old.places) (turns : new.turns ≡ old.turns)
-    (d : OrcDomain Fifo FifoNote) (is : d ≡ old.queue.value.links) (u : IsPassOf d new.pass × IsIdle (seat_of d new.pass))
+module _ (old new : QueueSeat) (before : IsQueueSeat old) (share : new.share ≡ old.share) (places : new.places ≡ old.places) (turns : new.turns ≡ old.turns)
+    (d : OrcDomain Fifo FifoNote) (is : d ≡ old.share.queue.value.links) (u : IsPassOf d new.pass × IsIdle (seat_of d new.pass))
   where
-    later : old.queue.value.links ≡ new.queue.value.links
-    later = λ j. (sym queue j).value.links
+    later : old.share.queue.value.links ≡ new.share.queue.value.links
+    later = λ j. (sym share j).queue.value.links
 
     pub stays : IsQueueSeat new
     stays =
-        let usable = subst (λ (x : OrcDomain Fifo FifoNote). IsPassOf x new.pass × IsIdle (seat_of x new.pass)) (is ∙ later) u in
+        let here = usable_by new.pass (is ∙ later) u.0 u.1 in
         record {
-          belongs = usable.0;
-          idle = usable.1;
+          usable = record { belongs = here.0; idle = here.1; places = places_later before.usable.places later (λ j. tags (sym places j).value) };
           first = subst (λ (x : OrcDomain Fifo FifoNote). first_over x ≡ 0) later before.first;
-          places = places_later before.places later (λ j. tags (sym places j).value);
         }
 
     pub entered : (own : List QueueEntry) → agent_at new ≡ agent_at old
@@ -78,7 +75,7 @@ module _ (old new : QueueSeat) (before : IsQueueSeat old) (queue : new.queue ≡
         let here = subst (λ (x : OrcDomain Fifo FifoNote). Adds agent_of_entry (λ (by : ℕ). by < (domain_bounds x).agents) (agent_at old)
         (entries_over x (journal_of old.pass)) own (entries_over x (journal_of new.pass))) is adds in
         record {
-          queue = queue;
+          share = share;
           turns = turns;
           agent = agent;
           entered = subst (λ (x : OrcDomain Fifo FifoNote). Adds agent_of_entry (λ (by : ℕ). by < agents_at old) (agent_at old)
@@ -97,11 +94,11 @@ module _ (old new : QueueSeat) (before : IsQueueSeat old) (queue : new.queue ≡
         let to = length (journal_of new.pass) in
         let journal = journal_of new.pass in
         let one = subst (λ (x : OrcDomain Fifo FifoNote). Within from to (cause_over x (first_over x) (agent_at old) old.turns why journal)) (is ∙ later) cause in
-        let two = subst (λ (n : ℕ). Within from to (cause_over new.queue.value.links n (agent_at old) old.turns why journal)) stays.first one in
-        let three = subst (λ (n : ℕ). Within from to (cause_over new.queue.value.links 0 n old.turns why journal)) (sym agent) two in
+        let two = subst (λ (n : ℕ). Within from to (cause_over new.share.queue.value.links n (agent_at old) old.turns why journal)) stays.first one in
+        let three = subst (λ (n : ℕ). Within from to (cause_over new.share.queue.value.links 0 n old.turns why journal)) (sym agent) two in
         record {
           none = entered [] agent adds;
-          cause = subst (λ (n : ℕ). Within from to (cause_over new.queue.value.links 0 (agent_at new) n why journal)) (sym turns) three;
+          cause = subst (λ (n : ℕ). Within from to (cause_over new.share.queue.value.links 0 (agent_at new) n why journal)) (sym turns) three;
         }
 
     pub quiet : Only [] (seat_of d old.pass) (seat_of d new.pass) → GoesOn old [] new
@@ -110,22 +107,14 @@ module _ (old new : QueueSeat) (before : IsQueueSeat old) (queue : new.queue ≡
         (seat_of d old.pass) (seat_of d new.pass) only (all_allowed d new.pass u.0) (all_below d new.pass u.0).1)
 
 -- a new pass has a new place
-pub new_place : (place : QueueSeat) (d : OrcDomain Fifo FifoNote) (turns : ℕ) (seat : Seat) → seat ≡ Queue place → d ≡ place.queue.value.links
-    → place.turns ≡ turns → IsPassOf d place.pass × IsIdle (seat_of d place.pass) → entries_over d (journal_of place.pass) ≡ []
-    → first_over d ≡ 0 → ArePlacesOf d (tags place.places.value) → IsNewQueueSeat d turns (agent_at place) seat
-new_place place d turns seat is here turns_are u none first places =
-    let usable = subst (λ (x : OrcDomain Fifo FifoNote). IsPassOf x place.pass × IsIdle (seat_of x place.pass)) here u in
-    record {
-      place = place;
-      is = is;
-      usable = record {
-        belongs = usable.0;
-        idle = usable.1;
-        first = subst (λ (x : OrcDomain Fifo FifoNote). first_over x ≡ 0) here first;
-        places = places_later places here refl;
-      };
-      domain_is = sym here;
-      turns_are = turns_are;
-      agent_is = refl;
-      none = subst (λ (x : OrcDomain Fifo FifoNote). entries_over x (journal_of place.pass) ≡ []) here none;
-    }
+pub new_place : (place : QueueSeat) (x : OrcDomain Fifo FifoNote) → x ≡ queue_domain place → CanBeUsed x (tags place.places.value) place.pass
+    → entries_over x (journal_of place.pass) ≡ [] → first_over x ≡ 0 → IsNewQueueSeat x place.turns (agent_at place) (Queue place)
+new_place place x here can none first = record {
+  place = place;
+  is = refl;
+  usable = record { usable = used_by place.pass here can; first = subst (λ (y : OrcDomain Fifo FifoNote). first_over y ≡ 0) here first };
+  domain_is = sym here;
+  turns_are = refl;
+  agent_is = refl;
+  none = subst (λ (y : OrcDomain Fifo FifoNote). entries_over y (journal_of place.pass) ≡ []) here none;
+}

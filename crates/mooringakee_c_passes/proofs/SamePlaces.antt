@@ -1,9 +1,30 @@
--- Places for the passes of one domain.
+-- What is known of a domain is known of it by another name.
 use Rattle.std.proofs.Common.{List, subst, ◌≡◌}
+use Rattle.orc_core.specs.declared.records.Agent.{Agent}
+use Rattle.orc_heap.specs.Seats.{IsIdle}
+use Rattle.orc_heap.specs.declared.discipline.Discipline as discipline
+use Rattle.orc_machine_board.specs.declared.machine.MachineShape.{MachineShape}
+use Rattle.orc_machine_board.specs.declared.machine.Reclaiming.{Reclaiming}
+use Rattle.orc_machine_board.specs.declared.machine.Request.{Request}
+use Rattle.orc_domain.specs.Passes.{IsPassOf, seat_of}
 use Rattle.orc_domain.specs.declared.domain.OrcDomain.{OrcDomain}
+use Rattle.orc_domain.specs.declared.domain.OrcPass.{OrcPass}
+use Rattle.orc_shared_words.specs.declared.machine.Machine as machine
+use Rattle.orc_sound.specs.declared.steps.Step.{Step}
 use Rattle.mooringakee_c_passes.specs.Ending.{ArePlacesOf}
+use Rattle.mooringakee_c_passes.specs.Usable.{CanBeUsed}
 
 -- the same places, of the same domain
 pub places_later : {D N : Type 0} {d e : OrcDomain D N} {ps qs : List (OrcDomain D N)} → ArePlacesOf d ps → d ≡ e → ps ≡ qs → ArePlacesOf e qs
 places_later {D} {N} {d} {e} {ps} {qs} h domain places =
     subst (λ (xs : List (OrcDomain D N)). ArePlacesOf e xs) places (subst (λ (x : OrcDomain D N). ArePlacesOf x ps) domain h)
+
+module _ {D N : Type 0} {d : discipline.Ghosts D N} {m : machine.Ghosts Reclaiming N (MachineShape N) Request (Step N) Agent Agent} where
+  -- a pass of the same domain, as it is and with its places
+  pub usable_by : {x y : OrcDomain D N} (p : OrcPass D N (MachineShape N) Request (Step N) Agent Agent d m) → x ≡ y → IsPassOf x p → IsIdle (seat_of x p)
+      → IsPassOf y p × IsIdle (seat_of y p)
+  usable_by p is belongs idle = subst (λ (z : OrcDomain D N). IsPassOf z p × IsIdle (seat_of z p)) is (belongs, idle)
+
+  pub used_by : {x y : OrcDomain D N} {rooms : List (OrcDomain D N)} (p : OrcPass D N (MachineShape N) Request (Step N) Agent Agent d m) → x ≡ y
+      → CanBeUsed x rooms p → CanBeUsed y rooms p
+  used_by {x} {y} {rooms} p is can = subst (λ (z : OrcDomain D N). CanBeUsed z rooms p) is can

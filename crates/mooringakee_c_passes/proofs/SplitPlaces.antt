@@ -1,130 +1,50 @@
 -- What is known of an agent's place at a split-ordered set.
-use Rattle.std.proofs.Common.{List, [], append-nil, length, refl, subst, sym, ℕ, ◌<◌, ◌∙◌, ◌≡◌}
-use mathlib.Core.List.{IsPrefix}
+use Rattle.std.proofs.Common.{[], refl, subst, sym, ◌≡◌}
 use Rattle.given_back.specs.Places.{tags}
 use Rattle.orc_split_rule.proofs.OwnEntries.{entries_own}
 use Rattle.orc_split_rule.specs.SplitDiscipline.{SplitMay, entries_in, entries_of}
 use Rattle.orc_split_rule.specs.declared.split.Split.{Split}
 use Rattle.orc_split_rule.specs.declared.split.SplitNote.{SplitNote}
-use Rattle.orc_heap.proofs.Steps.{part_within}
 use Rattle.orc_heap.specs.OwnEvents.{Only}
-use Rattle.orc_heap.specs.Seats.{IsIdle}
-use Rattle.orc_history.specs.Journals.{Adds, Within}
-use Rattle.orc_history.specs.Parts.{InPart}
 use Rattle.orc_history.specs.SetHistory.{IsLegalSet, agent_of_set_entry}
-use Rattle.orc_history.specs.declared.set.SetEntry.{SetEntry}
-use Rattle.orc_history.specs.declared.set.ListRefused.{ListRefused}
 use Rattle.orc_projection.specs.Projection.{project}
-use Rattle.orc_ordered_search.specs.Causes.{Cause}
-use Rattle.orc_domain.specs.Causes.{IsLacking, IsWornIn}
 use Rattle.orc_domain.specs.Laws.Passes.{all_allowed, all_below, all_obey}
 use Rattle.orc_domain.specs.Passes.{IsPassOf, domain_bounds, domain_numbers, journal_of, seat_of}
 use Rattle.orc_domain.specs.declared.domain.OrcDomain.{OrcDomain}
 use Rattle.orc_split_set.specs.Laws.SetLaws.{seen_legal}
-use Rattle.orc_sound.specs.declared.steps.Step.{Step}
-use Rattle.mooringakee_c_passes.specs.Ending.{ArePlacesOf}
 use Rattle.mooringakee_c_passes.specs.Making.{IsNewSplitSeat}
-use Rattle.mooringakee_c_passes.specs.SetCalls.{GoesOn, Refuses}
-use Rattle.mooringakee_c_passes.specs.SplitSeats.{IsSplitSeat, agent_at, agents_at, calls_seen, split_view}
+use Rattle.mooringakee_c_passes.specs.SetCalls.{GoesOn}
+use Rattle.mooringakee_c_passes.specs.SetViews.{view_at}
+use Rattle.mooringakee_c_passes.specs.SplitSeats.{HasCause, agent_at, split_domain, split_view}
+use Rattle.mooringakee_c_passes.specs.Usable.{CanBeUsed}
 use Rattle.mooringakee_c_passes.specs.declared.split.SplitSeat.{SplitSeat}
-use Rattle.mooringakee_c_passes.specs.declared.seat.Seat.{Seat}
 use Rattle.mooringakee_c_passes.specs.declared.seat.Seat.TheVariants.{Split as AtSplitSet}
-use Rattle.mooringakee_c_passes.proofs.SamePlaces.{places_later}
+use Rattle.mooringakee_c_passes.proofs.Entering.{entered}
 use Rattle.mooringakee_c_passes.proofs.Quiet.{enters_none}
+use Rattle.mooringakee_c_passes.proofs.SamePlaces.{used_by}
 
 -- the calls that its pass has seen are those of a legal set
-seen_are_legal : (s : SplitSeat) → IsSplitSeat s → IsLegalSet (calls_seen s)
-seen_are_legal s h =
-    let d = s.set.value.links in
-    seen_legal (domain_numbers d) (seat_of d s.pass).seen (project (domain_bounds d) (journal_of s.pass)) (all_obey d s.pass h.belongs) refl
+pub seen_are_legal : (s : SplitSeat) (x : OrcDomain Split SplitNote) → IsPassOf x s.pass → IsLegalSet (entries_of (project (domain_bounds x) (journal_of s.pass)))
+seen_are_legal s x belongs =
+    seen_legal (domain_numbers x) (seat_of x s.pass).seen (project (domain_bounds x) (journal_of s.pass)) (all_obey x s.pass belongs) refl
 
--- the entries that stand in a journal of this domain
-abbrev entries_over : OrcDomain Split SplitNote → List (Step SplitNote) → List SetEntry
-entries_over x journal = entries_of (project (domain_bounds x) journal)
-
--- the cause of a refusal over this domain
-abbrev cause_over : OrcDomain Split SplitNote → ℕ → ℕ → ListRefused → List (Step SplitNote) → ℕ → ℕ → Type 0
-cause_over x agent turns why journal from to =
-    Cause (λ (step : Step SplitNote). step.agent) (λ seen. project (domain_bounds x) seen)
-    (IsLacking (domain_bounds x) agent journal from to) (λ row. IsWornIn (domain_bounds x) agent row journal from to) agent turns why journal from to
-
--- a call by which the place's pass went on, as the queue's domain tells it
-module _ (old new : SplitSeat) (before : IsSplitSeat old) (set : new.set ≡ old.set) (places : new.places ≡ old.places) (turns : new.turns ≡ old.turns)
-    (d : OrcDomain Split SplitNote) (is : d ≡ old.set.value.links) (u : IsPassOf d new.pass × IsIdle (seat_of d new.pass))
-  where
-    later : old.set.value.links ≡ new.set.value.links
-    later = λ j. (sym set j).value.links
-
-    pub stays : IsSplitSeat new
-    stays =
-        let usable = subst (λ (x : OrcDomain Split SplitNote). IsPassOf x new.pass × IsIdle (seat_of x new.pass)) (is ∙ later) u in
-        record {
-          belongs = usable.0;
-          idle = usable.1;
-          places = places_later before.places later (λ j. tags (sym places j).value);
-        }
-
-    pub entered : (own : List SetEntry) → agent_at new ≡ agent_at old
-        → Adds agent_of_set_entry (λ (by : ℕ). by < (domain_bounds d).agents) (agent_at old) (entries_over d (journal_of old.pass)) own
-        (entries_over d (journal_of new.pass))
-        → GoesOn (split_view old) own (split_view new)
-    entered own agent adds =
-        let here = subst (λ (x : OrcDomain Split SplitNote). Adds agent_of_set_entry (λ (by : ℕ). by < (domain_bounds x).agents) (agent_at old)
-        (entries_over x (journal_of old.pass)) own (entries_over x (journal_of new.pass))) is adds in
-        record {
-          turns = turns;
-          agent = agent;
-          entered = subst (λ (x : OrcDomain Split SplitNote). Adds agent_of_set_entry (λ (by : ℕ). by < agents_at old) (agent_at old)
-              (calls_seen old) own (entries_over x (journal_of new.pass))) later here;
-          legal = seen_are_legal new stays;
-        }
-
-    pub refused : (why : ListRefused) → agent_at new ≡ agent_at old
-        → Adds agent_of_set_entry (λ (by : ℕ). by < (domain_bounds d).agents) (agent_at old) (entries_over d (journal_of old.pass)) []
-        (entries_over d (journal_of new.pass))
-        → Within (length (journal_of old.pass)) (length (journal_of new.pass))
-        (cause_over d (agent_at old) old.turns why (journal_of new.pass))
-        → Refuses (split_view old) why (split_view new)
-    refused why agent adds cause =
-        let from = length (journal_of old.pass) in
-        let to = length (journal_of new.pass) in
-        let journal = journal_of new.pass in
-        let one = subst (λ (x : OrcDomain Split SplitNote). Within from to (cause_over x (agent_at old) old.turns why journal)) (is ∙ later) cause in
-        let two = subst (λ (n : ℕ). Within from to (cause_over new.set.value.links n old.turns why journal)) (sym agent) one in
-        record {
-          none = entered [] agent adds;
-          cause = subst (λ (n : ℕ). Within from to (cause_over new.set.value.links (agent_at new) n why journal)) (sym turns) two;
-        }
-
-    -- the same, where the cause stands between the ends of the call's part
-    pub refused_in_part : (why : ListRefused) → agent_at new ≡ agent_at old
-        → Adds agent_of_set_entry (λ (by : ℕ). by < (domain_bounds d).agents) (agent_at old) (entries_over d (journal_of old.pass)) []
-        (entries_over d (journal_of new.pass))
-        → IsPrefix (journal_of old.pass) (journal_of new.pass)
-        → InPart (λ (step : Step SplitNote). step.agent) (agent_at old) (journal_of old.pass) (journal_of new.pass)
-        (cause_over d (agent_at old) old.turns why (journal_of new.pass))
-        → Refuses (split_view old) why (split_view new)
-    refused_in_part why agent adds grows cause = refused why agent adds
-        (part_within (λ (step : Step SplitNote). step.agent) (agent_at old) (journal_of old.pass) (journal_of new.pass) (journal_of new.pass)
-        (cause_over d (agent_at old) old.turns why (journal_of new.pass)) grows ([], append-nil (journal_of new.pass)) cause)
-
-    pub quiet : Only [] (seat_of d old.pass) (seat_of d new.pass) → GoesOn (split_view old) [] (split_view new)
-    quiet only = entered [] only.puts.agent
-        (enters_none entries_in agent_of_set_entry (SplitMay (domain_numbers d)) (entries_own (domain_numbers d)) (domain_bounds d).agents
-        (seat_of d old.pass) (seat_of d new.pass) only (all_allowed d new.pass u.0) (all_below d new.pass u.0).1)
+-- a pass that makes no event enters nothing
+pub quiet : (old new : SplitSeat) (x : OrcDomain Split SplitNote) → x ≡ split_domain old → IsPassOf x new.pass
+    → Only [] (seat_of x old.pass) (seat_of x new.pass) → GoesOn (split_view old) [] (view_at entries_of HasCause (split_domain old) old.turns new.pass)
+quiet old new x is belongs only =
+    entered entries_of HasCause x (split_domain old) is old.turns old.pass new.pass (seen_are_legal new x belongs) only.puts.agent []
+    (enters_none entries_in agent_of_set_entry (SplitMay (domain_numbers x)) (entries_own (domain_numbers x)) (domain_bounds x).agents
+    (seat_of x old.pass) (seat_of x new.pass) only (all_allowed x new.pass belongs) (all_below x new.pass belongs).1)
 
 -- a new pass has a new place
-pub new_place : (place : SplitSeat) (d : OrcDomain Split SplitNote) (turns : ℕ) (seat : Seat) → seat ≡ AtSplitSet place → d ≡ place.set.value.links
-    → place.turns ≡ turns → IsPassOf d place.pass × IsIdle (seat_of d place.pass) → entries_over d (journal_of place.pass) ≡ []
-    → ArePlacesOf d (tags place.places.value) → IsNewSplitSeat d turns (agent_at place) seat
-new_place place d turns seat is here turns_are u none places =
-    let usable = subst (λ (x : OrcDomain Split SplitNote). IsPassOf x place.pass × IsIdle (seat_of x place.pass)) here u in
-    record {
-      place = place;
-      is = is;
-      usable = record { belongs = usable.0; idle = usable.1; places = places_later places here refl };
-      domain_is = sym here;
-      turns_are = turns_are;
-      agent_is = refl;
-      none = subst (λ (x : OrcDomain Split SplitNote). entries_over x (journal_of place.pass) ≡ []) here none;
-    }
+pub new_place : (place : SplitSeat) (x : OrcDomain Split SplitNote) → x ≡ split_domain place → CanBeUsed x (tags place.places.value) place.pass
+    → entries_of (project (domain_bounds x) (journal_of place.pass)) ≡ [] → IsNewSplitSeat x place.turns (agent_at place) (AtSplitSet place)
+new_place place x here can none = record {
+  place = place;
+  is = refl;
+  usable = used_by place.pass here can;
+  domain_is = sym here;
+  turns_are = refl;
+  agent_is = refl;
+  none = subst (λ (y : OrcDomain Split SplitNote). entries_of (project (domain_bounds y) (journal_of place.pass)) ≡ []) here none;
+}

@@ -7,6 +7,8 @@ pub mod QueueSeats
 pub mod Seats
 pub mod SetCalls
 pub mod SetSeats
+pub mod SetViews
 pub mod Settling
 pub mod SplitCalls
 pub mod SplitSeats
+pub mod Usable

@@ -19,9 +19,9 @@ use Rattle.mooringakee_c_passes.specs.declared.set.SetSeat.{SetSeat}
 use Rattle.mooringakee_c_passes.specs.declared.split.SplitSeat.{SplitSeat}
 use Rattle.mooringakee_c_passes.specs.declared.seat.Seat.{Seat}
 use Rattle.mooringakee_c_passes.specs.declared.seat.Seat.TheVariants.{Queue, Set, Split}
-use Rattle.mooringakee_c_passes.specs.QueueSeats.{IsQueueSeat, agent_at, calls_seen}
-use Rattle.mooringakee_c_passes.specs.SetSeats.{IsSetSeat, agent_at as set_agent_at, calls_seen as set_calls_seen}
-use Rattle.mooringakee_c_passes.specs.SplitSeats.{IsSplitSeat, agent_at as split_agent_at, calls_seen as split_calls_seen}
+use Rattle.mooringakee_c_passes.specs.QueueSeats.{IsQueueSeat, agent_at, calls_seen, queue_domain}
+use Rattle.mooringakee_c_passes.specs.SetSeats.{IsSetSeat, agent_at as set_agent_at, calls_seen as set_calls_seen, set_domain}
+use Rattle.mooringakee_c_passes.specs.SplitSeats.{IsSplitSeat, agent_at as split_agent_at, calls_seen as split_calls_seen, split_domain}
 
 -- the sizes of a container with so many rows, roots and agents
 abbrev pub sizes_of : ℕ → ℕ → ℕ → Bounds
@@ -39,62 +39,55 @@ CanBeSplit rows buckets turns agents = IsSize 256 buckets × CanBeMade rows (buc
 abbrev pub AreFree : List Pass → Type 0
 AreFree passes = All (λ p. p.pointer.seat ≡ None) passes
 
+-- a pass for each agent, in order, to one new container over a domain of these sizes, at which `IsNew` is the place of an agent
+abbrev pub AreNewPasses : {D N : Type 0} → (OrcDomain D N → ℕ → Seat → Type 0) → Bounds → List Pass → Type 0
+AreNewPasses {D} {N} IsNew sizes passes = (domain : OrcDomain D N) × (domain_bounds domain ≡ sizes)
+    × EachAt (λ agent p. (seat : Seat) × (p.pointer.seat ≡ Some seat) × IsNew domain agent seat) passes
+
 -- the agent's place at a new queue over this domain, whose calls have so many turns
 pub record IsNewQueueSeat (domain : OrcDomain Fifo FifoNote) (turns agent : ℕ) (seat : Seat) : Type 0 where
   pub place : QueueSeat
   pub is : seat ≡ Queue place
   pub usable : IsQueueSeat place
-  pub domain_is : place.queue.value.links ≡ domain
+  pub domain_is : queue_domain place ≡ domain
   pub turns_are : place.turns ≡ turns
   pub agent_is : agent_at place ≡ agent
   pub none : calls_seen place ≡ []
 
--- the pass is that
-abbrev pub IsNewQueuePass : OrcDomain Fifo FifoNote → ℕ → ℕ → Pass → Type 0
-IsNewQueuePass domain turns agent pass = (seat : Seat) × (pass.pointer.seat ≡ Some seat) × IsNewQueueSeat domain turns agent seat
-
 -- a pass for each agent, in order, to one new queue
 abbrev pub AreNewQueuePasses : ℕ → ℕ → List Pass → Type 0
-AreNewQueuePasses rows turns passes = (domain : OrcDomain Fifo FifoNote) × (domain_bounds domain ≡ sizes_of rows 2 (length passes))
-    × EachAt (λ agent p. IsNewQueuePass domain turns agent p) passes
+AreNewQueuePasses rows turns passes =
+    AreNewPasses (λ domain agent seat. IsNewQueueSeat domain turns agent seat) (sizes_of rows 2 (length passes)) passes
 
 -- the agent's place at a new set over this domain, whose calls have so many turns
 pub record IsNewSetSeat (domain : OrcDomain Chain ChainNote) (turns agent : ℕ) (seat : Seat) : Type 0 where
   pub place : SetSeat
   pub is : seat ≡ Set place
   pub usable : IsSetSeat place
-  pub domain_is : place.set.value.list.links ≡ domain
+  pub domain_is : set_domain place ≡ domain
   pub turns_are : place.turns ≡ turns
   pub agent_is : set_agent_at place ≡ agent
   pub none : set_calls_seen place ≡ []
 
--- the pass is that
-abbrev pub IsNewSetPass : OrcDomain Chain ChainNote → ℕ → ℕ → Pass → Type 0
-IsNewSetPass domain turns agent pass = (seat : Seat) × (pass.pointer.seat ≡ Some seat) × IsNewSetSeat domain turns agent seat
-
 -- a pass for each agent, in order, to one new set
 abbrev pub AreNewSetPasses : ℕ → ℕ → ℕ → List Pass → Type 0
-AreNewSetPasses rows buckets turns passes = (domain : OrcDomain Chain ChainNote)
-    × (domain_bounds domain ≡ sizes_of rows buckets (length passes)) × EachAt (λ agent p. IsNewSetPass domain turns agent p) passes
+AreNewSetPasses rows buckets turns passes =
+    AreNewPasses (λ domain agent seat. IsNewSetSeat domain turns agent seat) (sizes_of rows buckets (length passes)) passes
 
 -- the agent's place at a new split-ordered set over this domain, whose calls have so many turns
 pub record IsNewSplitSeat (domain : OrcDomain SplitRule SplitNote) (turns agent : ℕ) (seat : Seat) : Type 0 where
   pub place : SplitSeat
   pub is : seat ≡ Split place
   pub usable : IsSplitSeat place
-  pub domain_is : place.set.value.links ≡ domain
+  pub domain_is : split_domain place ≡ domain
   pub turns_are : place.turns ≡ turns
   pub agent_is : split_agent_at place ≡ agent
   pub none : split_calls_seen place ≡ []
 
--- the pass is that
-abbrev pub IsNewSplitPass : OrcDomain SplitRule SplitNote → ℕ → ℕ → Pass → Type 0
-IsNewSplitPass domain turns agent pass = (seat : Seat) × (pass.pointer.seat ≡ Some seat) × IsNewSplitSeat domain turns agent seat
-
 -- a pass for each agent, in order, to one new split-ordered set
 abbrev pub AreNewSplitPasses : ℕ → ℕ → ℕ → List Pass → Type 0
-AreNewSplitPasses rows buckets turns passes = (domain : OrcDomain SplitRule SplitNote)
-    × (domain_bounds domain ≡ sizes_of rows (buckets + 1) (length passes)) × EachAt (λ agent p. IsNewSplitPass domain turns agent p) passes
+AreNewSplitPasses rows buckets turns passes =
+    AreNewPasses (λ domain agent seat. IsNewSplitSeat domain turns agent seat) (sizes_of rows (buckets + 1) (length passes)) passes
 
 -- making a container, whose numbers can be so with so many agents, and whose new passes are these
 abbrev pub Makes : (ℕ → Type 0) → (List Pass → Type 0) → List Pass → Answer → List Pass → Type 0

@@ -13,12 +13,12 @@ use Rattle.orc_domain.specs.Passes.{domain_bounds, journal_of}
 use Rattle.mooringakee_c_passes.specs.declared.answer.Answer.{Answer}
 use Rattle.mooringakee_c_passes.specs.declared.answer.Answer.TheVariants.{Again, Done, Empty, Full, Positions}
 use Rattle.mooringakee_c_passes.specs.declared.queue.QueueSeat.{QueueSeat}
-use Rattle.mooringakee_c_passes.specs.QueueSeats.{agent_at, agents_at, calls_seen}
+use Rattle.mooringakee_c_passes.specs.QueueSeats.{agent_at, agents_at, calls_seen, queue_domain}
 
 -- the place is the same, and its pass has seen more calls: its own among them are these, in this order, and all of them are those of
 -- one queue, which is empty at first, whose Puts append and whose Tooks take the front
 pub record GoesOn (old : QueueSeat) (own : List QueueEntry) (new : QueueSeat) : Type 0 where
-  pub queue : new.queue ≡ old.queue
+  pub share : new.share ≡ old.share
   pub turns : new.turns ≡ old.turns
   pub agent : agent_at new ≡ agent_at old
   pub entered : Adds agent_of_entry (λ by. by < agents_at old) (agent_at old) (calls_seen old) own (calls_seen new)
@@ -27,7 +27,7 @@ pub record GoesOn (old : QueueSeat) (own : List QueueEntry) (new : QueueSeat) : 
 -- the cause of a refusal between two places of the steps that the pass has seen
 abbrev pub HasCause : QueueSeat → QueueRefused → ℕ → ℕ → Type 0
 HasCause s why from to =
-    let bounds = domain_bounds s.queue.value.links in
+    let bounds = domain_bounds (queue_domain s) in
     Cause (λ step. step.agent) (λ journal. project bounds journal) 0 (IsLacking bounds (agent_at s) (journal_of s.pass) from to)
     (agent_at s) s.turns why (journal_of s.pass) from to
 

@@ -26,8 +26,8 @@ AtQueue call _ _ _ = ⊥
 
 -- a call at a set of any kind: the set is the same, and a place at a queue stays as it is
 abbrev pub AtSet : (SetView → Answer → SetView → Type 0) → Seat → Answer → Seat → Type 0
-AtSet call (Set old) answer (Set new) = (new.set ≡ old.set) × call (set_view old) answer (set_view new)
-AtSet call (Split old) answer (Split new) = (new.set ≡ old.set) × call (split_view old) answer (split_view new)
+AtSet call (Set old) answer (Set new) = (new.share ≡ old.share) × call (set_view old) answer (set_view new)
+AtSet call (Split old) answer (Split new) = (new.share ≡ old.share) × call (split_view old) answer (split_view new)
 AtSet call (Queue old) Kind (Queue new) = new ≡ old
 AtSet call _ _ _ = ⊥
 

@@ -1,5 +1,5 @@
 -- What a call at a set answers, by what the agent's place shows before it, `old`, and after it, `new`.
-use Rattle.std.specs.Prelude.{Bool, List, [], ℕ, ◌<◌, ◌∷◌, ◌≡◌}
+use Rattle.std.specs.Prelude.{Bool, List, [], ℕ, ◌∷◌, ◌≡◌}
 use Rattle.orc_fault.specs.declared.Spent.{Spent as SpentRow}
 use Rattle.orc_history.specs.Journals.{Adds, Within}
 use Rattle.orc_history.specs.SetHistory.{IsLegalSet, agent_of_set_entry}
@@ -9,13 +9,16 @@ use Rattle.orc_history.specs.declared.set.ListRefused.{ListRefused}
 use Rattle.orc_history.specs.declared.set.ListRefused.TheVariants.{Again as UsedTurns, NoNode, Spent as UsedRow}
 use Rattle.mooringakee_c_passes.specs.declared.answer.Answer.{Answer}
 use Rattle.mooringakee_c_passes.specs.declared.answer.Answer.TheVariants.{Again, Done, Full, Spent}
+use Rattle.mooringakee_c_passes.specs.declared.set_calls.KeyCall.{KeyCall}
+use Rattle.mooringakee_c_passes.specs.declared.set_calls.KeyCall.TheVariants.{Contains, Insert, Remove}
 
--- what an agent's place at a set of any kind shows: the calls of the set that its pass has seen, in their order; its agent, and how many
--- agents there are; how many turns a call has; how many steps its pass has seen; and between which two places of these a refusal has its cause
+-- what an agent's place at a set of any kind shows: the calls of the set that its pass has seen, in their order; its agent, and the agents
+-- whose calls may come between; how many turns a call has; how many steps its pass has seen; and between which two places of these a
+-- refusal has its cause
 pub record SetView : Type 1 where
   pub seen : List SetEntry
   pub agent : ℕ
-  pub agents : ℕ
+  pub crowd : ℕ → Type 0
   pub turns : ℕ
   pub steps : ℕ
   pub has_cause : ListRefused → ℕ → ℕ → Type 0
@@ -24,7 +27,7 @@ pub record SetView : Type 1 where
 pub record GoesOn (old : SetView) (own : List SetEntry) (new : SetView) : Type 0 where
   pub turns : new.turns ≡ old.turns
   pub agent : new.agent ≡ old.agent
-  pub entered : Adds agent_of_set_entry (λ by. by < old.agents) old.agent old.seen own new.seen
+  pub entered : Adds agent_of_set_entry old.crowd old.agent old.seen own new.seen
   pub legal : IsLegalSet new.seen
 
 -- the call entered nothing, and was refused for this cause
@@ -51,3 +54,9 @@ abbrev pub Asks : ℕ → Bool → SetView → Answer → SetView → Type 0
 Asks key after old Done new = GoesOn old (Asked old.agent key after ∷ []) new
 Asks key after old Again new = Refuses old UsedTurns new
 Asks key after old _ new = ⊥
+
+-- any of these calls
+abbrev pub AnswersCall : KeyCall → ℕ → Bool → SetView → Answer → SetView → Type 0
+AnswersCall Insert key after old answer new = Inserts key after old answer new
+AnswersCall Remove key after old answer new = Removes key after old answer new
+AnswersCall Contains key after old answer new = Asks key after old answer new

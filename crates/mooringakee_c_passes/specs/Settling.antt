@@ -11,11 +11,11 @@ use Rattle.mooringakee_c_passes.specs.declared.seat.Seat.TheVariants.{Queue, Set
 use Rattle.orc_any_domain.specs.declared.domain.RowCounts.{RowCounts}
 use Rattle.mooringakee_c_passes.specs.Ending.{TellsRows}
 use Rattle.mooringakee_c_passes.specs.QueueCalls.{GoesOn}
-use Rattle.mooringakee_c_passes.specs.QueueSeats.{agent_at}
+use Rattle.mooringakee_c_passes.specs.QueueSeats.{agent_at, queue_domain}
 use Rattle.mooringakee_c_passes.specs.Seats.{IsSeat}
 use Rattle.mooringakee_c_passes.specs.SetCalls.{GoesOn as SetGoesOn}
-use Rattle.mooringakee_c_passes.specs.SetSeats.{agent_at as set_agent_at, set_view}
-use Rattle.mooringakee_c_passes.specs.SplitSeats.{agent_at as split_agent_at, split_view}
+use Rattle.mooringakee_c_passes.specs.SetSeats.{agent_at as set_agent_at, set_domain, set_view}
+use Rattle.mooringakee_c_passes.specs.SplitSeats.{agent_at as split_agent_at, split_domain, split_view}
 
 -- how many retired rows the pass has to work through: those in its work list, and one that it has in hand or scanned
 abbrev pub backlog_at : Seat → ℕ
@@ -33,8 +33,8 @@ WasAlone _ _ = ⊥
 -- the place is the same, and its agent entered nothing
 abbrev pub EntersNone : Seat → Seat → Type 0
 EntersNone (Queue old) (Queue new) = GoesOn old [] new
-EntersNone (Set old) (Set new) = (new.set ≡ old.set) × SetGoesOn (set_view old) [] (set_view new)
-EntersNone (Split old) (Split new) = (new.set ≡ old.set) × SetGoesOn (split_view old) [] (split_view new)
+EntersNone (Set old) (Set new) = (new.share ≡ old.share) × SetGoesOn (set_view old) [] (set_view new)
+EntersNone (Split old) (Split new) = (new.share ≡ old.share) × SetGoesOn (split_view old) [] (split_view new)
 EntersNone _ _ = ⊥
 
 -- nothing is left, or some rows, which is so only where other agents made steps meanwhile
@@ -56,6 +56,6 @@ GivesUp _ _ _ = ⊥
 
 -- the container came to rest, and these are the counts of its rows
 abbrev pub Tells : Seat → RowCounts → Type 0
-Tells (Queue s) counts = TellsRows s.queue.value.links s.places.value counts
-Tells (Set s) counts = TellsRows s.set.value.list.links s.places.value counts
-Tells (Split s) counts = TellsRows s.set.value.links s.places.value counts
+Tells (Queue s) counts = TellsRows (queue_domain s) s.places.value counts
+Tells (Set s) counts = TellsRows (set_domain s) s.places.value counts
+Tells (Split s) counts = TellsRows (split_domain s) s.places.value counts

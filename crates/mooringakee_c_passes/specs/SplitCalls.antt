@@ -14,6 +14,6 @@ HadBuckets count old new = IsSize (most_buckets old) count × (buckets_at old �
 
 -- a question how many buckets there are, where the caller's variable is `after` the call: no call of the set is entered
 abbrev pub CountsBuckets : ℕ → SplitSeat → Answer → SplitSeat → Type 0
-CountsBuckets after old Done new = (new.set ≡ old.set) × GoesOn (split_view old) [] (split_view new) × HadBuckets after old new
-CountsBuckets after old Again new = (new.set ≡ old.set) × Refuses (split_view old) UsedTurns (split_view new)
+CountsBuckets after old Done new = (new.share ≡ old.share) × GoesOn (split_view old) [] (split_view new) × HadBuckets after old new
+CountsBuckets after old Again new = (new.share ≡ old.share) × Refuses (split_view old) UsedTurns (split_view new)
 CountsBuckets after old _ new = ⊥

@@ -1,6 +1,6 @@
 //! How all passes of a container are given back, and what is told of its rows then.
 
-ghost use Rattle.std.specs.Prelude.{◌≡◌, All, IfOk, IsTrue, length};
+ghost use Rattle.std.specs.Prelude.{◌≡◌, All, IfOk, IfSome, IsTrue, length};
 ghost use Rattle.given_back.specs.Places.{tags};
 ghost use Rattle.orc_heap.specs.Seats.{IsIdle};
 ghost use Rattle.orc_machine_board.specs.Rules.{run_of};
@@ -9,12 +9,14 @@ ghost use Rattle.orc_domain.specs.Passes.{IsPassOf, domain_bounds, seat_of};
 ghost use Rattle.orc_rest.specs.Rest.{IsAtRest};
 ghost use Rattle.orc_shared_words.specs.Lists.{EachAt};
 ghost use Rattle.mooringakee_c_passes.specs.Ending.{ArePlacesOf, TellsRows};
+ghost use Rattle.mooringakee_c_passes.specs.Usable.{CanBeUsed};
 
 use given_back::{GivenBack, Keeps, Unfinished};
 use orc_any_domain::RowCounts;
 use orc_domain::{OrcDomain, OrcPass};
 use orc_heap::{Discipline, Links};
 use std::alloc::Global;
+use std::sync::Arc;
 
 /// The rule of passes that are given back: each is one of the domain, and idle.
 pub(crate) struct Idle;
@@ -28,8 +30,49 @@ impl<D: Discipline> Keeps<OrcPass<D>> for Idle {
 /// Places for the passes of one domain.
 pub(crate) type Places<D> = GivenBack<OrcPass<D>, Idle>;
 
+// Gives a pass back. The last one to do so gets them all.
+fn give_back<D: Discipline>(
+    domain: &OrcDomain<D>,
+    places: Arc<Places<D>, Global>,
+    pass: OrcPass<D>,
+) -> Option<Places<D>>
+    requires { CanBeUsed domain.now (tags places.value) pass }
+    ensures { IfSome result (λ all. all ≡ places.value) }
+{
+    let agent = domain.agent(&pass);
+    places.give(agent as usize, pass);
+    Arc::into_inner(places)
+}
+
+// Gives a pass up.
+pub(crate) fn leave<D: Discipline>(
+    domain: &OrcDomain<D>,
+    places: Arc<Places<D>, Global>,
+    pass: OrcPass<D>,
+)
+    requires { CanBeUsed domain.now (tags places.value) pass }
+{
+    give_back(domain, places, pass);
+}
+
+// Gives a pass up. The last one to do so brings the domain to rest, and tells of its rows.
+pub(crate) fn close<D: Discipline>(
+    alloc: Global,
+    domain: &OrcDomain<D>,
+    places: Arc<Places<D>, Global>,
+    pass: OrcPass<D>,
+) -> Result<Option<RowCounts>, Unfinished>
+    requires { CanBeUsed domain.now (tags places.value) pass }
+    ensures { IfOk result (λ told. IfSome told (λ counts. TellsRows domain.now places.value counts)) }
+{
+    let Some(all) = give_back(domain, places, pass) else {
+        return Ok(None);
+    };
+    Ok(Some(end(alloc, domain, all)?))
+}
+
 // Brings a domain to rest with all its passes, which were given back, ends these, and tells of its rows.
-pub(crate) fn end<D: Discipline>(
+fn end<D: Discipline>(
     alloc: Global,
     domain: &OrcDomain<D>,
     places: GivenBack<OrcPass<D>, Idle>,

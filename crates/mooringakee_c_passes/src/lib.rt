@@ -11,7 +11,10 @@ mod pass;
 mod pointer;
 mod queue;
 mod seat;
+mod seating;
 mod set;
+mod set_calls;
+mod settling;
 mod split;
 
 pub use answer::Answer;

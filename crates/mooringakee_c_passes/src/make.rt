@@ -71,6 +71,3 @@ pub fn hand_out(places: &mut [Pass], seats: Vec<Box<Seat>>)
         places[left.len()] = Pass::of(seat);
     }
 }
-
-// Has the check show that a value may go to another thread.
-pub(crate) fn may_cross<T: Send>(_value: &T) {}

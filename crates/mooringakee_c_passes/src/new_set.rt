@@ -1,25 +1,24 @@
 //! New sets.
 
-ghost use Rattle.std.specs.Prelude.{◌≡◌, All, IfOk, [], length};
+ghost use Rattle.std.specs.Prelude.{◌≡◌, IfOk, [], length};
 ghost use Rattle.given_back.specs.Places.{tags};
 ghost use Rattle.orc_chain_rule.specs.declared.chain.Chain.{Chain};
 ghost use Rattle.orc_chain_rule.specs.declared.chain.ChainNote.{ChainNote};
 ghost use Rattle.orc_chain_rule.specs.ChainDiscipline.{entries_of};
-ghost use Rattle.orc_heap.specs.Seats.{IsIdle};
 ghost use Rattle.orc_projection.specs.Projection.{project};
-ghost use Rattle.orc_domain.specs.Passes.{IsPassOf, domain_bounds, journal_of, seat_of};
+ghost use Rattle.orc_domain.specs.Passes.{domain_bounds, journal_of, seat_of};
 ghost use Rattle.orc_domain.specs.declared.domain.OrcDomain.{OrcDomain};
 ghost use Rattle.orc_shared_words.specs.Lists.{EachAt};
 ghost use Rattle.orc_words.specs.Bounds.{bounds_of};
-ghost use Rattle.mooringakee_c_passes.specs.Ending.{ArePlacesOf};
 ghost use Rattle.mooringakee_c_passes.specs.Making.{IsNewSetSeat};
+ghost use Rattle.mooringakee_c_passes.specs.Usable.{CanBeUsed};
 
 use crate::ending::Places;
-use crate::make::may_cross;
 use crate::seat::Seat;
-use crate::set::{ReclaimingSet, SetSeat};
+use crate::seating::{Seating, new_domain, seat_all};
+use crate::set::{SetSeat, SetShare};
 use orc_chain_rule::Chain;
-use orc_domain::{OrcDomain, OrcPass};
+use orc_domain::OrcPass;
 use orc_fault::NoMemory;
 use orc_heap::Seed;
 use orc_list::List;
@@ -28,61 +27,50 @@ use orc_words::Shape;
 use std::alloc::Global;
 use std::sync::Arc;
 
+// What gives the passes of a new set their places.
+#[derive(Drop)]
+struct NewSet {
+    share: SetShare,
+    places: Arc<Places<Chain>, Global>,
+    turns: u64,
+}
+
+impl Seating for NewSet {
+    type Pass = OrcPass<Chain>;
+
+    ghost is_new = { λ s p. CanBeUsed s.share.set.value.list.links (tags s.places.value) p × (entries_of (project (domain_bounds s.share.set.value.list.links) (journal_of p)) ≡ []) };
+
+    ghost is_place = { λ s p seat. IsNewSetSeat s.share.set.value.list.links s.turns (seat_of s.share.set.value.list.links p).agent seat };
+
+    fn seat(&self, pass: OrcPass<Chain>) -> Result<Seat, NoMemory> {
+        let set = self.share.set.clone()?;
+        let places = self.places.clone()?;
+        let turns = self.turns;
+        Ok(Seat::Set(SetSeat {
+            share: SetShare { set },
+            places,
+            pass,
+            turns,
+        }))
+    }
+}
+
 /// A new set of this shape, with a bucket for each of its roots, as a place for each agent, in order.
 pub fn set_seats(alloc: Global, shape: &Shape, turns: u64) -> Result<Vec<Box<Seat>>, NoMemory>
     ensures many { IfOk result (λ seats. length seats.items ≡ (bounds_of shape.now).agents) }
     ensures places { IfOk result (λ seats. (domain : OrcDomain Chain ChainNote) × (domain_bounds domain ≡ bounds_of shape.now)
         × EachAt (λ agent b. IsNewSetSeat domain turns agent b.value) seats.items) }
 {
-    let (domain, passes) = OrcDomain::make(alloc, shape, Seed::Empty)?;
-    let places = Arc::new(alloc, Places::new(alloc, passes.len(), &domain)?)?;
-    let set = Arc::new(alloc, Set::new(List::new(domain), shape.roots()))?;
-    seat_all(alloc, set, places, passes, turns)
-}
-
-// The place of each pass at its set.
-fn seat_all(
-    alloc: Global,
-    set: Arc<ReclaimingSet>,
-    places: Arc<Places<Chain>>,
-    passes: Vec<OrcPass<Chain>>,
-    turns: u64,
-) -> Result<Vec<Box<Seat>>, NoMemory>
-    requires usable { All (λ p. IsPassOf set.value.list.links p × IsIdle (seat_of set.value.list.links p)) passes.items }
-    requires places { ArePlacesOf set.value.list.links (tags places.value) }
-    requires agents { EachAt (λ agent p. (seat_of set.value.list.links p).agent ≡ agent) passes.items }
-    requires none { All (λ p. entries_of (project (domain_bounds set.value.list.links) (journal_of p)) ≡ []) passes.items }
-    ensures many { IfOk result (λ seats. length seats.items ≡ length passes.items) }
-    ensures places { IfOk result (λ seats. EachAt (λ agent b. IsNewSetSeat set.value.list.links turns agent b.value) seats.items) }
-{
-    let mut seats = Vec::new(alloc);
-    for pass in passes {
-        seats.push(set_seat(alloc, &set, &places, pass, turns)?)?;
-    }
-    Ok(seats)
-}
-
-// The place of a pass at its set.
-fn set_seat(
-    alloc: Global,
-    set: &Arc<ReclaimingSet>,
-    places: &Arc<Places<Chain>>,
-    pass: OrcPass<Chain>,
-    turns: u64,
-) -> Result<Box<Seat>, NoMemory>
-    requires usable { IsPassOf set.now.value.list.links pass × IsIdle (seat_of set.now.value.list.links pass) }
-    requires places { ArePlacesOf set.now.value.list.links (tags places.now.value) }
-    requires none { entries_of (project (domain_bounds set.now.value.list.links) (journal_of pass)) ≡ [] }
-    ensures { IfOk result (λ b. IsNewSetSeat set.now.value.list.links turns (seat_of set.now.value.list.links pass).agent b.value) }
-{
-    let set = set.clone()?;
-    let places = places.clone()?;
-    let seat = Seat::Set(SetSeat {
-        set,
+    let (domain, passes, rooms) = new_domain(alloc, shape, Seed::Empty)?;
+    let list = List::new(domain);
+    let made = Set::new(list, shape.roots());
+    let set = Arc::new(alloc, made)?;
+    let places = Arc::new(alloc, rooms)?;
+    let share = SetShare { set };
+    let seating = NewSet {
+        share,
         places,
-        pass,
         turns,
-    });
-    may_cross(&seat);
-    Ok(Box::new(alloc, seat)?)
+    };
+    seat_all(alloc, &seating, passes)
 }

@@ -7,12 +7,12 @@ ghost use Rattle.mooringakee_c_passes.specs.Settling.{Tells, WasAlone, backlog_a
 ghost use Rattle.mooringakee_c_passes.specs.declared.seat.Seat.{Seat};
 
 use crate::answer::Answer;
-use crate::ending::{Places, end};
+use crate::ending::{Places, close, leave};
+use crate::settling::settle;
 use given_back::Unfinished;
 use orc_any_domain::RowCounts;
 use orc_domain::{OrcDomain, OrcPass};
 use orc_fifo_rule::Fifo;
-use orc_heap::Links;
 use orc_history::{QueueRefused, SharedQueue};
 use orc_queue::Queue;
 use std::alloc::Global;
@@ -21,11 +21,26 @@ use std::sync::Arc;
 /// Michael and Scott's queue over a domain whose rows are reclaimed.
 pub(crate) type ReclaimingQueue = Queue<OrcDomain<Fifo>>;
 
+/// An agent's share of such a queue.
+#[derive(Drop)]
+pub struct QueueShare {
+    pub(crate) queue: Arc<ReclaimingQueue, Global>,
+}
+
+impl QueueShare {
+    // The domain that the queue stands on.
+    pub(crate) fn domain(&self) -> &OrcDomain<Fifo>
+        ensures { result.now ≡ self.now.queue.value.links }
+    {
+        self.queue.links()
+    }
+}
+
 /// An agent's place at a queue: its share of it and of the places to which passes are given back, its pass, and how many turns a
 /// call has.
 #[derive(Drop)]
 pub struct QueueSeat {
-    pub(crate) queue: Arc<ReclaimingQueue, Global>,
+    pub(crate) share: QueueShare,
     pub(crate) places: Arc<Places<Fifo>, Global>,
     pub(crate) pass: OrcPass<Fifo>,
     pub(crate) turns: u64,
@@ -38,7 +53,7 @@ impl QueueSeat {
         ensures seat { IsQueueSeat self.new }
         ensures answer { Puts value self.old result self.new }
     {
-        match self.queue.enqueue(&mut self.pass, value, self.turns) {
+        match self.share.queue.enqueue(&mut self.pass, value, self.turns) {
             Ok(_) => Answer::Done,
             Err(QueueRefused::Again) => Answer::Again,
             Err(QueueRefused::NoNode) => Answer::Full,
@@ -53,7 +68,7 @@ impl QueueSeat {
         ensures answer { Takes value.new self.old result self.new }
         ensures kept { (result ≡ Answer.Done) ⊎ (value.new ≡ value.old) }
     {
-        match self.queue.dequeue(&mut self.pass, self.turns) {
+        match self.share.queue.dequeue(&mut self.pass, self.turns) {
             Ok(Some((taken, _))) => {
                 *value = taken;
                 Answer::Done
@@ -71,8 +86,7 @@ impl QueueSeat {
         ensures backlog { IsTrue result ↔ (backlog_at (Seat.Queue self.new) ≡ 0) }
         ensures alone { WasAlone (Seat.Queue self.old) (Seat.Queue self.new) → backlog_at (Seat.Queue self.new) ≡ 0 }
     {
-        self.queue.links().drain(&mut self.pass);
-        self.backlog() == 0
+        settle(self.share.domain(), &mut self.pass)
     }
 
     // How many retired rows the pass has to work through.
@@ -80,31 +94,20 @@ impl QueueSeat {
         requires { IsQueueSeat self.now }
         ensures { result ≡ backlog_at (Seat.Queue self.now) }
     {
-        self.queue.links().backlog(&self.pass)
-    }
-
-    // Gives the pass back. The last one to do so gets them all.
-    fn give_back(self) -> (Arc<ReclaimingQueue, Global>, Option<Places<Fifo>>)
-        requires { IsQueueSeat self }
-        ensures queue { result.0 ≡ self.queue }
-        ensures places { IfSome result.1 (λ all. all ≡ self.places.value) }
-    {
-        let QueueSeat {
-            queue,
-            places,
-            pass,
-            turns: _,
-        } = self;
-        let agent = queue.links().agent(&pass);
-        places.give(agent as usize, pass);
-        (queue, Arc::into_inner(places))
+        self.share.domain().backlog(&self.pass)
     }
 
     // Gives the pass up.
     pub(crate) fn leave(self)
         requires { IsQueueSeat self }
     {
-        self.give_back();
+        let QueueSeat {
+            share,
+            places,
+            pass,
+            turns: _,
+        } = self;
+        leave(share.domain(), places, pass);
     }
 
     // Gives the pass up. The last one to do so brings the queue to rest, and tells of its rows.
@@ -112,10 +115,12 @@ impl QueueSeat {
         requires { IsQueueSeat self }
         ensures { IfOk result (λ told. IfSome told (λ counts. Tells (Seat.Queue self) counts)) }
     {
-        let (queue, all) = self.give_back();
-        let Some(places) = all else {
-            return Ok(None);
-        };
-        Ok(Some(end(alloc, queue.links(), places)?))
+        let QueueSeat {
+            share,
+            places,
+            pass,
+            turns: _,
+        } = self;
+        close(alloc, share.domain(), places, pass)
     }
 }

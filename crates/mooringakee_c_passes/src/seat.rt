@@ -3,13 +3,14 @@
 ghost use Rattle.std.specs.Prelude.{◌≡◌, ◌⊎◌, IfOk, IfSome};
 ghost use Rattle.mooringakee_c_passes.specs.QueueCalls.{Puts, Takes};
 ghost use Rattle.mooringakee_c_passes.specs.Seats.{AtQueue, AtSet, AtSplit, IsSeat};
-ghost use Rattle.mooringakee_c_passes.specs.SetCalls.{Asks, Inserts, Removes};
+ghost use Rattle.mooringakee_c_passes.specs.SetCalls.{AnswersCall, Asks, Inserts, Removes};
 ghost use Rattle.mooringakee_c_passes.specs.Settling.{Settles, Tells, backlog_at};
 ghost use Rattle.mooringakee_c_passes.specs.SplitCalls.{CountsBuckets};
 
 use crate::answer::Answer;
 use crate::queue::QueueSeat;
 use crate::set::SetSeat;
+use crate::set_calls::KeyCall;
 use crate::split::SplitSeat;
 use given_back::Unfinished;
 use orc_any_domain::RowCounts;
@@ -49,6 +50,20 @@ impl Seat {
         }
     }
 
+    // Makes a call with a key at the set.
+    fn call(&mut self, call: KeyCall, key: u64, yes: &mut bool) -> Answer
+        requires { IsSeat self.old }
+        ensures seat { IsSeat self.new }
+        ensures answer { AtSet (AnswersCall call key yes.new) self.old result self.new }
+        ensures kept { (result ≡ Answer.Done) ⊎ (yes.new ≡ yes.old) }
+    {
+        match self {
+            Seat::Queue(_) => Answer::Kind,
+            Seat::Set(seat) => seat.call(call, key, yes),
+            Seat::Split(seat) => seat.call(call, key, yes),
+        }
+    }
+
     /// Adds a key to the set, and tells whether it was absent.
     pub fn insert(&mut self, key: u64, absent: &mut bool) -> Answer
         requires { IsSeat self.old }
@@ -56,11 +71,7 @@ impl Seat {
         ensures answer { AtSet (Inserts key absent.new) self.old result self.new }
         ensures kept { (result ≡ Answer.Done) ⊎ (absent.new ≡ absent.old) }
     {
-        match self {
-            Seat::Queue(_) => Answer::Kind,
-            Seat::Set(seat) => seat.insert(key, absent),
-            Seat::Split(seat) => seat.insert(key, absent),
-        }
+        self.call(KeyCall::Insert, key, absent)
     }
 
     /// Takes a key out of the set, and tells whether it was present.
@@ -70,11 +81,7 @@ impl Seat {
         ensures answer { AtSet (Removes key present.new) self.old result self.new }
         ensures kept { (result ≡ Answer.Done) ⊎ (present.new ≡ present.old) }
     {
-        match self {
-            Seat::Queue(_) => Answer::Kind,
-            Seat::Set(seat) => seat.remove(key, present),
-            Seat::Split(seat) => seat.remove(key, present),
-        }
+        self.call(KeyCall::Remove, key, present)
     }
 
     /// Tells whether a key is present in the set.
@@ -84,11 +91,7 @@ impl Seat {
         ensures answer { AtSet (Asks key present.new) self.old result self.new }
         ensures kept { (result ≡ Answer.Done) ⊎ (present.new ≡ present.old) }
     {
-        match self {
-            Seat::Queue(_) => Answer::Kind,
-            Seat::Set(seat) => seat.contains(key, present),
-            Seat::Split(seat) => seat.contains(key, present),
-        }
+        self.call(KeyCall::Contains, key, present)
     }
 
     /// Tells how many buckets the split-ordered set has.

@@ -1,9 +1,9 @@
 -- Each refusal has its cause, and the new places make new passes.
 use Rattle.std.proofs.Common.{ap, arith, length, refl, sym, ◌+◌, ◌∙◌, ◌≡◌}
 use Rattle.orc_words.specs.Bounds.{Bounds, bounds_of}
-use Rattle.mooringakee_c_passes.specs.Making.{sizes_of}
+use Rattle.mooringakee_c_passes.specs.Making.{IsNewSplitSeat, sizes_of}
 use Rattle.mooringakee_c_passes.specs.declared.answer.Answer.TheVariants.{Done, Live, NoMemory, Shape}
-use Rattle.mooringakee_c_passes.proofs.NewPasses.{new_split_passes}
+use Rattle.mooringakee_c_passes.proofs.NewPasses.{new_passes}
 use Rattle.mooringakee_c_passes.proofs.Saying.{said}
 use Rattle.mooringakee_c.proofs.mooringakee_proved_split_set_make.Goals as goal
 
@@ -34,7 +34,8 @@ returns c =
       (
         c.in-Some.ensures.in_range,
         c.if-not-are_free.ensures.0 refl,
-        new_split_passes c.args.rows c.args.buckets c.args.turns (bounds_of c.in-Some.shape) c.hand_out.new.places c.in-Ok.seats.items
+        new_passes (λ domain agent seat. IsNewSplitSeat domain c.args.turns agent seat) (bounds_of c.in-Some.shape)
+            (sizes_of c.args.rows (c.args.buckets + 1) (length c.hand_out.new.places)) c.hand_out.new.places c.in-Ok.seats.items
             (sizes ∙ (λ j. sizes_of c.args.rows (c.args.buckets + 1) (sym same j))) (c.in-Ok.ensures.many ∙ (agents ∙ sym same)) c.hand_out.ensures
             c.in-Ok.ensures.places,
       ),

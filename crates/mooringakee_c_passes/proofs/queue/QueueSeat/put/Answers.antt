@@ -1,11 +1,15 @@
 -- A put that is done entered its value, and a refusal has its cause.
-use Rattle.std.proofs.Common.{[], refl, subst, ◌∷◌}
+use Rattle.std.proofs.Common.{[], refl, subst, sym, ◌∷◌}
 use Rattle.orc_history.specs.declared.queue.QueueEntry.TheVariants.{Put}
 use Rattle.orc_history.specs.declared.queue.QueueRefused.{QueueRefused}
 use Rattle.mooringakee_c_passes.specs.QueueCalls.{Refuses}
 use Rattle.mooringakee_c_passes.specs.QueueSeats.{agent_at}
 use Rattle.mooringakee_c_passes.proofs.QueuePlaces.{entered, refused, stays}
+use Rattle.mooringakee_c_passes.proofs.SamePlaces.{usable_by}
 use Rattle.mooringakee_c_passes.proofs.queue.QueueSeat.put.Goals as goal
+
+pub enqueue-requires : goal.enqueue-requires
+enqueue-requires c = usable_by c.args.self.now.pass (λ j. (sym c.deref.ensures j).links) c.requires.usable.belongs c.requires.usable.idle
 
 pub returns-in-Ok-clause-answer : goal.returns-in-Ok-clause-answer
 returns-in-Ok-clause-answer c = (
@@ -35,3 +39,15 @@ returns-in-Err-Positions-clause-answer c =
     subst (λ (why : QueueRefused). Refuses c.args.self.now why (record c.args.self.now { pass = c.enqueue.new.p })) c.in-Err-Positions.field-0-is
     (refused c.args.self.now (record c.args.self.now { pass = c.enqueue.new.p }) c.requires refl refl refl c.deref.result.now.links (λ j. (c.deref.ensures j).links) c.in-Err-Positions.ensures.usable c.in-Err-Positions.field-0
     c.in-Err-Positions.ensures.agent c.in-Err-Positions.ensures.none c.in-Err-Positions.ensures.licence)
+
+pub returns-in-Ok-clause-seat : goal.returns-in-Ok-clause-seat
+returns-in-Ok-clause-seat c =
+    stays c.args.self.now (record c.args.self.now { pass = c.enqueue.new.p }) c.requires refl refl refl c.deref.result.now.links (λ j. (c.deref.ensures j).links) c.in-Ok.ensures.usable
+
+pub returns-in-Err-Again-clause-seat : goal.returns-in-Err-Again-clause-seat
+returns-in-Err-Again-clause-seat c =
+    stays c.args.self.now (record c.args.self.now { pass = c.enqueue.new.p }) c.requires refl refl refl c.deref.result.now.links (λ j. (c.deref.ensures j).links) c.in-Err-Again.ensures.usable
+
+pub returns-in-Err-Positions-clause-seat : goal.returns-in-Err-Positions-clause-seat
+returns-in-Err-Positions-clause-seat c =
+    stays c.args.self.now (record c.args.self.now { pass = c.enqueue.new.p }) c.requires refl refl refl c.deref.result.now.links (λ j. (c.deref.ensures j).links) c.in-Err-Positions.ensures.usable

@@ -1,0 +1,110 @@
+//! The calls of any set that agents share, as they are answered to C.
+
+ghost use Rattle.std.specs.Prelude.{◌≡◌, ◌⊎◌};
+ghost use Rattle.mooringakee_c_passes.specs.SetCalls.{AnswersCall, Asks, Inserts, Removes};
+ghost use Rattle.mooringakee_c_passes.specs.SetViews.{view_over};
+
+use crate::answer::Answer;
+use orc_history::{ListRefused, SharedSet};
+use std::alloc::Global;
+use std::sync::Arc;
+
+/// A call of a set with a key.
+#[derive(Clone, Copy)]
+pub enum KeyCall {
+    /// It adds the key, and tells whether it was absent.
+    Insert,
+    /// It takes the key out, and tells whether it was present.
+    Remove,
+    /// It tells whether the key is present.
+    Contains,
+}
+
+// Adds a key, and tells whether it was absent.
+fn insert_key<S: SharedSet>(
+    set: &Arc<S, Global>,
+    p: &mut S::Pass,
+    turns: u64,
+    key: u64,
+    absent: &mut bool,
+) -> Answer
+    requires { S.usable set.now.value p.old }
+    ensures usable { S.usable set.now.value p.new }
+    ensures answer { Inserts key absent.new (view_over S.SharedSet set.now.value turns p.old) result
+        (view_over S.SharedSet set.now.value turns p.new) }
+    ensures kept { (result ≡ Answer.Done) ⊎ (absent.new ≡ absent.old) }
+{
+    match set.insert(p, key, turns) {
+        Ok(yes) => {
+            *absent = yes;
+            Answer::Done
+        }
+        Err(ListRefused::Again) => Answer::Again,
+        Err(ListRefused::NoNode) => Answer::Full,
+        Err(ListRefused::Spent(_)) => Answer::Spent,
+    }
+}
+
+// Takes a key out, and tells whether it was present.
+fn remove_key<S: SharedSet>(
+    set: &Arc<S, Global>,
+    p: &mut S::Pass,
+    turns: u64,
+    key: u64,
+    present: &mut bool,
+) -> Answer
+    requires { S.usable set.now.value p.old }
+    ensures usable { S.usable set.now.value p.new }
+    ensures answer { Removes key present.new (view_over S.SharedSet set.now.value turns p.old) result
+        (view_over S.SharedSet set.now.value turns p.new) }
+    ensures kept { (result ≡ Answer.Done) ⊎ (present.new ≡ present.old) }
+{
+    let Ok(yes) = set.remove(p, key, turns) else {
+        return Answer::Again;
+    };
+    *present = yes;
+    Answer::Done
+}
+
+// Tells whether a key is present.
+fn find_key<S: SharedSet>(
+    set: &Arc<S, Global>,
+    p: &mut S::Pass,
+    turns: u64,
+    key: u64,
+    present: &mut bool,
+) -> Answer
+    requires { S.usable set.now.value p.old }
+    ensures usable { S.usable set.now.value p.new }
+    ensures answer { Asks key present.new (view_over S.SharedSet set.now.value turns p.old) result
+        (view_over S.SharedSet set.now.value turns p.new) }
+    ensures kept { (result ≡ Answer.Done) ⊎ (present.new ≡ present.old) }
+{
+    let Ok(yes) = set.contains(p, key, turns) else {
+        return Answer::Again;
+    };
+    *present = yes;
+    Answer::Done
+}
+
+// Makes a call with a key.
+pub(crate) fn make_call<S: SharedSet>(
+    set: &Arc<S, Global>,
+    p: &mut S::Pass,
+    turns: u64,
+    call: KeyCall,
+    key: u64,
+    yes: &mut bool,
+) -> Answer
+    requires { S.usable set.now.value p.old }
+    ensures usable { S.usable set.now.value p.new }
+    ensures answer { AnswersCall call key yes.new (view_over S.SharedSet set.now.value turns p.old) result
+        (view_over S.SharedSet set.now.value turns p.new) }
+    ensures kept { (result ≡ Answer.Done) ⊎ (yes.new ≡ yes.old) }
+{
+    match call {
+        KeyCall::Insert => insert_key(set, p, turns, key, yes),
+        KeyCall::Remove => remove_key(set, p, turns, key, yes),
+        KeyCall::Contains => find_key(set, p, turns, key, yes),
+    }
+}
