@@ -4,11 +4,11 @@
 ghost use Rattle.std.specs.Prelude.{◌≡◌, ◌⊎◌, pos};
 ghost use Rattle.mooringakee_c.specs.Closing.{ClosesPass};
 ghost use Rattle.mooringakee_c_passes.specs.Codes.{Says};
-ghost use Rattle.mooringakee_c_passes.specs.Making.{AreNewQueuePasses, AreNewSetPasses, AreNewSplitPasses, CanBeMade, CanBeSplit, Makes};
-ghost use Rattle.mooringakee_c_passes.specs.QueueCalls.{Puts, Takes};
+ghost use Rattle.mooringakee_c_passes.specs.Making.{AreNewQueuePasses, AreNewSetPasses, AreNewSplitPasses, CanBeMade, CanBeSplit, MakesContainer};
+ghost use Rattle.mooringakee_c_passes.specs.QueueCalls.{AnswersPut, AnswersTake};
 ghost use Rattle.mooringakee_c_passes.specs.Seats.{AtQueue, AtSet, AtSplit, Through};
-ghost use Rattle.mooringakee_c_passes.specs.SetCalls.{Asks, Inserts, Removes};
-ghost use Rattle.mooringakee_c_passes.specs.Settling.{CountsBacklog, GivesUp, Settles};
+ghost use Rattle.mooringakee_c_passes.specs.SetCalls.{AnswersQuestion, AnswersInsert, AnswersRemove};
+ghost use Rattle.mooringakee_c_passes.specs.Settling.{CountsBacklog, GivesPassUp, SettlesPass};
 ghost use Rattle.mooringakee_c_passes.specs.SplitCalls.{CountsBuckets};
 
 use given_back::Unfinished;
@@ -34,7 +34,7 @@ pub extern "C" fn mooringakee_proved_queue_make(
     turns: u64,
     passes: &mut [Pass],
 ) -> i32
-    ensures { Says result (λ answer. Makes (CanBeMade rows 2 turns) (AreNewQueuePasses rows turns) passes.old answer passes.new) }
+    ensures { Says result (λ answer. MakesContainer (CanBeMade rows 2 turns) (AreNewQueuePasses rows turns) passes.old answer passes.new) }
 {
     let Some(shape) = shape_of(rows, 2, turns, passes.len()) else {
         return Answer::Shape.code();
@@ -59,7 +59,7 @@ pub extern "C" fn mooringakee_proved_set_make(
     turns: u64,
     passes: &mut [Pass],
 ) -> i32
-    ensures { Says result (λ answer. Makes (CanBeMade rows buckets turns) (AreNewSetPasses rows buckets turns) passes.old answer
+    ensures { Says result (λ answer. MakesContainer (CanBeMade rows buckets turns) (AreNewSetPasses rows buckets turns) passes.old answer
         passes.new) }
 {
     let Some(shape) = shape_of(rows, buckets, turns, passes.len()) else {
@@ -85,7 +85,7 @@ pub extern "C" fn mooringakee_proved_split_set_make(
     turns: u64,
     passes: &mut [Pass],
 ) -> i32
-    ensures { Says result (λ answer. Makes (CanBeSplit rows buckets turns) (AreNewSplitPasses rows buckets turns) passes.old answer
+    ensures { Says result (λ answer. MakesContainer (CanBeSplit rows buckets turns) (AreNewSplitPasses rows buckets turns) passes.old answer
         passes.new) }
 {
     let Some(shape) = split_shape_of(rows, buckets, turns, passes.len()) else {
@@ -104,7 +104,7 @@ pub extern "C" fn mooringakee_proved_split_set_make(
 /// Puts a value at the back of the pass's queue.
 #[unsafe(no_mangle)]
 pub extern "C" fn mooringakee_proved_enqueue(alloc: Global, pass: &mut Pass, value: u64) -> i32
-    ensures { Says result (λ answer. Through (AtQueue (Puts value)) pass.old.pointer.seat answer pass.new.pointer.seat) }
+    ensures { Says result (λ answer. Through (AtQueue (AnswersPut value)) pass.old.pointer.seat answer pass.new.pointer.seat) }
 {
     let Some(mut seat) = pass.take(alloc) else {
         return Answer::NoPass.code();
@@ -117,7 +117,7 @@ pub extern "C" fn mooringakee_proved_enqueue(alloc: Global, pass: &mut Pass, val
 /// Takes the value at the front of the pass's queue. Where the answer is not 0, the caller's variable stays as it was.
 #[unsafe(no_mangle)]
 pub extern "C" fn mooringakee_proved_dequeue(alloc: Global, pass: &mut Pass, value: &mut u64) -> i32
-    ensures answer { Says result (λ answer. Through (AtQueue (Takes value.new)) pass.old.pointer.seat answer pass.new.pointer.seat) }
+    ensures answer { Says result (λ answer. Through (AtQueue (AnswersTake value.new)) pass.old.pointer.seat answer pass.new.pointer.seat) }
     ensures kept { (result ≡ pos 0) ⊎ (value.new ≡ value.old) }
 {
     let Some(mut seat) = pass.take(alloc) else {
@@ -136,7 +136,7 @@ pub extern "C" fn mooringakee_proved_insert(
     key: u64,
     absent: &mut bool,
 ) -> i32
-    ensures answer { Says result (λ answer. Through (AtSet (Inserts key absent.new)) pass.old.pointer.seat answer pass.new.pointer.seat) }
+    ensures answer { Says result (λ answer. Through (AtSet (AnswersInsert key absent.new)) pass.old.pointer.seat answer pass.new.pointer.seat) }
     ensures kept { (result ≡ pos 0) ⊎ (absent.new ≡ absent.old) }
 {
     let Some(mut seat) = pass.take(alloc) else {
@@ -155,7 +155,7 @@ pub extern "C" fn mooringakee_proved_remove(
     key: u64,
     present: &mut bool,
 ) -> i32
-    ensures answer { Says result (λ answer. Through (AtSet (Removes key present.new)) pass.old.pointer.seat answer pass.new.pointer.seat) }
+    ensures answer { Says result (λ answer. Through (AtSet (AnswersRemove key present.new)) pass.old.pointer.seat answer pass.new.pointer.seat) }
     ensures kept { (result ≡ pos 0) ⊎ (present.new ≡ present.old) }
 {
     let Some(mut seat) = pass.take(alloc) else {
@@ -174,7 +174,7 @@ pub extern "C" fn mooringakee_proved_contains(
     key: u64,
     present: &mut bool,
 ) -> i32
-    ensures answer { Says result (λ answer. Through (AtSet (Asks key present.new)) pass.old.pointer.seat answer pass.new.pointer.seat) }
+    ensures answer { Says result (λ answer. Through (AtSet (AnswersQuestion key present.new)) pass.old.pointer.seat answer pass.new.pointer.seat) }
     ensures kept { (result ≡ pos 0) ⊎ (present.new ≡ present.old) }
 {
     let Some(mut seat) = pass.take(alloc) else {
@@ -207,7 +207,7 @@ pub extern "C" fn mooringakee_proved_buckets(
 /// some are, which is so only where other agents made steps meanwhile.
 #[unsafe(no_mangle)]
 pub extern "C" fn mooringakee_proved_settle(alloc: Global, pass: &mut Pass) -> i32
-    ensures { Says result (λ answer. Through Settles pass.old.pointer.seat answer pass.new.pointer.seat) }
+    ensures { Says result (λ answer. Through SettlesPass pass.old.pointer.seat answer pass.new.pointer.seat) }
 {
     let Some(mut seat) = pass.take(alloc) else {
         return Answer::NoPass.code();
@@ -234,7 +234,7 @@ pub extern "C" fn mooringakee_proved_backlog(alloc: Global, pass: &mut Pass, row
 /// Gives the pass up, once it has settled, with the answer of that. The last pass of a container frees it.
 #[unsafe(no_mangle)]
 pub extern "C" fn mooringakee_proved_drop(alloc: Global, pass: &mut Pass) -> i32
-    ensures { Says result (λ answer. GivesUp pass.old.pointer.seat answer pass.new.pointer.seat) }
+    ensures { Says result (λ answer. GivesPassUp pass.old.pointer.seat answer pass.new.pointer.seat) }
 {
     let Some(mut seat) = pass.take(alloc) else {
         return Answer::NoPass.code();

@@ -16,7 +16,7 @@ use Rattle.orc_domain.specs.declared.domain.OrcDomain.{OrcDomain}
 use Rattle.orc_domain.specs.declared.domain.OrcPass.{OrcPass}
 use Rattle.orc_shared_words.specs.declared.machine.Machine as machine
 use Rattle.orc_sound.specs.declared.steps.Step.{Step}
-use Rattle.mooringakee_c_passes.specs.SetCalls.{GoesOn, Refuses, SetView}
+use Rattle.mooringakee_c_passes.specs.SetCalls.{GoesOn, RefusesCall, CallView}
 use Rattle.mooringakee_c_passes.specs.SetViews.{view_at}
 
 module _ {D N : Type 0} {d : discipline.Ghosts D N} {m : machine.Ghosts Reclaiming N (MachineShape N) Request (Step N) Agent Agent}
@@ -29,10 +29,10 @@ module _ {D N : Type 0} {d : discipline.Ghosts D N} {m : machine.Ghosts Reclaimi
     seen p = entries (project (domain_bounds x) (journal_of p))
 
     -- what the pass shows before the call and after it
-    abbrev before : OrcDomain D N → SetView
+    abbrev before : OrcDomain D N → CallView
     before z = view_at entries cause z turns old
 
-    abbrev after : OrcDomain D N → SetView
+    abbrev after : OrcDomain D N → CallView
     after z = view_at entries cause z turns new
 
     at_this : (own : List SetEntry) → Adds agent_of_set_entry (λ (by : ℕ). by < (domain_bounds x).agents) (seat_of x old).agent (seen old) own (seen new)
@@ -46,8 +46,8 @@ module _ {D N : Type 0} {d : discipline.Ghosts D N} {m : machine.Ghosts Reclaimi
     pub refused : (why : ListRefused)
         → Adds agent_of_set_entry (λ (by : ℕ). by < (domain_bounds x).agents) (seat_of x old).agent (seen old) [] (seen new)
         → Within (length (journal_of old)) (length (journal_of new)) (cause x (seat_of x old).agent turns why (journal_of new))
-        → Refuses (before y) why (after y)
-    refused why adds because = subst (λ (z : OrcDomain D N). Refuses (before z) why (after z)) is (record {
+        → RefusesCall (before y) why (after y)
+    refused why adds because = subst (λ (z : OrcDomain D N). RefusesCall (before z) why (after z)) is (record {
       none = at_this [] adds;
       cause = subst (λ (n : ℕ). Within (length (journal_of old)) (length (journal_of new)) (cause x n turns why (journal_of new))) (sym agent) because;
     })

@@ -21,8 +21,8 @@ use Rattle.orc_domain.specs.Passes.{IsPassOf, domain_bounds, domain_numbers, dom
 use Rattle.orc_domain.specs.declared.domain.OrcDomain.{OrcDomain}
 use Rattle.orc_sound.specs.declared.steps.Step.{Step}
 use Rattle.mooringakee_c_passes.specs.Making.{IsNewQueueSeat}
-use Rattle.mooringakee_c_passes.specs.QueueCalls.{GoesOn, Refuses}
-use Rattle.mooringakee_c_passes.specs.QueueSeats.{IsQueueSeat, agent_at, agents_at, calls_seen, queue_domain}
+use Rattle.mooringakee_c_passes.specs.QueueCalls.{GoesOn, RefusesQueueCall}
+use Rattle.mooringakee_c_passes.specs.QueueSeats.{IsQueueSeat, agent_at, queue_agents_at, calls_seen, queue_domain}
 use Rattle.mooringakee_c_passes.specs.Usable.{CanBeUsed}
 use Rattle.mooringakee_c_passes.specs.declared.queue.QueueSeat.{QueueSeat}
 use Rattle.mooringakee_c_passes.specs.declared.seat.Seat.TheVariants.{Queue}
@@ -78,7 +78,7 @@ module _ (old new : QueueSeat) (before : IsQueueSeat old) (share : new.share ≡
           share = share;
           turns = turns;
           agent = agent;
-          entered = subst (λ (x : OrcDomain Fifo FifoNote). Adds agent_of_entry (λ (by : ℕ). by < agents_at old) (agent_at old)
+          entered = subst (λ (x : OrcDomain Fifo FifoNote). Adds agent_of_entry (λ (by : ℕ). by < queue_agents_at old) (agent_at old)
               (calls_seen old) own (entries_over x (journal_of new.pass))) later here;
           legal = seen_are_legal new stays;
         }
@@ -88,7 +88,7 @@ module _ (old new : QueueSeat) (before : IsQueueSeat old) (share : new.share ≡
         (entries_over d (journal_of new.pass))
         → Within (length (journal_of old.pass)) (length (journal_of new.pass))
         (cause_over d (first_over d) (agent_at old) old.turns why (journal_of new.pass))
-        → Refuses old why new
+        → RefusesQueueCall old why new
     refused why agent adds cause =
         let from = length (journal_of old.pass) in
         let to = length (journal_of new.pass) in

@@ -2,7 +2,7 @@
 use Rattle.std.proofs.Common.{None, Option, Some, ap, of_z, refl, subst, sym, to_z, w32, ℤ, ◌∙◌, ◌≡◌}
 use Rattle.mooringakee_c_passes.specs.Codes.{Says, code_of}
 use Rattle.mooringakee_c_passes.specs.Seats.{IsSeat, Through}
-use Rattle.mooringakee_c_passes.specs.Settling.{GivesUp, Settles}
+use Rattle.mooringakee_c_passes.specs.Settling.{GivesPassUp, SettlesPass}
 use Rattle.mooringakee_c_passes.specs.declared.answer.Answer.{Answer}
 use Rattle.mooringakee_c_passes.specs.declared.answer.Answer.TheVariants.{Again, Done, Empty, Full, Kept, Kind, Live, NoMemory, NoPass, Others, Positions, Shape, Spent}
 use Rattle.mooringakee_c_passes.specs.declared.seat.Seat.{Seat}
@@ -47,9 +47,9 @@ says call old new before after answer code is was left done = says_of (Through c
 
 -- the pass was given up, or there was none
 pub says_gone : (old new : Option Seat) (code : ℤ) → code ≡ code_of NoPass → old ≡ None → new ≡ None
-    → Says (to_z w32 (of_z w32 code)) (λ answer. GivesUp old answer new)
-says_gone old new code is gone left = says_of GivesUp old new None None NoPass code is gone left tt
+    → Says (to_z w32 (of_z w32 code)) (λ answer. GivesPassUp old answer new)
+says_gone old new code is gone left = says_of GivesPassUp old new None None NoPass code is gone left tt
 
 pub says_given : (old new : Option Seat) (before last : Seat) (answer : Answer) (code : ℤ) → code ≡ code_of answer
-    → old ≡ Some before → new ≡ None → IsSeat last → Settles before answer last → Says (to_z w32 (of_z w32 code)) (λ a. GivesUp old a new)
-says_given old new before last answer code is was left can done = says_of GivesUp old new (Some before) None answer code is was left (last, can, done)
+    → old ≡ Some before → new ≡ None → IsSeat last → SettlesPass before answer last → Says (to_z w32 (of_z w32 code)) (λ a. GivesPassUp old a new)
+says_given old new before last answer code is was left can done = says_of GivesPassUp old new (Some before) None answer code is was left (last, can, done)

@@ -5,12 +5,12 @@ use Rattle.orc_history.specs.SetHistory.{IsLegalSet, agent_of_set_entry}
 use Rattle.orc_history.specs.declared.set.ListRefused.{ListRefused}
 use Rattle.orc_history.specs.declared.set.SetEntry.{SetEntry}
 use Rattle.orc_history.specs.declared.set.SharedSet.{Ghosts as SetOf}
-use Rattle.mooringakee_c_passes.specs.SetCalls.{GoesOn, Refuses, SetView}
+use Rattle.mooringakee_c_passes.specs.SetCalls.{GoesOn, RefusesCall, CallView}
 use Rattle.mooringakee_c_passes.specs.SetViews.{view_over}
 
 module _ {S P J : Type 0} (m : SetOf S P J) (turns : ℕ) (old new : P) where
   -- what is told of a set is told of the same one by its owner's name
-  pub named : (x y : S) → x ≡ y → (Claim : SetView → SetView → Type 0) → Claim (view_over m x turns old) (view_over m x turns new)
+  pub named : (x y : S) → x ≡ y → (Claim : CallView → CallView → Type 0) → Claim (view_over m x turns old) (view_over m x turns new)
       → Claim (view_over m y turns old) (view_over m y turns new)
   named x y is Claim = subst (λ (s : S). Claim (view_over m s turns old) (view_over m s turns new)) is
 
@@ -23,7 +23,7 @@ module _ {S P J : Type 0} (m : SetOf S P J) (turns : ℕ) (old new : P) where
     pub refused : (why : ListRefused)
         → Adds agent_of_set_entry (m.crowd set) (m.agent_of set old) (m.history set (m.journal old)) [] (m.history set (m.journal new))
         → Within (length (m.journal old)) (length (m.journal new)) (m.licence set (m.agent_of set old) turns why (m.journal new))
-        → Refuses (view_over m set turns old) why (view_over m set turns new)
+        → RefusesCall (view_over m set turns old) why (view_over m set turns new)
     refused why adds cause = record {
       none = entered [] adds;
       cause = subst (λ (n : ℕ). Within (length (m.journal old)) (length (m.journal new)) (m.licence set n turns why (m.journal new))) (sym agent) cause;

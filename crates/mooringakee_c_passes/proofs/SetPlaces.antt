@@ -14,7 +14,7 @@ use Rattle.orc_domain.specs.Passes.{IsPassOf, domain_bounds, domain_numbers, jou
 use Rattle.orc_domain.specs.declared.domain.OrcDomain.{OrcDomain}
 use Rattle.mooringakee_c_passes.specs.Making.{IsNewSetSeat}
 use Rattle.mooringakee_c_passes.specs.SetCalls.{GoesOn}
-use Rattle.mooringakee_c_passes.specs.SetSeats.{HasCause, agent_at, set_domain, set_view}
+use Rattle.mooringakee_c_passes.specs.SetSeats.{HasSetCause, agent_at, set_domain, chain_view}
 use Rattle.mooringakee_c_passes.specs.SetViews.{view_at}
 use Rattle.mooringakee_c_passes.specs.Usable.{CanBeUsed}
 use Rattle.mooringakee_c_passes.specs.declared.set.SetSeat.{SetSeat}
@@ -25,10 +25,10 @@ use Rattle.mooringakee_c_passes.proofs.SamePlaces.{used_by}
 
 -- a pass that makes no event enters nothing
 pub quiet : (old new : SetSeat) (x : OrcDomain Chain ChainNote) → x ≡ set_domain old → IsPassOf x new.pass → Only [] (seat_of x old.pass) (seat_of x new.pass)
-    → GoesOn (set_view old) [] (view_at entries_of HasCause (set_domain old) old.turns new.pass)
+    → GoesOn (chain_view old) [] (view_at entries_of HasSetCause (set_domain old) old.turns new.pass)
 quiet old new x is belongs only =
     let legal = seen_legal (domain_numbers x) (seat_of x new.pass).seen (project (domain_bounds x) (journal_of new.pass)) (all_obey x new.pass belongs) refl in
-    entered entries_of HasCause x (set_domain old) is old.turns old.pass new.pass legal only.puts.agent []
+    entered entries_of HasSetCause x (set_domain old) is old.turns old.pass new.pass legal only.puts.agent []
     (enters_none entries_in agent_of_set_entry (ChainMay (domain_numbers x)) (entries_own (domain_numbers x)) (domain_bounds x).agents
     (seat_of x old.pass) (seat_of x new.pass) only (all_allowed x new.pass belongs) (all_below x new.pass belongs).1)
 

@@ -90,9 +90,9 @@ AreNewSplitPasses rows buckets turns passes =
     AreNewPasses (λ domain agent seat. IsNewSplitSeat domain turns agent seat) (sizes_of rows (buckets + 1) (length passes)) passes
 
 -- making a container, whose numbers can be so with so many agents, and whose new passes are these
-abbrev pub Makes : (ℕ → Type 0) → (List Pass → Type 0) → List Pass → Answer → List Pass → Type 0
-Makes CanBe AreNew old Done new = CanBe (length old) × AreFree old × AreNew new
-Makes CanBe AreNew old Shape new = (¬ CanBe (length old)) × (new ≡ old)
-Makes CanBe AreNew old Live new = (¬ AreFree old) × (new ≡ old)
-Makes CanBe AreNew old NoMemory new = CanBe (length old) × AreFree old × (new ≡ old)
-Makes CanBe AreNew old _ new = ⊥
+abbrev pub MakesContainer : (ℕ → Type 0) → (List Pass → Type 0) → List Pass → Answer → List Pass → Type 0
+MakesContainer CanBe AreNew old Done new = CanBe (length old) × AreFree old × AreNew new
+MakesContainer CanBe AreNew old Shape new = (¬ CanBe (length old)) × (new ≡ old)
+MakesContainer CanBe AreNew old Live new = (¬ AreFree old) × (new ≡ old)
+MakesContainer CanBe AreNew old NoMemory new = CanBe (length old) × AreFree old × (new ≡ old)
+MakesContainer CanBe AreNew old _ new = ⊥

@@ -24,8 +24,8 @@ calls_seen s = entries_of (project (domain_bounds (queue_domain s)) (journal_of 
 abbrev pub agent_at : QueueSeat → ℕ
 agent_at s = (seat_of (queue_domain s) s.pass).agent
 
-abbrev pub agents_at : QueueSeat → ℕ
-agents_at s = (domain_bounds (queue_domain s)).agents
+abbrev pub queue_agents_at : QueueSeat → ℕ
+queue_agents_at s = (domain_bounds (queue_domain s)).agents
 
 -- the position of the first value
 abbrev pub first_position : QueueSeat → ℕ

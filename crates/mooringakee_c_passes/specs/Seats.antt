@@ -7,8 +7,8 @@ use Rattle.mooringakee_c_passes.specs.declared.split.SplitSeat.{SplitSeat}
 use Rattle.mooringakee_c_passes.specs.declared.seat.Seat.{Seat}
 use Rattle.mooringakee_c_passes.specs.declared.seat.Seat.TheVariants.{Queue, Set, Split}
 use Rattle.mooringakee_c_passes.specs.QueueSeats.{IsQueueSeat}
-use Rattle.mooringakee_c_passes.specs.SetCalls.{SetView}
-use Rattle.mooringakee_c_passes.specs.SetSeats.{IsSetSeat, set_view}
+use Rattle.mooringakee_c_passes.specs.SetCalls.{CallView}
+use Rattle.mooringakee_c_passes.specs.SetSeats.{IsSetSeat, chain_view}
 use Rattle.mooringakee_c_passes.specs.SplitSeats.{IsSplitSeat, split_view}
 
 -- it can be used
@@ -25,8 +25,8 @@ AtQueue call (Split old) Kind (Split new) = new ≡ old
 AtQueue call _ _ _ = ⊥
 
 -- a call at a set of any kind: the set is the same, and a place at a queue stays as it is
-abbrev pub AtSet : (SetView → Answer → SetView → Type 0) → Seat → Answer → Seat → Type 0
-AtSet call (Set old) answer (Set new) = (new.share ≡ old.share) × call (set_view old) answer (set_view new)
+abbrev pub AtSet : (CallView → Answer → CallView → Type 0) → Seat → Answer → Seat → Type 0
+AtSet call (Set old) answer (Set new) = (new.share ≡ old.share) × call (chain_view old) answer (chain_view new)
 AtSet call (Split old) answer (Split new) = (new.share ≡ old.share) × call (split_view old) answer (split_view new)
 AtSet call (Queue old) Kind (Queue new) = new ≡ old
 AtSet call _ _ _ = ⊥
@@ -45,5 +45,5 @@ Through call None NoPass None = Unit {0}
 Through call _ _ _ = ⊥
 
 -- what a pointer stands for is this place, and it can be used
-abbrev pub Holds : Option Seat → Seat → Type 0
-Holds seat s = (seat ≡ Some s) × IsSeat s
+abbrev pub StandsFor : Option Seat → Seat → Type 0
+StandsFor seat s = (seat ≡ Some s) × IsSeat s

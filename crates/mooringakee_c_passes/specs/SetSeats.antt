@@ -13,7 +13,7 @@ use Rattle.orc_domain.specs.Causes.{IsLacking, IsWornIn}
 use Rattle.orc_domain.specs.Passes.{domain_bounds, journal_of, seat_of}
 use Rattle.orc_domain.specs.declared.domain.OrcDomain.{OrcDomain}
 use Rattle.orc_sound.specs.declared.steps.Step.{Step}
-use Rattle.mooringakee_c_passes.specs.SetCalls.{SetView}
+use Rattle.mooringakee_c_passes.specs.SetCalls.{CallView}
 use Rattle.mooringakee_c_passes.specs.SetViews.{view_at}
 use Rattle.mooringakee_c_passes.specs.Usable.{CanBeUsed}
 use Rattle.mooringakee_c_passes.specs.declared.set.SetSeat.{SetSeat}
@@ -31,14 +31,14 @@ abbrev pub agent_at : SetSeat → ℕ
 agent_at s = (seat_of (set_domain s) s.pass).agent
 
 -- the cause of a refusal of a call by this agent with so many turns, between two places of a journal
-abbrev pub HasCause : OrcDomain Chain ChainNote → ℕ → ℕ → ListRefused → List (Step ChainNote) → ℕ → ℕ → Type 0
-HasCause domain agent turns why journal from to =
+abbrev pub HasSetCause : OrcDomain Chain ChainNote → ℕ → ℕ → ListRefused → List (Step ChainNote) → ℕ → ℕ → Type 0
+HasSetCause domain agent turns why journal from to =
     let bounds = domain_bounds domain in
     Cause (numbers_of bounds) (λ step. step.agent) (λ seen. project bounds seen) (IsLacking bounds agent journal from to)
     (λ row. IsWornIn bounds agent row journal from to) agent turns why journal from to
 
-abbrev pub set_view : SetSeat → SetView
-set_view s = view_at entries_of HasCause (set_domain s) s.turns s.pass
+abbrev pub chain_view : SetSeat → CallView
+chain_view s = view_at entries_of HasSetCause (set_domain s) s.turns s.pass
 
 abbrev pub IsSetSeat : SetSeat → Type 0
 IsSetSeat s = CanBeUsed (set_domain s) (tags s.places.value) s.pass

@@ -15,10 +15,10 @@ use Rattle.orc_domain.specs.declared.domain.OrcDomain.{OrcDomain}
 use Rattle.orc_domain.specs.declared.domain.OrcPass.{OrcPass}
 use Rattle.orc_shared_words.specs.declared.machine.Machine as machine
 use Rattle.orc_sound.specs.declared.steps.Step.{Step}
-use Rattle.mooringakee_c_passes.specs.SetCalls.{SetView}
+use Rattle.mooringakee_c_passes.specs.SetCalls.{CallView}
 
 -- what it shows of any set, before a call with so many turns or after it
-abbrev pub view_over : {S P J : Type 0} → SetOf S P J → S → ℕ → P → SetView
+abbrev pub view_over : {S P J : Type 0} → SetOf S P J → S → ℕ → P → CallView
 view_over members set turns p = record {
   seen = members.history set (members.journal p);
   agent = members.agent_of set p;
@@ -32,7 +32,7 @@ module _ {D N : Type 0} {d : discipline.Ghosts D N} {m : machine.Ghosts Reclaimi
     (entries : List (Event N) → List SetEntry) (cause : OrcDomain D N → ℕ → ℕ → ListRefused → List (Step N) → ℕ → ℕ → Type 0)
   where
     -- what it shows of a set over this domain, by the entries of its events, and by the cause of a refusal of a call by this agent
-    abbrev pub view_at : OrcDomain D N → ℕ → OrcPass D N (MachineShape N) Request (Step N) Agent Agent d m → SetView
+    abbrev pub view_at : OrcDomain D N → ℕ → OrcPass D N (MachineShape N) Request (Step N) Agent Agent d m → CallView
     view_at domain turns p = record {
       seen = entries (project (domain_bounds domain) (journal_of p));
       agent = (seat_of domain p).agent;

@@ -14,7 +14,7 @@ use Rattle.mooringakee_c_passes.specs.QueueCalls.{GoesOn}
 use Rattle.mooringakee_c_passes.specs.QueueSeats.{agent_at, queue_domain}
 use Rattle.mooringakee_c_passes.specs.Seats.{IsSeat}
 use Rattle.mooringakee_c_passes.specs.SetCalls.{GoesOn as SetGoesOn}
-use Rattle.mooringakee_c_passes.specs.SetSeats.{agent_at as set_agent_at, set_domain, set_view}
+use Rattle.mooringakee_c_passes.specs.SetSeats.{agent_at as set_agent_at, chain_view, set_domain}
 use Rattle.mooringakee_c_passes.specs.SplitSeats.{agent_at as split_agent_at, split_domain, split_view}
 
 -- how many retired rows the pass has to work through: those in its work list, and one that it has in hand or scanned
@@ -31,17 +31,17 @@ WasAlone (Split old) (Split new) = IsAlone (λ step. step.agent) (split_agent_at
 WasAlone _ _ = ⊥
 
 -- the place is the same, and its agent entered nothing
-abbrev pub EntersNone : Seat → Seat → Type 0
-EntersNone (Queue old) (Queue new) = GoesOn old [] new
-EntersNone (Set old) (Set new) = (new.share ≡ old.share) × SetGoesOn (set_view old) [] (set_view new)
-EntersNone (Split old) (Split new) = (new.share ≡ old.share) × SetGoesOn (split_view old) [] (split_view new)
-EntersNone _ _ = ⊥
+abbrev pub StaysWithoutEntry : Seat → Seat → Type 0
+StaysWithoutEntry (Queue old) (Queue new) = GoesOn old [] new
+StaysWithoutEntry (Set old) (Set new) = (new.share ≡ old.share) × SetGoesOn (chain_view old) [] (chain_view new)
+StaysWithoutEntry (Split old) (Split new) = (new.share ≡ old.share) × SetGoesOn (split_view old) [] (split_view new)
+StaysWithoutEntry _ _ = ⊥
 
 -- nothing is left, or some rows, which is so only where other agents made steps meanwhile
-abbrev pub Settles : Seat → Answer → Seat → Type 0
-Settles old Done new = EntersNone old new × (backlog_at new ≡ 0)
-Settles old Kept new = EntersNone old new × (¬ WasAlone old new)
-Settles old _ new = ⊥
+abbrev pub SettlesPass : Seat → Answer → Seat → Type 0
+SettlesPass old Done new = StaysWithoutEntry old new × (backlog_at new ≡ 0)
+SettlesPass old Kept new = StaysWithoutEntry old new × (¬ WasAlone old new)
+SettlesPass old _ new = ⊥
 
 -- a question how many rows are left
 abbrev pub CountsBacklog : ℕ → Seat → Answer → Seat → Type 0
@@ -49,13 +49,13 @@ CountsBacklog count old Done new = (new ≡ old) × (count ≡ backlog_at old)
 CountsBacklog count old _ new = ⊥
 
 -- the pass is given up once it has settled, from a place that could be used
-abbrev pub GivesUp : Option Seat → Answer → Option Seat → Type 0
-GivesUp (Some old) answer None = (last : Seat) × IsSeat last × Settles old answer last
-GivesUp None NoPass None = Unit {0}
-GivesUp _ _ _ = ⊥
+abbrev pub GivesPassUp : Option Seat → Answer → Option Seat → Type 0
+GivesPassUp (Some old) answer None = (last : Seat) × IsSeat last × SettlesPass old answer last
+GivesPassUp None NoPass None = Unit {0}
+GivesPassUp _ _ _ = ⊥
 
 -- the container came to rest, and these are the counts of its rows
-abbrev pub Tells : Seat → RowCounts → Type 0
-Tells (Queue s) counts = TellsRows (queue_domain s) s.places.value counts
-Tells (Set s) counts = TellsRows (set_domain s) s.places.value counts
-Tells (Split s) counts = TellsRows (split_domain s) s.places.value counts
+abbrev pub TellsCounts : Seat → RowCounts → Type 0
+TellsCounts (Queue s) counts = TellsRows (queue_domain s) s.places.value counts
+TellsCounts (Set s) counts = TellsRows (set_domain s) s.places.value counts
+TellsCounts (Split s) counts = TellsRows (split_domain s) s.places.value counts

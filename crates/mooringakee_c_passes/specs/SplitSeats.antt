@@ -12,7 +12,7 @@ use Rattle.orc_sound.specs.declared.steps.Step.{Step}
 use Rattle.orc_split_rule.specs.SplitDiscipline.{entries_of, greatest, size_of}
 use Rattle.orc_split_rule.specs.declared.split.Split.{Split}
 use Rattle.orc_split_rule.specs.declared.split.SplitNote.{SplitNote}
-use Rattle.mooringakee_c_passes.specs.SetCalls.{SetView}
+use Rattle.mooringakee_c_passes.specs.SetCalls.{CallView}
 use Rattle.mooringakee_c_passes.specs.SetViews.{view_at}
 use Rattle.mooringakee_c_passes.specs.Usable.{CanBeUsed}
 use Rattle.mooringakee_c_passes.specs.declared.split.SplitSeat.{SplitSeat}
@@ -38,14 +38,14 @@ abbrev pub most_buckets : SplitSeat → ℕ
 most_buckets s = greatest (domain_numbers (split_domain s))
 
 -- the cause of a refusal of a call by this agent with so many turns, between two places of a journal
-abbrev pub HasCause : OrcDomain Split SplitNote → ℕ → ℕ → ListRefused → List (Step SplitNote) → ℕ → ℕ → Type 0
-HasCause domain agent turns why journal from to =
+abbrev pub HasSplitCause : OrcDomain Split SplitNote → ℕ → ℕ → ListRefused → List (Step SplitNote) → ℕ → ℕ → Type 0
+HasSplitCause domain agent turns why journal from to =
     let bounds = domain_bounds domain in
     Cause (λ step. step.agent) (λ seen. project bounds seen) (IsLacking bounds agent journal from to)
     (λ row. IsWornIn bounds agent row journal from to) agent turns why journal from to
 
-abbrev pub split_view : SplitSeat → SetView
-split_view s = view_at entries_of HasCause (split_domain s) s.turns s.pass
+abbrev pub split_view : SplitSeat → CallView
+split_view s = view_at entries_of HasSplitCause (split_domain s) s.turns s.pass
 
 abbrev pub IsSplitSeat : SplitSeat → Type 0
 IsSplitSeat s = CanBeUsed (split_domain s) (tags s.places.value) s.pass

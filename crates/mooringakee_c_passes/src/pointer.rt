@@ -1,7 +1,7 @@
 //! A seat's box as a pointer.
 
 ghost use Rattle.std.specs.Prelude.{◌≡◌, Some, None, IsSome, Option};
-ghost use Rattle.mooringakee_c_passes.specs.Seats.{Holds, IsSeat};
+ghost use Rattle.mooringakee_c_passes.specs.Seats.{StandsFor, IsSeat};
 ghost use Rattle.mooringakee_c_passes.specs.declared.seat.Seat.{Seat};
 
 use crate::seat::Seat;
@@ -20,12 +20,12 @@ pub struct SeatPointer {
 
 impl Model for SeatPointer {
     ghost use Rattle.std.specs.Prelude.{Option};
-    ghost use Rattle.mooringakee_c_passes.specs.Held.{held};
+    ghost use Rattle.mooringakee_c_passes.specs.Held.{held_box};
     ghost use Rattle.mooringakee_c_passes.specs.Seats.{IsSeat};
     ghost use Rattle.mooringakee_c_passes.specs.declared.seat.Seat.{Seat};
     ghost use Rattle.mooringakee_c_passes.specs.contracts.seat.Seat.{the_row};
 
-    ghost also_owns = { λ h. held h.alloc the_row IsSeat h.seat h.at };
+    ghost also_owns = { λ h. held_box h.alloc the_row IsSeat h.seat h.at };
 }
 
 unsafe impl Send for SeatPointer {}
@@ -56,7 +56,7 @@ impl SeatPointer {
     // What the pointer owns.
     pub(crate) fn open(self) -> RawBox<Seat, Global>
         requires { IsSome self.seat }
-        ensures { Holds self.seat result.value }
+        ensures { StandsFor self.seat result.value }
     {
         let SeatPointer { at, alloc } = self;
         RawBox {

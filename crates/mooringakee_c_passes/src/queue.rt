@@ -1,9 +1,9 @@
 //! One agent's place at a queue.
 
 ghost use Rattle.std.specs.Prelude.{◌≡◌, ◌↔◌, ◌⊎◌, IfOk, IfSome, IsTrue, []};
-ghost use Rattle.mooringakee_c_passes.specs.QueueCalls.{GoesOn, Puts, Takes};
+ghost use Rattle.mooringakee_c_passes.specs.QueueCalls.{GoesOn, AnswersPut, AnswersTake};
 ghost use Rattle.mooringakee_c_passes.specs.QueueSeats.{IsQueueSeat};
-ghost use Rattle.mooringakee_c_passes.specs.Settling.{Tells, WasAlone, backlog_at};
+ghost use Rattle.mooringakee_c_passes.specs.Settling.{TellsCounts, WasAlone, backlog_at};
 ghost use Rattle.mooringakee_c_passes.specs.declared.seat.Seat.{Seat};
 
 use crate::answer::Answer;
@@ -51,7 +51,7 @@ impl QueueSeat {
     pub(crate) fn put(&mut self, value: u64) -> Answer
         requires { IsQueueSeat self.old }
         ensures seat { IsQueueSeat self.new }
-        ensures answer { Puts value self.old result self.new }
+        ensures answer { AnswersPut value self.old result self.new }
     {
         match self.share.queue.enqueue(&mut self.pass, value, self.turns) {
             Ok(_) => Answer::Done,
@@ -65,7 +65,7 @@ impl QueueSeat {
     pub(crate) fn take(&mut self, value: &mut u64) -> Answer
         requires { IsQueueSeat self.old }
         ensures seat { IsQueueSeat self.new }
-        ensures answer { Takes value.new self.old result self.new }
+        ensures answer { AnswersTake value.new self.old result self.new }
         ensures kept { (result ≡ Answer.Done) ⊎ (value.new ≡ value.old) }
     {
         match self.share.queue.dequeue(&mut self.pass, self.turns) {
@@ -113,7 +113,7 @@ impl QueueSeat {
     // Gives the pass up. The last one to do so brings the queue to rest, and tells of its rows.
     pub(crate) fn close(self, alloc: Global) -> Result<Option<RowCounts>, Unfinished>
         requires { IsQueueSeat self }
-        ensures { IfOk result (λ told. IfSome told (λ counts. Tells (Seat.Queue self) counts)) }
+        ensures { IfOk result (λ told. IfSome told (λ counts. TellsCounts (Seat.Queue self) counts)) }
     {
         let QueueSeat {
             share,

@@ -1,10 +1,10 @@
 //! One agent's place at a container of any kind.
 
 ghost use Rattle.std.specs.Prelude.{◌≡◌, ◌⊎◌, IfOk, IfSome};
-ghost use Rattle.mooringakee_c_passes.specs.QueueCalls.{Puts, Takes};
+ghost use Rattle.mooringakee_c_passes.specs.QueueCalls.{AnswersPut, AnswersTake};
 ghost use Rattle.mooringakee_c_passes.specs.Seats.{AtQueue, AtSet, AtSplit, IsSeat};
-ghost use Rattle.mooringakee_c_passes.specs.SetCalls.{AnswersCall, Asks, Inserts, Removes};
-ghost use Rattle.mooringakee_c_passes.specs.Settling.{Settles, Tells, backlog_at};
+ghost use Rattle.mooringakee_c_passes.specs.SetCalls.{AnswersCall, AnswersQuestion, AnswersInsert, AnswersRemove};
+ghost use Rattle.mooringakee_c_passes.specs.Settling.{SettlesPass, TellsCounts, backlog_at};
 ghost use Rattle.mooringakee_c_passes.specs.SplitCalls.{CountsBuckets};
 
 use crate::answer::Answer;
@@ -29,7 +29,7 @@ impl Seat {
     pub fn put(&mut self, value: u64) -> Answer
         requires { IsSeat self.old }
         ensures seat { IsSeat self.new }
-        ensures answer { AtQueue (Puts value) self.old result self.new }
+        ensures answer { AtQueue (AnswersPut value) self.old result self.new }
     {
         match self {
             Seat::Queue(seat) => seat.put(value),
@@ -41,7 +41,7 @@ impl Seat {
     pub fn take(&mut self, value: &mut u64) -> Answer
         requires { IsSeat self.old }
         ensures seat { IsSeat self.new }
-        ensures answer { AtQueue (Takes value.new) self.old result self.new }
+        ensures answer { AtQueue (AnswersTake value.new) self.old result self.new }
         ensures kept { (result ≡ Answer.Done) ⊎ (value.new ≡ value.old) }
     {
         match self {
@@ -68,7 +68,7 @@ impl Seat {
     pub fn insert(&mut self, key: u64, absent: &mut bool) -> Answer
         requires { IsSeat self.old }
         ensures seat { IsSeat self.new }
-        ensures answer { AtSet (Inserts key absent.new) self.old result self.new }
+        ensures answer { AtSet (AnswersInsert key absent.new) self.old result self.new }
         ensures kept { (result ≡ Answer.Done) ⊎ (absent.new ≡ absent.old) }
     {
         self.call(KeyCall::Insert, key, absent)
@@ -78,7 +78,7 @@ impl Seat {
     pub fn remove(&mut self, key: u64, present: &mut bool) -> Answer
         requires { IsSeat self.old }
         ensures seat { IsSeat self.new }
-        ensures answer { AtSet (Removes key present.new) self.old result self.new }
+        ensures answer { AtSet (AnswersRemove key present.new) self.old result self.new }
         ensures kept { (result ≡ Answer.Done) ⊎ (present.new ≡ present.old) }
     {
         self.call(KeyCall::Remove, key, present)
@@ -88,7 +88,7 @@ impl Seat {
     pub fn contains(&mut self, key: u64, present: &mut bool) -> Answer
         requires { IsSeat self.old }
         ensures seat { IsSeat self.new }
-        ensures answer { AtSet (Asks key present.new) self.old result self.new }
+        ensures answer { AtSet (AnswersQuestion key present.new) self.old result self.new }
         ensures kept { (result ≡ Answer.Done) ⊎ (present.new ≡ present.old) }
     {
         self.call(KeyCall::Contains, key, present)
@@ -111,7 +111,7 @@ impl Seat {
     pub fn settle(&mut self) -> Answer
         requires { IsSeat self.old }
         ensures seat { IsSeat self.new }
-        ensures answer { Settles self.old result self.new }
+        ensures answer { SettlesPass self.old result self.new }
     {
         let none_left = match self {
             Seat::Queue(seat) => seat.settle(),
@@ -151,7 +151,7 @@ impl Seat {
     /// Gives the pass up. The last one to do so brings the container to rest, and tells of its rows.
     pub fn close(self, alloc: Global) -> Result<Option<RowCounts>, Unfinished>
         requires { IsSeat self }
-        ensures { IfOk result (λ told. IfSome told (λ counts. Tells self counts)) }
+        ensures { IfOk result (λ told. IfSome told (λ counts. TellsCounts self counts)) }
     {
         match self {
             Seat::Queue(seat) => seat.close(alloc),

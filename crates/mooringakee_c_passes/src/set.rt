@@ -2,8 +2,8 @@
 
 ghost use Rattle.std.specs.Prelude.{◌≡◌, ◌↔◌, ◌⊎◌, IfOk, IfSome, IsTrue, []};
 ghost use Rattle.mooringakee_c_passes.specs.SetCalls.{AnswersCall, GoesOn};
-ghost use Rattle.mooringakee_c_passes.specs.SetSeats.{IsSetSeat, set_view};
-ghost use Rattle.mooringakee_c_passes.specs.Settling.{Tells, WasAlone, backlog_at};
+ghost use Rattle.mooringakee_c_passes.specs.SetSeats.{IsSetSeat, chain_view};
+ghost use Rattle.mooringakee_c_passes.specs.Settling.{TellsCounts, WasAlone, backlog_at};
 ghost use Rattle.mooringakee_c_passes.specs.declared.seat.Seat.{Seat};
 
 use crate::answer::Answer;
@@ -52,7 +52,7 @@ impl SetSeat {
         requires { IsSetSeat self.old }
         ensures seat { IsSetSeat self.new }
         ensures share { self.new.share ≡ self.old.share }
-        ensures answer { AnswersCall call key yes.new (set_view self.old) result (set_view self.new) }
+        ensures answer { AnswersCall call key yes.new (chain_view self.old) result (chain_view self.new) }
         ensures kept { (result ≡ Answer.Done) ⊎ (yes.new ≡ yes.old) }
     {
         make_call(&self.share.set, &mut self.pass, self.turns, call, key, yes)
@@ -63,7 +63,7 @@ impl SetSeat {
         requires { IsSetSeat self.old }
         ensures seat { IsSetSeat self.new }
         ensures share { self.new.share ≡ self.old.share }
-        ensures none { GoesOn (set_view self.old) [] (set_view self.new) }
+        ensures none { GoesOn (chain_view self.old) [] (chain_view self.new) }
         ensures backlog { IsTrue result ↔ (backlog_at (Seat.Set self.new) ≡ 0) }
         ensures alone { WasAlone (Seat.Set self.old) (Seat.Set self.new) → backlog_at (Seat.Set self.new) ≡ 0 }
     {
@@ -94,7 +94,7 @@ impl SetSeat {
     // Gives the pass up. The last one to do so brings the set to rest, and tells of its rows.
     pub(crate) fn close(self, alloc: Global) -> Result<Option<RowCounts>, Unfinished>
         requires { IsSetSeat self }
-        ensures { IfOk result (λ told. IfSome told (λ counts. Tells (Seat.Set self) counts)) }
+        ensures { IfOk result (λ told. IfSome told (λ counts. TellsCounts (Seat.Set self) counts)) }
     {
         let SetSeat {
             share,

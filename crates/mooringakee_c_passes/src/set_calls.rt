@@ -1,7 +1,7 @@
 //! The calls of any set that agents share, as they are answered to C.
 
 ghost use Rattle.std.specs.Prelude.{◌≡◌, ◌⊎◌};
-ghost use Rattle.mooringakee_c_passes.specs.SetCalls.{AnswersCall, Asks, Inserts, Removes};
+ghost use Rattle.mooringakee_c_passes.specs.SetCalls.{AnswersCall, AnswersQuestion, AnswersInsert, AnswersRemove};
 ghost use Rattle.mooringakee_c_passes.specs.SetViews.{view_over};
 
 use crate::answer::Answer;
@@ -30,7 +30,7 @@ fn insert_key<S: SharedSet>(
 ) -> Answer
     requires { S.usable set.now.value p.old }
     ensures usable { S.usable set.now.value p.new }
-    ensures answer { Inserts key absent.new (view_over S.SharedSet set.now.value turns p.old) result
+    ensures answer { AnswersInsert key absent.new (view_over S.SharedSet set.now.value turns p.old) result
         (view_over S.SharedSet set.now.value turns p.new) }
     ensures kept { (result ≡ Answer.Done) ⊎ (absent.new ≡ absent.old) }
 {
@@ -55,7 +55,7 @@ fn remove_key<S: SharedSet>(
 ) -> Answer
     requires { S.usable set.now.value p.old }
     ensures usable { S.usable set.now.value p.new }
-    ensures answer { Removes key present.new (view_over S.SharedSet set.now.value turns p.old) result
+    ensures answer { AnswersRemove key present.new (view_over S.SharedSet set.now.value turns p.old) result
         (view_over S.SharedSet set.now.value turns p.new) }
     ensures kept { (result ≡ Answer.Done) ⊎ (present.new ≡ present.old) }
 {
@@ -76,7 +76,7 @@ fn find_key<S: SharedSet>(
 ) -> Answer
     requires { S.usable set.now.value p.old }
     ensures usable { S.usable set.now.value p.new }
-    ensures answer { Asks key present.new (view_over S.SharedSet set.now.value turns p.old) result
+    ensures answer { AnswersQuestion key present.new (view_over S.SharedSet set.now.value turns p.old) result
         (view_over S.SharedSet set.now.value turns p.new) }
     ensures kept { (result ≡ Answer.Done) ⊎ (present.new ≡ present.old) }
 {

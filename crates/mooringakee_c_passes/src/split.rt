@@ -4,7 +4,7 @@ ghost use Rattle.std.specs.Prelude.{◌≡◌, ◌↔◌, ◌⊎◌, IfOk, IfSom
 ghost use Rattle.mooringakee_c_passes.specs.SetCalls.{AnswersCall, GoesOn};
 ghost use Rattle.mooringakee_c_passes.specs.SplitSeats.{IsSplitSeat, split_view};
 ghost use Rattle.mooringakee_c_passes.specs.SplitCalls.{CountsBuckets};
-ghost use Rattle.mooringakee_c_passes.specs.Settling.{Tells, WasAlone, backlog_at};
+ghost use Rattle.mooringakee_c_passes.specs.Settling.{TellsCounts, WasAlone, backlog_at};
 ghost use Rattle.mooringakee_c_passes.specs.declared.seat.Seat.{Seat};
 
 use crate::answer::Answer;
@@ -109,7 +109,7 @@ impl SplitSeat {
     // Gives the pass up. The last one to do so brings the set to rest, and tells of its rows.
     pub(crate) fn close(self, alloc: Global) -> Result<Option<RowCounts>, Unfinished>
         requires { IsSplitSeat self }
-        ensures { IfOk result (λ told. IfSome told (λ counts. Tells (Seat.Split self) counts)) }
+        ensures { IfOk result (λ told. IfSome told (λ counts. TellsCounts (Seat.Split self) counts)) }
     {
         let SplitSeat {
             share,

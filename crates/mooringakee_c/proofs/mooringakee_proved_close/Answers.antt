@@ -2,7 +2,7 @@
 use Rattle.std.proofs.Common.{IfSome, None, Option, Some, of_z, refl, subst, to_z, w32, ℤ, ◌≡◌}
 use Rattle.orc_any_domain.specs.declared.domain.RowCounts.{RowCounts}
 use Rattle.mooringakee_c_passes.specs.Codes.{Says, code_of}
-use Rattle.mooringakee_c_passes.specs.Settling.{Tells}
+use Rattle.mooringakee_c_passes.specs.Settling.{TellsCounts}
 use Rattle.mooringakee_c_passes.specs.declared.answer.Answer.{Answer}
 use Rattle.mooringakee_c_passes.specs.declared.answer.Answer.TheVariants.{Done, Kept, NoMemory, NoPass, Others}
 use Rattle.mooringakee_c_passes.specs.declared.seat.Seat.{Seat}
@@ -31,8 +31,8 @@ returns-in-Ok-Some-clause-answer c =
     says_closed (record { given = told.given; reused = told.reused; linked = told.linked }) c.args.pass.now.pointer.seat c.take.new.self.pointer.seat
     (Some c.in-Some.seat.value) Done c.code-in-Ok-Some.result c.code-in-Ok-Some.ensures c.in-Some.ensures.taken.0 c.take.ensures.left (
       told,
-      subst (λ (s : Seat). Tells s told) c.into_inner.ensures
-          (subst (λ (o : Option RowCounts). IfSome o (λ counts. Tells c.into_inner.result counts)) c.in-Ok-Some.field-0-is c.in-Ok-Some.ensures),
+      subst (λ (s : Seat). TellsCounts s told) c.into_inner.ensures
+          (subst (λ (o : Option RowCounts). IfSome o (λ counts. TellsCounts c.into_inner.result counts)) c.in-Ok-Some.field-0-is c.in-Ok-Some.ensures),
       told_of told,
     )
 

@@ -1,10 +1,10 @@
 -- Where there is no pass, it says so.
 use Rattle.mooringakee_c_passes.specs.Seats.{AtSet}
-use Rattle.mooringakee_c_passes.specs.SetCalls.{Inserts}
+use Rattle.mooringakee_c_passes.specs.SetCalls.{AnswersInsert}
 use Rattle.mooringakee_c_passes.proofs.Saying.{says_none}
 use Rattle.mooringakee_c.proofs.mooringakee_proved_insert.Goals as goal
 
 pub returns-in_default-clause-answer : goal.returns-in_default-clause-answer
 returns-in_default-clause-answer c =
-    says_none (AtSet (Inserts c.args.key c.args.absent.now)) c.args.pass.now.pointer.seat c.take.new.self.pointer.seat c.code.result c.code.ensures
+    says_none (AtSet (AnswersInsert c.args.key c.args.absent.now)) c.args.pass.now.pointer.seat c.take.new.self.pointer.seat c.code.result c.code.ensures
     (c.take.ensures.none c.in_default.is) c.take.ensures.left

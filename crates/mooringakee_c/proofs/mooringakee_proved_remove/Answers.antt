@@ -1,10 +1,10 @@
 -- Where there is no pass, it says so.
 use Rattle.mooringakee_c_passes.specs.Seats.{AtSet}
-use Rattle.mooringakee_c_passes.specs.SetCalls.{Removes}
+use Rattle.mooringakee_c_passes.specs.SetCalls.{AnswersRemove}
 use Rattle.mooringakee_c_passes.proofs.Saying.{says_none}
 use Rattle.mooringakee_c.proofs.mooringakee_proved_remove.Goals as goal
 
 pub returns-in_default-clause-answer : goal.returns-in_default-clause-answer
 returns-in_default-clause-answer c =
-    says_none (AtSet (Removes c.args.key c.args.present.now)) c.args.pass.now.pointer.seat c.take.new.self.pointer.seat c.code.result c.code.ensures
+    says_none (AtSet (AnswersRemove c.args.key c.args.present.now)) c.args.pass.now.pointer.seat c.take.new.self.pointer.seat c.code.result c.code.ensures
     (c.take.ensures.none c.in_default.is) c.take.ensures.left

@@ -3,7 +3,7 @@ use Rattle.std.proofs.Common.{[], subst, ◌∷◌}
 use Rattle.orc_history.specs.declared.set.ListRefused.{ListRefused}
 use Rattle.orc_history.specs.declared.set.ListRefused.TheVariants.{Again, NoNode, Spent}
 use Rattle.orc_history.specs.declared.set.SetEntry.TheVariants.{Added}
-use Rattle.mooringakee_c_passes.specs.SetCalls.{Inserts, Refuses}
+use Rattle.mooringakee_c_passes.specs.SetCalls.{AnswersInsert, RefusesCall}
 use Rattle.mooringakee_c_passes.specs.SetViews.{view_over}
 use Rattle.mooringakee_c_passes.specs.declared.answer.Answer.TheVariants.{Done}
 use Rattle.mooringakee_c_passes.proofs.SetAnswers.{entered, named, refused}
@@ -16,7 +16,7 @@ returns-in-Ok-clause-answer g c =
     let old = c.args.p.now in
     let new = c.insert.new.p in
     let told = c.in-Ok.ensures in
-    named m c.args.turns old new set c.args.set.now.value c.deref.ensures (λ v w. Inserts c.args.key c.in-Ok.yes v Done w)
+    named m c.args.turns old new set c.args.set.now.value c.deref.ensures (λ v w. AnswersInsert c.args.key c.in-Ok.yes v Done w)
     (entered m c.args.turns old new set (g.met.S.SharedSet.legal set new told.usable) told.agent
     (Added (m.agent_of set old) c.args.key c.in-Ok.yes ∷ []) told.added)
 
@@ -27,8 +27,8 @@ returns-in-Err-Again-clause-answer g c =
     let old = c.args.p.now in
     let new = c.insert.new.p in
     let told = c.in-Err-Again.ensures in
-    named m c.args.turns old new set c.args.set.now.value c.deref.ensures (λ v w. Refuses v Again w)
-    (subst (λ (why : ListRefused). Refuses (view_over m set c.args.turns old) why (view_over m set c.args.turns new)) c.in-Err-Again.field-0-is
+    named m c.args.turns old new set c.args.set.now.value c.deref.ensures (λ v w. RefusesCall v Again w)
+    (subst (λ (why : ListRefused). RefusesCall (view_over m set c.args.turns old) why (view_over m set c.args.turns new)) c.in-Err-Again.field-0-is
     (refused m c.args.turns old new set (g.met.S.SharedSet.legal set new told.usable) told.agent c.in-Err-Again.field-0 told.none told.licence))
 
 pub returns-in-Err-NoNode-clause-answer : goal.returns-in-Err-NoNode-clause-answer
@@ -38,8 +38,8 @@ returns-in-Err-NoNode-clause-answer g c =
     let old = c.args.p.now in
     let new = c.insert.new.p in
     let told = c.in-Err-NoNode.ensures in
-    named m c.args.turns old new set c.args.set.now.value c.deref.ensures (λ v w. Refuses v NoNode w)
-    (subst (λ (why : ListRefused). Refuses (view_over m set c.args.turns old) why (view_over m set c.args.turns new)) c.in-Err-NoNode.field-0-is
+    named m c.args.turns old new set c.args.set.now.value c.deref.ensures (λ v w. RefusesCall v NoNode w)
+    (subst (λ (why : ListRefused). RefusesCall (view_over m set c.args.turns old) why (view_over m set c.args.turns new)) c.in-Err-NoNode.field-0-is
     (refused m c.args.turns old new set (g.met.S.SharedSet.legal set new told.usable) told.agent c.in-Err-NoNode.field-0 told.none told.licence))
 
 pub returns-in-Err-Spent-clause-answer : goal.returns-in-Err-Spent-clause-answer
@@ -50,8 +50,8 @@ returns-in-Err-Spent-clause-answer g c =
     let new = c.insert.new.p in
     let told = c.in-Err-Spent.ensures in (
       c.in-Err-Spent.field-0-0,
-      named m c.args.turns old new set c.args.set.now.value c.deref.ensures (λ v w. Refuses v (Spent c.in-Err-Spent.field-0-0) w)
-          (subst (λ (why : ListRefused). Refuses (view_over m set c.args.turns old) why (view_over m set c.args.turns new)) c.in-Err-Spent.field-0-is
+      named m c.args.turns old new set c.args.set.now.value c.deref.ensures (λ v w. RefusesCall v (Spent c.in-Err-Spent.field-0-0) w)
+          (subst (λ (why : ListRefused). RefusesCall (view_over m set c.args.turns old) why (view_over m set c.args.turns new)) c.in-Err-Spent.field-0-is
           (refused m c.args.turns old new set (g.met.S.SharedSet.legal set new told.usable) told.agent c.in-Err-Spent.field-0 told.none told.licence)),
     )
 

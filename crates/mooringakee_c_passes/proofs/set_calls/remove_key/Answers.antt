@@ -2,7 +2,7 @@
 use Rattle.std.proofs.Common.{[], subst, ◌∷◌}
 use Rattle.orc_history.specs.declared.set.ListRefused.TheVariants.{Again}
 use Rattle.orc_history.specs.declared.set.SetEntry.TheVariants.{Removed}
-use Rattle.mooringakee_c_passes.specs.SetCalls.{Removes, Refuses}
+use Rattle.mooringakee_c_passes.specs.SetCalls.{AnswersRemove, RefusesCall}
 use Rattle.mooringakee_c_passes.specs.declared.answer.Answer.TheVariants.{Done}
 use Rattle.mooringakee_c_passes.proofs.SetAnswers.{entered, named, refused}
 use Rattle.mooringakee_c_passes.proofs.set_calls.remove_key.Goals as goal
@@ -14,7 +14,7 @@ returns-clause-answer g c =
     let old = c.args.p.now in
     let new = c.remove.new.p in
     let told = c.in-Ok.ensures in
-    named m c.args.turns old new set c.args.set.now.value c.deref.ensures (λ v w. Removes c.args.key c.in-Ok.yes v Done w)
+    named m c.args.turns old new set c.args.set.now.value c.deref.ensures (λ v w. AnswersRemove c.args.key c.in-Ok.yes v Done w)
     (entered m c.args.turns old new set (g.met.S.SharedSet.legal set new told.usable) told.agent
     (Removed (m.agent_of set old) c.args.key c.in-Ok.yes ∷ []) told.removed)
 
@@ -25,7 +25,7 @@ returns-in_default-clause-answer g c =
     let old = c.args.p.now in
     let new = c.remove.new.p in
     let told = c.in_default.ensures in
-    named m c.args.turns old new set c.args.set.now.value c.deref.ensures (λ v w. Refuses v Again w)
+    named m c.args.turns old new set c.args.set.now.value c.deref.ensures (λ v w. RefusesCall v Again w)
     (refused m c.args.turns old new set (g.met.S.SharedSet.legal set new told.usable) told.agent Again told.none told.licence)
 
 pub returns-in_default-clause-usable : goal.returns-in_default-clause-usable

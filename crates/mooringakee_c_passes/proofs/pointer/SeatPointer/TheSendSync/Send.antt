@@ -9,7 +9,7 @@ use Rattle.std.specs.Global.{Global}
 use Rattle.std.proofs.Crossing.{crosses, frees}
 use Rattle.std_alloc.proofs.SendSync.{lies}
 use Rattle.mooringakee_c_passes.proofs.seat.Seat.TheSendSync as inner
-use Rattle.mooringakee_c_passes.specs.Held.{held}
+use Rattle.mooringakee_c_passes.specs.Held.{held_box}
 use Rattle.mooringakee_c_passes.specs.Seats.{IsSeat}
 use Rattle.mooringakee_c_passes.proofs.Pointers.{R}
 use Rattle.mooringakee_c_passes.specs.contracts.pointer.SeatPointer.{the_row, the_type}
@@ -17,8 +17,8 @@ use Rattle.mooringakee_c_passes.specs.contracts.pointer.SeatPointer.{the_row, th
 inner_send : IsSend R
 inner_send = inner.the_send
 
-held_keyless : (a : Global) (s : Option R.Denot) (p : Ptr) → Keyless (held a R IsSeat s p)
-unfolding held
+held_keyless : (a : Global) (s : Option R.Denot) (p : Ptr) → Keyless (held_box a R IsSeat s p)
+unfolding held_box
 held_keyless a (Some x) p = λ _. (lies R inner_send p x, frees.frees a (bare (lone R.mir)) p)
 held_keyless a None p = tt
 

@@ -19,7 +19,7 @@ use denote.Steps.{nothing}
 use denote.Triple.Walked.{Stays, stay_dropped, walk_of, Goes-dropped}
 use Rattle.std.proofs.raw_atomic.Walks.{proved_at, leaves}
 use Rattle.core.proofs.alloc.Calls.{handle_tells}
-use Rattle.mooringakee_c_passes.specs.Held.{held}
+use Rattle.mooringakee_c_passes.specs.Held.{held_box}
 use Rattle.mooringakee_c_passes.proofs.Pointers.{Z, R, al, null_good, pointer_in}
 use Rattle.mooringakee_c_passes.specs.contracts.pointer.SeatPointer.empty.{ended, clauses}
 use Rattle.mooringakee_c_passes.specs.contracts.pointer.SeatPointer.empty.Key.{name as #self}
@@ -30,7 +30,7 @@ abbrev hs : Stays ended.signature.params ended.kept
 hs = (stay_dropped (plain (λ _. Z)) yes, tt)
 
 pub empty_spec : {M : Type 1} → statement M
-unfolding held
+unfolding held_box
 empty_spec 𝓤 𝓛 𝓜 𝓡 wired =
     let H = 𝓛.H in let 𝓣 = tables 𝓤 H 𝓜 𝓡 𝓡.env in let c = clauses 𝓛 𝓜.mem 𝓡.returns in let fn = code.function in
     proved_at 𝓛 ended hs c 𝓜 𝓡 (Goes-dropped 𝓛 0 (plain (λ _. Z)) yes (λ κs x f. refl), tt) #self fn (code.unfolded 𝓤 H 𝓜 𝓡 wired) (λ z are.

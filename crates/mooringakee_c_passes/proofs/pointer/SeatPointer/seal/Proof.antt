@@ -20,7 +20,7 @@ use Rattle.std.proofs.raw_atomic.Walks.{proved_at, leaves}
 use Rattle.std_heap.specs.contracts.GlobalAllocator.TheImpl.{ghosts}
 use Rattle.std_alloc.specs.Box.Ownership.{box_owns}
 use Rattle.raw_box.proofs.Values.{both, RawBox, raw_good, raw_out}
-use Rattle.mooringakee_c_passes.specs.Held.{held}
+use Rattle.mooringakee_c_passes.specs.Held.{held_box}
 use Rattle.mooringakee_c_passes.specs.Seats.{IsSeat}
 use Rattle.mooringakee_c_passes.proofs.Pointers.{Z, LZ, R, pointer_good, pointer_in}
 use Rattle.mooringakee_c_passes.specs.contracts.pointer.SeatPointer.seal.{ended, clauses}
@@ -35,7 +35,7 @@ abbrev hs : Stays ended.signature.params ended.kept
 hs = (stay_dropped (plain (λ _. L)) yes, tt)
 
 pub seal_spec : {M : Type 1} → statement M
-unfolding held
+unfolding held_box
 seal_spec 𝓤 𝓛 𝓜 𝓡 wired =
     let H = 𝓛.H in let 𝓣 = tables 𝓤 H 𝓜 𝓡 𝓡.env in let c = clauses 𝓛 𝓜.mem 𝓡.returns in let fn = code.function in
     proved_at 𝓛 ended hs c 𝓜 𝓡 (Goes-dropped 𝓛 0 (plain (λ _. L)) yes (λ κs x f. refl), tt) #self fn (code.unfolded 𝓤 H 𝓜 𝓡 wired) (λ z are.
