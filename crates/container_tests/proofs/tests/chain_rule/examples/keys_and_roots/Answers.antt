@@ -12,18 +12,18 @@ use Rattle.container_tests.proofs.tests.chain_rule.examples.keys_and_roots.Goals
 pub returns-clause-follows : goal.returns-clause-follows
 returns-clause-follows c = (
   refl,
-  (3, record { node = _; there = refl; linked_node = refl; rank_is = refl }, omega arith, refl),
+  (3, record { node = _; there = refl; linked = refl; rank_is = refl }, omega arith, refl),
   (λ f. cc),
-  (λ f. let (low, own, less, same) = f in omega (arith, same, key_one _ 0 low 3 own (record { node = _; there = refl; linked_node = refl; rank_is = refl }))),
-  (λ f. let (low, own, less, same) = f in omega (arith, less, key_one _ 0 low 3 own (record { node = _; there = refl; linked_node = refl; rank_is = refl }))),
+  (λ f. let (low, own, less, same) = f in omega (arith, same, key_one _ 0 low 3 own (record { node = _; there = refl; linked = refl; rank_is = refl }))),
+  (λ f. let (low, own, less, same) = f in omega (arith, less, key_one _ 0 low 3 own (record { node = _; there = refl; linked = refl; rank_is = refl }))),
   (λ f. let (low, own, less, same) = f in cc),
 )
 
 pub returns-clause-above : goal.returns-clause-above
 returns-clause-above c = (
   tt,
-  (3, record { node = _; there = refl; linked_node = refl; rank_is = refl }, omega arith),
-  (λ a. let (high, own, less) = a in omega (arith, less, key_one _ 0 high 3 own (record { node = _; there = refl; linked_node = refl; rank_is = refl }))),
+  (3, record { node = _; there = refl; linked = refl; rank_is = refl }, omega arith),
+  (λ a. let (high, own, less) = a in omega (arith, less, key_one _ 0 high 3 own (record { node = _; there = refl; linked = refl; rank_is = refl }))),
   refl,
   refl,
 )
@@ -50,7 +50,7 @@ pub returns-clause-present : goal.returns-clause-present
 returns-clause-present c = (
   record {
     id = 0;
-    has_key = record { node = _; there = refl; linked_node = refl; rank_is = refl };
+    has_key = record { node = _; there = refl; linked = refl; rank_is = refl };
     link = _;
     at = refl;
     unmarked = refl;
