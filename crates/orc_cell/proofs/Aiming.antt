@@ -21,7 +21,7 @@ use Rattle.orc_heap.specs.declared.events.Place.{Place}
 use Rattle.orc_heap.specs.declared.events.Place.TheVariants.{Root}
 use Rattle.orc_pairs_rule.specs.declared.pairs.PairsNote.{PairsNote}
 use Rattle.orc_pairs_rule.specs.PairsDiscipline.{HasPart, PairsMay}
-use Rattle.orc_cell.specs.Publishes.{Aimed, KeepsStaging, NotAimed, Staged, Piece, aim_act, link_of, other}
+use Rattle.orc_cell.specs.Publishes.{Aimed, KeepsStaging, NotAimed, Staged, Piece, aim_act, half_link, other}
 use Rattle.orc_cell.specs.Turns.{OnlyLooks, HoldsPart, LeadsToPart}
 use Rattle.orc_cell.specs.declared.publish.Half.{Half}
 use Rattle.orc_cell.specs.declared.publish.Half.TheVariants.{Left, Right}
@@ -35,12 +35,12 @@ with_half : Half → Link → Node → Node
 with_half Left to x = with_link to x
 with_half Right to x = with_side to x
 
-half_leads : (half : Half) (to : Link) (x : Node) → link_of half (with_half half to x) ≡ to
+half_leads : (half : Half) (to : Link) (x : Node) → half_link half (with_half half to x) ≡ to
 unfolding with_half
 half_leads Left to x = refl
 half_leads Right to x = refl
 
-half_keeps : (half : Half) (to : Link) (x : Node) → link_of (other half) (with_half half to x) ≡ link_of (other half) x
+half_keeps : (half : Half) (to : Link) (x : Node) → half_link (other half) (with_half half to x) ≡ half_link (other half) x
 unfolding with_half
 half_keeps Left to x = refl
 half_keeps Right to x = refl
@@ -64,8 +64,8 @@ pub record AimLeaves (n : HeapNumbers) (half : Half) (id to : ℕ) (s t : Seat P
   pub staging : KeepsStaging n s t
   pub node : Node
   pub there : slice_get (heap_of n t).nodes id ≡ Some node
-  pub leads : link_of half node ≡ link_to to
-  pub keeps : (old : Node) → slice_get (heap_of n s).nodes id ≡ Some old → link_of (other half) node ≡ link_of (other half) old
+  pub leads : half_link half node ≡ link_to to
+  pub keeps : (old : Node) → slice_get (heap_of n s).nodes id ≡ Some old → half_link (other half) node ≡ half_link (other half) old
 
 half_gives : (half : Half) (s : Seat PairsNote) (id to : ℕ) → gives_in (event_of s (aim_act half id (Some to)) None ∷ []) ≤ 0
 half_gives Left s id to = omega arith
@@ -88,7 +88,7 @@ aim_leaves n half id to s t o k all u ne =
       leads = half_leads half (link_to to) u.node;
       keeps = λ old there.
           let same : u.node ≡ old = some_same (sym u.there ∙ there) in
-          half_keeps half (link_to to) u.node ∙ ap (link_of (other half)) same;
+          half_keeps half (link_to to) u.node ∙ ap (half_link (other half)) same;
     }
 
 -- the aim at a part of the pair before, which is held meanwhile

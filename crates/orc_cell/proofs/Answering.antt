@@ -27,7 +27,7 @@ use Rattle.orc_pairs_rule.specs.declared.entry.CellEntry.{CellEntry}
 use Rattle.orc_pairs_rule.specs.declared.entry.CellEntry.TheVariants.{Published}
 use Rattle.orc_pairs_rule.specs.declared.pairs.PairsNote.{PairsNote}
 use Rattle.orc_pairs_rule.specs.PairsDiscipline.{HasPart, IsStaging, PairsMay, entries_of}
-use Rattle.orc_cell.specs.Answers.{Answers, AnswersAgain, PublishAnswers}
+use Rattle.orc_cell.specs.Answers.{AnswersPiece, AnswersAgain, PublishAnswers}
 use Rattle.orc_cell.specs.Publishes.{Answered, IsPublished, KeepsStaging, LetsGo, PublishDone, PublishOver, PublishSpent, PublishesGiven, PublishesTurns, Readies, SideHeld, Staged, Stages, Unstages}
 use Rattle.orc_cell.specs.Turns.{FindsOnly, others_moves}
 use Rattle.orc_cell.specs.declared.publish.New.{New}
@@ -104,12 +104,12 @@ module _ (n : HeapNumbers) (s a : Seat PairsNote) (pair : Hold) (free : IsFree s
       none_fresh : HoldsFresh b pair → t.fresh ≡ None
       none_fresh f = w.fresh ∙ (ap (λ (o : Option ℕ). unless_node o (Some (id_in b.slots pair))) f.fresh ∙ unless_same (id_in b.slots pair))
 
-      pub pair_done : (left right : Option ℕ) (x y : ℕ) → PublishDone n left right x y a b → Answers n 1 s (Published s.agent left right x y ∷ []) t
+      pub pair_done : (left right : Option ℕ) (x y : ℕ) → PublishDone n left right x y a b → AnswersPiece n 1 s (Published s.agent left right x y ∷ []) t
       pair_done left right x y d =
           let z = subst (λ (i : ℕ). Answered n 0 a (Published i left right x y ∷ []) b) given.puts.agent d.answered in
           record { answered = released (Published s.agent left right x y ∷ []) z; fresh = w.fresh ∙ unless_fresh b.fresh (Some (id_in b.slots pair)) d.fresh }
 
-      pub pair_spent : PublishSpent n pair a b → Answers n 1 s [] t
+      pub pair_spent : PublishSpent n pair a b → AnswersPiece n 1 s [] t
       pair_spent d = record { answered = released [] d.answered; fresh = none_fresh d.fresh }
 
       pub pair_over : (turns : ℕ) → PublishOver n turns pair a b → AnswersAgain n 1 turns s t
@@ -123,7 +123,7 @@ module _ (n : HeapNumbers) (s a : Seat PairsNote) (pair : Hold) (free : IsFree s
 
 -- no pair could be had
 pub pair_lacking : (n : HeapNumbers) (most : ℕ) (s t : Seat PairsNote) → 1 ≤ most → s.fresh ≡ None → Only [] s t → AllAllowed (PairsMay n) [] t.seen
-    → Answers n most s [] t
+    → AnswersPiece n most s [] t
 pair_lacking n most s t some none o all =
     let f = found_answered n s t [] (finds_none s t o) all in
     record {
@@ -139,7 +139,7 @@ pair_lacking n most s t some none o all =
 module _ (n : HeapNumbers) (slot root value : ℕ) (s a b t : Seat PairsNote) (h : Hold) (free : IsFree s.slots slot) (own : IsStaging s.agent root)
     (empty : shown (heap_of n s) (Root root) ≡ Some null) (first : Stages n slot root value s h a) (last : Unstages n root h b t)
   where
-    pub staged_join : (given : ℕ) (es : List CellEntry) → Answers n given a es b → Answers n (given + 1) s es t
+    pub staged_join : (given : ℕ) (es : List CellEntry) → AnswersPiece n given a es b → AnswersPiece n (given + 1) s es t
     staged_join given es x =
         let y = x.answered in
         let agent_a = first.piece.puts.agent in
@@ -236,8 +236,8 @@ ready_other n slot root k s a Kept side free all own ne r held =
     side_kept n s a k side [] r.0.puts all own (finds_staging n s a [] f all) (same_slots s a r.0.slots) held
 
 pub go_slots : (n : HeapNumbers) (slot root : ℕ) (s a b t : Seat PairsNote) (new : New) (given : ℕ) (es : List CellEntry) → IsFree s.slots slot
-    → IsStaging s.agent root → shown (heap_of n s) (Root root) ≡ Some null → s.fresh ≡ None → Readies n slot root s new a → Answers n given a es b
-    → LetsGo n root new b t → AllAllowed (PairsMay n) [] a.seen → AllAllowed (PairsMay n) [] t.seen → Answers n (given + 1) s es t
+    → IsStaging s.agent root → shown (heap_of n s) (Root root) ≡ Some null → s.fresh ≡ None → Readies n slot root s new a → AnswersPiece n given a es b
+    → LetsGo n root new b t → AllAllowed (PairsMay n) [] a.seen → AllAllowed (PairsMay n) [] t.seen → AnswersPiece n (given + 1) s es t
 go_slots n slot root s a b t (Given value h) given es free own empty none r x l all_a all_t =
     staged_join n slot root value s a b t h free own empty r l given es x
 go_slots n slot root s a b t (Zero h) given es free own empty none r x l all_a all_t = staged_join n slot root 0 s a b t h free own empty r l given es x
@@ -273,7 +273,7 @@ gone_puts n root b t Kept l = ([], l.puts)
 -- of a publish, whatever it answered
 
 pub any_answered : (n : HeapNumbers) (given turns : ℕ) (left right : Option ℕ) (s t : Seat PairsNote) (r : Result (ℕ × ℕ) CellRefused)
-    → PublishAnswers n given turns left right s r t → (es : List CellEntry) × Answers n given s es t
+    → PublishAnswers n given turns left right s r t → (es : List CellEntry) × AnswersPiece n given s es t
 any_answered n given turns left right s t (Ok now) x = (Published s.agent left right now.0 now.1 ∷ [], x)
 any_answered n given turns left right s t (Err Again) x = ([], x.answers)
 any_answered n given turns left right s t (Err NoNode) x = ([], x)
@@ -307,7 +307,7 @@ pub answers_join : (n : HeapNumbers) (slot root given turns : ℕ) (left right :
     → PublishAnswers n (given + 1) turns left right s r t
 answers_join n slot root given turns left right s a b t new (Ok now) free own empty none rd x l all_a all_t =
     go_slots n slot root s a b t new given (Published s.agent left right now.0 now.1 ∷ []) free own empty none rd
-    (subst (λ (i : ℕ). Answers n given a (Published i left right now.0 now.1 ∷ []) b) (ready_agent n slot root s a new rd) x) l all_a all_t
+    (subst (λ (i : ℕ). AnswersPiece n given a (Published i left right now.0 now.1 ∷ []) b) (ready_agent n slot root s a new rd) x) l all_a all_t
 answers_join n slot root given turns left right s a b t new (Err NoNode) free own empty none rd x l all_a all_t =
     go_slots n slot root s a b t new given [] free own empty none rd x l all_a all_t
 answers_join n slot root given turns left right s a b t new (Err (Spent why)) free own empty none rd x l all_a all_t =
@@ -357,7 +357,7 @@ found_first n given s a t es f all x =
 pub answers_after : (n : HeapNumbers) (given turns : ℕ) (left right : Option ℕ) (s a t : Seat PairsNote) (r : Result (ℕ × ℕ) CellRefused) → FindsOnly s [] a
     → AllAllowed (PairsMay n) [] a.seen → PublishAnswers n given turns left right a r t → PublishAnswers n given turns left right s r t
 answers_after n given turns left right s a t (Ok now) f all x =
-    let y = subst (λ (i : ℕ). Answers n given a (Published i left right now.0 now.1 ∷ []) t) f.finds.puts.agent x in
+    let y = subst (λ (i : ℕ). AnswersPiece n given a (Published i left right now.0 now.1 ∷ []) t) f.finds.puts.agent x in
     record {
       answered = found_first n given s a t (Published s.agent left right now.0 now.1 ∷ []) f all y.answered;
       fresh = y.fresh;

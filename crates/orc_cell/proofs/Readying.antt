@@ -13,7 +13,7 @@ use Rattle.orc_heap.specs.Slots.{Hold, Holds, id_in}
 use Rattle.orc_heap.specs.declared.events.Event.{Event}
 use Rattle.orc_pairs_rule.specs.declared.pairs.PairsNote.{PairsNote}
 use Rattle.orc_pairs_rule.specs.PairsDiscipline.{PairsMay}
-use Rattle.orc_cell.specs.Publishes.{Aimed, AimsGiven, Answered, IsHalfReady, KeepsHalves, LeadsHalf, MakesReady, SideHeld, Staged, aim_act, given_of, link_of, other}
+use Rattle.orc_cell.specs.Publishes.{Aimed, AimsGiven, Answered, IsHalfReady, KeepsHalves, LeadsHalf, MakesReady, SideHeld, Staged, aim_act, given_of, half_link, other}
 use Rattle.orc_cell.specs.Turns.{IsFinding}
 use Rattle.orc_cell.specs.declared.publish.Half.{Half}
 use Rattle.orc_cell.specs.declared.publish.Half.TheVariants.{Left, Right}
@@ -45,7 +45,7 @@ ready_aimed n half s h pair root value staged fresh l = record {
   node = l.node;
   there = l.there;
   leads = l.leads;
-  keeps = λ old there. ap (link_of (other half)) (some_same (sym l.there ∙ there));
+  keeps = λ old there. ap (half_link (other half)) (some_same (sym l.there ∙ there));
   has = staged.part;
 }
 
@@ -97,7 +97,7 @@ none_given n half s pair new fresh u ready = record {
   fresh = fresh;
   node = u.node;
   there = u.there;
-  keeps = λ old there. ap (link_of (other half)) (some_same (sym u.there ∙ there));
+  keeps = λ old there. ap (half_link (other half)) (some_same (sym u.there ∙ there));
   ready = ready;
 }
 

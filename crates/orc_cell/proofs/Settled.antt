@@ -15,7 +15,7 @@ use Rattle.orc_pairs_rule.specs.declared.entry.CellEntry.TheVariants.{Published,
 use Rattle.orc_pairs_rule.specs.declared.pairs.PairsNote.{PairsNote}
 use Rattle.orc_pairs_rule.specs.CellHistory.{agent_of_entry}
 use Rattle.orc_pairs_rule.specs.PairsDiscipline.{IsStaging, PairsMay, entries_of}
-use Rattle.orc_cell.specs.Answers.{Answers, PublishAnswers, ReadAnswers}
+use Rattle.orc_cell.specs.Answers.{AnswersPiece, PublishAnswers, ReadAnswers}
 use Rattle.orc_cell.specs.Causes.{UsesTurns}
 use Rattle.orc_cell.specs.Turns.{FindsOnly}
 use Rattle.orc_cell.specs.declared.refused.CellRefused.{CellRefused}
@@ -28,8 +28,8 @@ use Rattle.orc_cell.proofs.Staging.{Answered-trans, finds_piece, found_answered}
 
 -- a publish
 
-answers_settled : (n : HeapNumbers) (given : ℕ) (s t u : Seat PairsNote) (es : List CellEntry) → Answers n given s es t → Only [] t u
-    → AllAllowed (PairsMay n) [] u.seen → Answers n given s es u
+answers_settled : (n : HeapNumbers) (given : ℕ) (s t u : Seat PairsNote) (es : List CellEntry) → AnswersPiece n given s es t → Only [] t u
+    → AllAllowed (PairsMay n) [] u.seen → AnswersPiece n given s es u
 answers_settled n given s t u es x o all =
     let w = Answered-trans n given 0 s t u es [] x.answered (found_answered n t u [] (finds_none t u o) all) in
     record {
@@ -69,7 +69,7 @@ any_read turns s t (Ok got) x = (Seen s.agent got.0 got.1 ∷ [], x)
 any_read turns s t (Err again) x = ([], x.only)
 
 pub read_answers : (n : HeapNumbers) (turns : ℕ) (s t : Seat PairsNote) (r : Result (ℕ × ℕ) AgainFault) → ReadAnswers turns s r t → s.fresh ≡ None
-    → AllAllowed (PairsMay n) [] t.seen → (es : List CellEntry) × Answers n 0 s es t
+    → AllAllowed (PairsMay n) [] t.seen → (es : List CellEntry) × AnswersPiece n 0 s es t
 read_answers n turns s t r x none all =
     let y = any_read turns s t r x in
     (y.0, record { answered = found_answered n s t y.0 y.1 all; fresh = y.1.finds.fresh ∙ none })
@@ -78,7 +78,7 @@ read_answers n turns s t r x none all =
 pub record CallEnds (n : HeapNumbers) (given : ℕ) (s t u : Seat PairsNote) (OnAnswer : Type 0) : Type 0 where
   pub before : t.agent ≡ s.agent
   pub entries : List CellEntry
-  pub after : Answers n given s entries u
+  pub after : AnswersPiece n given s entries u
   pub answers : OnAnswer
 
 pub publish_ends : (n : HeapNumbers) (given turns : ℕ) (left right : Option ℕ) (s t u : Seat PairsNote) → Only [] t u → AllAllowed (PairsMay n) [] u.seen
@@ -97,10 +97,10 @@ read_ends n turns s t u o all none r x =
     record { before = (any_read turns s t r x).1.finds.puts.agent; entries = any.0; after = any.1; answers = y }
 
 -- the pass after a call
-pub idle_after : {n : HeapNumbers} {given : ℕ} {s t : Seat PairsNote} {es : List CellEntry} → IsIdle s → Answers n given s es t → IsIdle t
+pub idle_after : {n : HeapNumbers} {given : ℕ} {s t : Seat PairsNote} {es : List CellEntry} → IsIdle s → AnswersPiece n given s es t → IsIdle t
 idle_after idle x = record { slots = x.answered.slots ∙ idle.slots; fresh = x.fresh }
 
-pub staging_after : {n : HeapNumbers} {given : ℕ} {s t : Seat PairsNote} {es : List CellEntry} → Answers n given s es t
+pub staging_after : {n : HeapNumbers} {given : ℕ} {s t : Seat PairsNote} {es : List CellEntry} → AnswersPiece n given s es t
     → ((root : ℕ) → IsStaging s.agent root → shown (heap_of n s) (Root root) ≡ Some null)
     → (root : ℕ) → IsStaging t.agent root → shown (heap_of n t) (Root root) ≡ Some null
 staging_after x empty root own =

@@ -41,9 +41,9 @@ half_at Left id = Next id
 half_at Right id = Side id
 
 -- that link of a node
-abbrev pub link_of : Half → Node → Link
-link_of Left node = node.link
-link_of Right node = node.side
+abbrev pub half_link : Half → Node → Link
+half_link Left node = node.link
+half_link Right node = node.side
 
 abbrev pub other : Half → Half
 other Left = Right
@@ -108,8 +108,8 @@ pub record Aimed (n : HeapNumbers) (half : Half) (pair : Hold) (id value : ℕ) 
   pub fresh : HoldsFresh t pair
   pub node : Node
   pub there : slice_get (heap_of n t).nodes (id_in t.slots pair) ≡ Some node
-  pub leads : link_of half node ≡ link_to id
-  pub keeps : (old : Node) → slice_get (heap_of n s).nodes (id_in s.slots pair) ≡ Some old → link_of (other half) node ≡ link_of (other half) old
+  pub leads : half_link half node ≡ link_to id
+  pub keeps : (old : Node) → slice_get (heap_of n s).nodes (id_in s.slots pair) ≡ Some old → half_link (other half) node ≡ half_link (other half) old
   pub has : HasPart (heap_of n t) id value
 
 -- nothing was aimed
@@ -126,7 +126,7 @@ Aims n half pair IsNew s (Err why) t = NotAimed n pair s t
 pub record LeadsHalf (n : HeapNumbers) (half : Half) (pair : Hold) (id : ℕ) (s : Seat PairsNote) : Type 0 where
   pub node : Node
   pub there : slice_get (heap_of n s).nodes (id_in s.slots pair) ≡ Some node
-  pub leads : link_of half node ≡ link_to id
+  pub leads : half_link half node ≡ link_to id
 
 -- it leads to the part, if that is given
 abbrev pub IsHalfReady : HeapNumbers → Half → Hold → New → Seat PairsNote → Type 0
@@ -140,7 +140,7 @@ pub record MakesReady (n : HeapNumbers) (half : Half) (pair : Hold) (new : New) 
   pub fresh : HoldsFresh t pair
   pub node : Node
   pub there : slice_get (heap_of n t).nodes (id_in t.slots pair) ≡ Some node
-  pub keeps : (old : Node) → slice_get (heap_of n s).nodes (id_in s.slots pair) ≡ Some old → link_of (other half) node ≡ link_of (other half) old
+  pub keeps : (old : Node) → slice_get (heap_of n s).nodes (id_in s.slots pair) ≡ Some old → half_link (other half) node ≡ half_link (other half) old
   pub ready : IsHalfReady n half pair new t
 
 abbrev pub AimsGiven : HeapNumbers → Half → Hold → New → Seat PairsNote → Result (Unit {0}) Spent → Seat PairsNote → Type 0

@@ -40,7 +40,7 @@ fn call_turn<L: Links<Rule = Chain>>(
     answer_found::<Key, L>(links, p, root, key, call, found)
 }
 
-// Answers whether the key is present, in at most so many turns.
+// Answers whether the key is present, or takes it out, in at most so many turns.
 pub(crate) fn call_turns<L: Links<Rule = Chain>>(
     links: &L,
     p: &mut L::Pass,

@@ -158,7 +158,7 @@ impl<L: Links<Rule = Chain>> List<L> {
         self.answer(p, root, key, Call::Ask, turns)
     }
 
-    // Answers whether the key is present, in at most so many turns.
+    // Answers whether the key is present, or takes it out, in at most so many turns.
     fn answer(
         &self,
         p: &mut L::Pass,

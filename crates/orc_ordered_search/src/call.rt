@@ -39,7 +39,7 @@ fn entry_of(call: Call, agent: u32, key: u64, yes: bool) -> SetEntry
     }
 }
 
-// Answers where the key is present, unless its node's link moved meanwhile. Lets all nodes go.
+// Where the key is present: answers so, or takes it out first, unless its node's link moved meanwhile. Lets all nodes go.
 fn answer_present<K: SetRank, L: Links<Rule = K::Rule>>(
     links: &L,
     p: &mut L::Pass,

@@ -37,7 +37,7 @@ use Rattle.orc_split_rule.specs.declared.split.SplitNote.{SplitNote}
 use Rattle.orc_split_set.specs.Beginnings.{BeginsKey, BeginsNear, BeginsByBucket, Held, MayBeginAt, StartsIf, seat_before}
 use Rattle.orc_split_set.specs.Crowds.{BeginsBy, SeesOwn}
 use Rattle.orc_split_set.specs.Looks.{HasStart, StartsAt}
-use Rattle.orc_split_set.specs.NewNodes.{place_for, node_values}
+use Rattle.orc_split_set.specs.NewNodes.{place_for, node_value}
 use Rattle.orc_split_set.specs.SplitSearches.{split_reading}
 use Rattle.orc_split_set.specs.declared.begin.Begun.{Begun}
 use Rattle.orc_split_set.specs.declared.begin.Begun.TheVariants.{From, Moved as BegunMoved}
@@ -79,7 +79,7 @@ size_was n s t link before rest size some holds p all stands =
     (omega (arith, low, here), omega (arith, high, here, after))
 
 -- the dummy of the bucket of a number, where there are so many buckets, lies below the node
-below_new : (h : Heap) (id i : ℕ) (new : NewNode) → 0 < 2 ^ i → MayBeginAt new (2 ^ i) → IsDummy h id (node_values new % 2 ^ i)
+below_new : (h : Heap) (id i : ℕ) (new : NewNode) → 0 < 2 ^ i → MayBeginAt new (2 ^ i) → IsDummy h id (node_value new % 2 ^ i)
     → FollowsOn split_order h (Next id) (place_for new)
 below_new h id i (Key key) some may d = (dummy_place (key % 2 ^ i), dummy_rank h id (key % 2 ^ i) d, omega (arith, low_first key i), refl)
 below_new h id i (Dummy bucket) some may d =
@@ -112,13 +112,13 @@ quiet_before n s t own p q = record {
 module _ (n : HeapNumbers) (new : NewNode) (s t : Seat SplitNote) (own : List (Event SplitNote)) (q : Quiet (split_reading n) s own t)
     (same : t.slots ≡ s.slots) where
   -- a search from root 0
-  pub from_root : (size : ℕ) → (SeesOwn s t → HasStart (heap_of n t) (bucket_of (node_values new) size) → bucket_of (node_values new) size ≡ 0)
+  pub from_root : (size : ℕ) → (SeesOwn s t → HasStart (heap_of n t) (bucket_of (node_value new) size) → bucket_of (node_value new) size ≡ 0)
       → BeginsByBucket n new size s (From None) t
   from_root size first = record {
     own = own;
     quiet = quiet_before n s t own q.puts q;
     start = Root 0;
-    near = (refl, λ sees has. starts_first (heap_of n t) (bucket_of (node_values new) size) (first sees has));
+    near = (refl, λ sees has. starts_first (heap_of n t) (bucket_of (node_value new) size) (first sees has));
     begins = record {
       begins = record {
         left_id = 0;
@@ -175,7 +175,7 @@ module _ (n : HeapNumbers) (new : NewNode) (s t : Seat SplitNote) (own : List (E
 
   -- a root that names a dummy, at whose link the search begins
   pub root_dummy : (u : Seat SplitNote) (bucket i : ℕ) (seen : Seen) (h : Hold) → SplitHolds n t.seen → AllAllowed (SplitMay n) [] u.seen
-      → HasRoom t.slots → 1 ≤ bucket → bucket < greatest n → 0 < 2 ^ i → MayBeginAt new (2 ^ i) → bucket ≡ node_values new % 2 ^ i
+      → HasRoom t.slots → 1 ≤ bucket → bucket < greatest n → 0 < 2 ^ i → MayBeginAt new (2 ^ i) → bucket ≡ node_value new % 2 ^ i
       → Looks (Root bucket) 2 t (Stable seen (Some h)) u → BeginsByBucket n new (2 ^ i) s (From (Some h)) u
   root_dummy u bucket i seen h holds all room some less many may is looks = by_next looks.tells
     where
@@ -185,7 +185,7 @@ module _ (n : HeapNumbers) (new : NewNode) (s t : Seat SplitNote) (own : List (E
           let ys : List (Event SplitNote) = event_of t (Look (Root bucket) one) None ∷ event_of t (Look (Root bucket) link) None ∷ [] in
           let (first, dummy, same_bucket) = root_tells n t u bucket link (event_of t (Look (Root bucket) one) None ∷ []) [] id (λ (x : ℕ). x ≡ bucket) 0 holds
           puts all refl (λ es now leads. (bucket, now.buckets.anchors bucket id some less leads, refl)) in
-          let d : IsDummy (heap_of n u) id (node_values new % 2 ^ i) = subst (λ (x : ℕ). IsDummy (heap_of n u) id x) (same_bucket ∙ is) dummy in
+          let d : IsDummy (heap_of n u) id (node_value new % 2 ^ i) = subst (λ (x : ℕ). IsDummy (heap_of n u) id x) (same_bucket ∙ is) dummy in
           let here : Quiet (split_reading n) t ys u = record {
             puts = puts;
             fresh = looks.fresh;
@@ -202,7 +202,7 @@ module _ (n : HeapNumbers) (new : NewNode) (s t : Seat SplitNote) (own : List (E
             quiet = quiet_before n s u (own ++ ys) whole.puts whole;
             start = Next id;
             near = (
-              (node_values new % 2 ^ i, d, omega arith),
+              (node_value new % 2 ^ i, d, omega arith),
               λ sees has.
                   let found = look_found n (SplitMay n) (may_fits n) t u (Root bucket) link None
                   (event_of t (Look (Root bucket) one) None ∷ []) [] puts all tt in
@@ -225,10 +225,10 @@ module _ (n : HeapNumbers) (new : NewNode) (s t : Seat SplitNote) (own : List (E
                     (subst (λ (z : Slots). u.slots ≡ slice_set z 2 (Some (record { row = h.row; id = id }))) same slots));
                 apart = ((λ e. omega (arith, e, at_slot)), tt);
                 start_is = refl;
-                begins = (dummy_place (node_values new % 2 ^ i), dummy_rank (heap_of n u) id (node_values new % 2 ^ i) d);
+                begins = (dummy_place (node_value new % 2 ^ i), dummy_rank (heap_of n u) id (node_value new % 2 ^ i) d);
                 below = below_new (heap_of n u) id i new many may d;
               };
-              dummy = (node_values new % 2 ^ i, d);
+              dummy = (node_value new % 2 ^ i, d);
             };
           }
 
@@ -251,14 +251,14 @@ half_begins (Dummy bucket) size may = omega (arith, may)
 -- by the size that was computed
 pub root_at : (n : HeapNumbers) (new : NewNode) (s t : Seat SplitNote) (own : List (Event SplitNote)) (q : Quiet (split_reading n) s own t)
     (same : t.slots ≡ s.slots) (u : Seat SplitNote) (value size most : ℕ) (seen : Seen) (h : Hold) → SplitHolds n t.seen → AllAllowed (SplitMay n) [] u.seen
-    → HasRoom t.slots → IsSize (greatest n) size → 2 ≤ size → MayBeginAt new size → value ≡ node_values new → most ≡ size → size / 2 ≤ value % most
+    → HasRoom t.slots → IsSize (greatest n) size → 2 ≤ size → MayBeginAt new size → value ≡ node_value new → most ≡ size → size / 2 ≤ value % most
     → Looks (Root (value % most)) 2 t (Stable seen (Some h)) u → BeginsByBucket n new size s (From (Some h)) u
 root_at n new s t own q same u value size most seen h holds all room (low, i, is) two may value_is most_is high looks =
     let many : 0 < 2 ^ i = omega (arith, two, is) in
     let less : value % most < most = mod-lt value (omega (arith, two, most_is)) in
     subst (λ (x : ℕ). BeginsByBucket n new x s (From (Some h)) u) (sym is)
     (root_dummy n new s t own q same u (value % most) i seen h holds all room (omega (arith, two, high)) (omega (arith, less, low, most_is)) many
-    (subst (λ (x : ℕ). MayBeginAt new x) is may) (ap (λ (x : ℕ). x % most) value_is ∙ ap (λ (x : ℕ). node_values new % x) (most_is ∙ is)) looks)
+    (subst (λ (x : ℕ). MayBeginAt new x) is may) (ap (λ (x : ℕ). x % most) value_is ∙ ap (λ (x : ℕ). node_value new % x) (most_is ∙ is)) looks)
 
 -- half as many buckets begin no later
 pub half_by : (value size i : ℕ) → 2 ≤ size → size ≡ 2 ^ i → dummy_place (bucket_of value (size / 2)) ≤ dummy_place (bucket_of value size)
@@ -289,13 +289,13 @@ near_on n new Near Far go s t (From left) b =
 
 -- where fewer buckets begin no later, and the node's is the same if it has a start
 pub begins_later : (n : HeapNumbers) (new : NewNode) (fewer size : ℕ)
-    → dummy_place (bucket_of (node_values new) fewer) ≤ dummy_place (bucket_of (node_values new) size) → (s t : Seat SplitNote)
-    → (SeesOwn s t → HasStart (heap_of n t) (bucket_of (node_values new) size) → bucket_of (node_values new) size ≡ bucket_of (node_values new) fewer)
+    → dummy_place (bucket_of (node_value new) fewer) ≤ dummy_place (bucket_of (node_value new) size) → (s t : Seat SplitNote)
+    → (SeesOwn s t → HasStart (heap_of n t) (bucket_of (node_value new) size) → bucket_of (node_value new) size ≡ bucket_of (node_value new) fewer)
     → (begun : Begun) → BeginsByBucket n new fewer s begun t → BeginsByBucket n new size s begun t
 begins_later n new fewer size low s t same begun b =
     let h = heap_of n t in
-    let one = bucket_of (node_values new) fewer in
-    let two = bucket_of (node_values new) size in
+    let one = bucket_of (node_value new) fewer in
+    let two = bucket_of (node_value new) size in
     near_on n new (λ start. BeginsBy h start one × StartsIf n s t one start) (λ start. BeginsBy h start two × StartsIf n s t two start)
     (λ start near. (
       by_later h start one two low near.0,

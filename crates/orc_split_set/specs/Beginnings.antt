@@ -10,7 +10,7 @@ use Rattle.orc_split_rule.specs.SplitOrder.{bucket_of}
 use Rattle.orc_split_rule.specs.declared.split.SplitNote.{SplitNote}
 use Rattle.orc_split_set.specs.Crowds.{BeginsBy, SeesOwn}
 use Rattle.orc_split_set.specs.Looks.{HasStart, StartsAt}
-use Rattle.orc_split_set.specs.NewNodes.{place_for, node_values}
+use Rattle.orc_split_set.specs.NewNodes.{place_for, node_value}
 use Rattle.orc_split_set.specs.SplitSearches.{BeginsAt, split_reading}
 use Rattle.orc_split_set.specs.declared.begin.Begun.{Begun}
 use Rattle.orc_split_set.specs.declared.begin.Begun.TheVariants.{From, Moved}
@@ -52,7 +52,7 @@ StartsIf n s t bucket start = SeesOwn s t → HasStart (heap_of n t) bucket → 
 -- it begins by the bucket of the node, where there are so many buckets
 abbrev pub BeginsByBucket : HeapNumbers → NewNode → ℕ → Seat SplitNote → Begun → Seat SplitNote → Type 0
 BeginsByBucket n new size s begun t =
-    BeginsNear n new (λ start. BeginsBy (heap_of n t) start (bucket_of (node_values new) size) × StartsIf n s t (bucket_of (node_values new) size) start) s begun t
+    BeginsNear n new (λ start. BeginsBy (heap_of n t) start (bucket_of (node_value new) size) × StartsIf n s t (bucket_of (node_value new) size) start) s begun t
 
 -- it begins, or is looked for at fewer buckets
 abbrev pub GoesNear : HeapNumbers → NewNode → ℕ → Seat SplitNote → Option Begun → Seat SplitNote → Type 0

@@ -4,11 +4,12 @@ use Rattle.orc_split_rule.specs.SplitOrder.{dummy_place, key_place}
 use Rattle.orc_split_set.specs.declared.node.NewNode.{NewNode}
 use Rattle.orc_split_set.specs.declared.node.NewNode.TheVariants.{Dummy, Key}
 
--- the values of the node: the key and 1, or the bucket and 0
-abbrev pub node_values : NewNode → ℕ
-node_values (Key key) = key
-node_values (Dummy bucket) = bucket
+-- the value of the node: the key, or the bucket
+abbrev pub node_value : NewNode → ℕ
+node_value (Key key) = key
+node_value (Dummy bucket) = bucket
 
+-- and its kind: 1 of a key's node, 0 of a dummy
 abbrev pub kind_of : NewNode → ℕ
 kind_of (Key key) = 1
 kind_of (Dummy bucket) = 0

@@ -32,8 +32,8 @@ abbrev pub split_place : ℕ → Bool → ℕ
 split_place value true = key_place value
 split_place value false = dummy_place value
 
-abbrev pub split_rank : SplitPlace → ℕ
-split_rank place = split_place place.value place.has_key
+abbrev pub rank_of_place : SplitPlace → ℕ
+rank_of_place place = split_place place.value place.has_key
 
 -- the node is a dummy, if there is one
 abbrev pub IsDummyIfAny : Heap → Option Hold → ℕ → Type 0

@@ -77,7 +77,7 @@ fn call_turn<L: Links<Rule = Split>>(
     }
 }
 
-// Answers whether the key is present, in at most so many turns.
+// Answers whether the key is present, or takes it out, in at most so many turns.
 pub(crate) fn call_turns<L: Links<Rule = Split>>(
     links: &L,
     p: &mut L::Pass,

@@ -11,7 +11,7 @@ ghost use Rattle.orc_split_rule.specs.declared.split.SplitNote.{SplitNote};
 ghost use Rattle.orc_split_set.specs.Beginnings.{BeginsKey, BeginsByBucket, GoesNear, MayBeginAt};
 ghost use Rattle.orc_split_set.specs.Crowds.{SeesOwn};
 ghost use Rattle.orc_split_set.specs.Looks.{HasStart, LoadsFew, root_loads};
-ghost use Rattle.orc_split_set.specs.NewNodes.{node_values};
+ghost use Rattle.orc_split_set.specs.NewNodes.{node_value};
 ghost use Rattle.orc_split_set.specs.declared.begin.Begun.{Begun};
 ghost use Rattle.orc_split_set.specs.SplitSearches.{split_reading};
 
@@ -45,11 +45,11 @@ fn begin_at<L: Links<Rule = Split>>(
         → (L.seat links.now p.old).slots ≡ s.slots → GoesNear (L.numbers links.now) new size s result (L.seat links.now p.new) }
     ensures held { result ≡ None → (L.seat links.now p.new).slots ≡ (L.seat links.now p.old).slots }
     ensures agent { (L.seat links.now p.new).agent ≡ (L.seat links.now p.old).agent }
-    ensures few { (begun : Begun) → result ≡ Some begun → LoadsFew (root_loads (bucket_of (node_values new) size)) (L.seat links.now p.old)
+    ensures few { (begun : Begun) → result ≡ Some begun → LoadsFew (root_loads (bucket_of (node_value new) size)) (L.seat links.now p.old)
         (L.seat links.now p.new) }
-    ensures none { result ≡ None → HasStart (heap_of (L.numbers links.now) (L.seat links.now p.old)) (bucket_of (node_values new) size)
+    ensures none { result ≡ None → HasStart (heap_of (L.numbers links.now) (L.seat links.now p.old)) (bucket_of (node_value new) size)
         → (k : SeesOwn (L.seat links.now p.old) (L.seat links.now p.new))
-        → (bucket_of (node_values new) size ≡ bucket_of (node_values new) (size / 2)) × (k.part ≡ []) }
+        → (bucket_of (node_value new) size ≡ bucket_of (node_value new) (size / 2)) × (k.part ≡ []) }
 {
     let bucket = (new.value() % u64::from(size)) as u32;
     if bucket < size / 2 {
@@ -78,8 +78,8 @@ pub(crate) fn begin_near<L: Links<Rule = Split>>(
     ensures later { IsPrefix (L.journal p.old) (L.journal p.new) }
     ensures begun { (s : Seat SplitNote) (own : List (Event SplitNote)) → Quiet (split_reading (L.numbers links.now)) s own (L.seat links.now p.old)
         → (L.seat links.now p.old).slots ≡ s.slots → BeginsByBucket (L.numbers links.now) new size s result (L.seat links.now p.new) }
-    ensures few { HasStart (heap_of (L.numbers links.now) (L.seat links.now p.old)) (bucket_of (node_values new) size)
-        → LoadsFew (root_loads (bucket_of (node_values new) size)) (L.seat links.now p.old) (L.seat links.now p.new) }
+    ensures few { HasStart (heap_of (L.numbers links.now) (L.seat links.now p.old)) (bucket_of (node_value new) size)
+        → LoadsFew (root_loads (bucket_of (node_value new) size)) (L.seat links.now p.old) (L.seat links.now p.new) }
 {
     let mut size = size;
     while size > 1 {

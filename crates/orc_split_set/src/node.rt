@@ -1,8 +1,8 @@
 //! Nodes that are to be linked.
 
 ghost use Rattle.std.specs.Prelude.{◌≡◌};
-ghost use Rattle.orc_split_set.specs.NewNodes.{kind_of, place_for, node_values};
-ghost use Rattle.orc_split_set.specs.SplitSearches.{split_rank};
+ghost use Rattle.orc_split_set.specs.NewNodes.{kind_of, place_for, node_value};
+ghost use Rattle.orc_split_set.specs.SplitSearches.{rank_of_place};
 
 use crate::order::SplitPlace;
 
@@ -18,7 +18,7 @@ pub enum NewNode {
 impl NewNode {
     // The first value of the node.
     pub(crate) fn value(self) -> u64
-        ensures { result ≡ node_values self }
+        ensures { result ≡ node_value self }
     {
         match self {
             NewNode::Key(key) => key,
@@ -38,7 +38,7 @@ impl NewNode {
 
     // The place in split order where the node belongs.
     pub(crate) fn place(self) -> SplitPlace
-        ensures { split_rank result ≡ place_for self }
+        ensures { rank_of_place result ≡ place_for self }
     {
         let value = self.value();
         let has_key = self.kind() == 1;

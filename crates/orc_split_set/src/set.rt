@@ -83,7 +83,7 @@ impl<L: Links<Rule = Split>> SplitSet<L> {
         answer
     }
 
-    // Answers whether the key is present, in at most so many turns, and sets the root of the key's bucket before.
+    // Answers whether the key is present, or takes it out, in at most so many turns. Sets the root of the key's bucket before.
     fn answer(&self, p: &mut L::Pass, key: u64, call: Call, turns: u64) -> Result<bool, Again>
         requires usable { IsUsable L.Links self.now.links p.old }
         ensures usable { IsUsable L.Links self.now.links p.new }

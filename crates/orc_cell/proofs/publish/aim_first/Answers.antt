@@ -7,9 +7,8 @@ use Rattle.orc_cell.proofs.publish.aim_first.Goals as goal
 
 pub returns-in-Given-clause-aimed : goal.returns-in-Given-clause-aimed
 returns-in-Given-clause-aimed g c =
-    let d = c.args.links.now in
-    let n = g.L.Links.numbers d in
-    let s = g.L.Links.seat d c.args.p.now in
+    let n = g.L.Links.numbers _ in
+    let s = g.L.Links.seat _ c.args.p.now in
     let half = c.args.half in
     let pair = c.args.pair.now in
     let staged = subst (λ (x : New). SideHeld n (staging_root half s.agent) x s) c.in-Given.is c.requires.new in

@@ -9,9 +9,8 @@ use Rattle.orc_cell.proofs.publish.aim_kept.Goals as goal
 
 pub value-value-requires-clause-held : goal.value-value-requires-clause-held
 value-value-requires-clause-held g c =
-    let d = c.args.links.now in
     let h = c.hold_part-part.ensures.held in
-    slot_holds (g.L.Links.seat d c.args.p.now) (g.L.Links.seat d c.hold_part-part.new.p) 5 h.id _ c.requires.slot h.in_slot
+    slot_holds _ _ 5 h.id _ c.requires.slot h.in_slot
 
 pub aim_half-aimed-requires : goal.aim_half-aimed-requires
 aim_half-aimed-requires g c =
@@ -36,42 +35,39 @@ aim_half-aimed-requires g c =
 
 pub release-requires-clause-held : goal.release-requires-clause-held
 release-requires-clause-held g c =
-    let d = c.args.links.now in
     let h = c.hold_part-part.ensures.held in
     let slots = aimed_slots _ _ _ _ c.aim_half-aimed.result c.aim_half-aimed.ensures.aimed c.aim_half-aimed.ensures.none in
     subst (λ (z : Slots). Holds z c.hold_part-part.result) (sym (slots ∙ c.value-value.ensures.nothing.slots))
-    (slot_holds (g.L.Links.seat d c.args.p.now) (g.L.Links.seat d c.hold_part-part.new.p) 5 h.id _ c.requires.slot h.in_slot)
+    (slot_holds _ _ 5 h.id _ c.requires.slot h.in_slot)
 
 pub returns-in-Ok-clause-aimed : goal.returns-in-Ok-clause-aimed
 returns-in-Ok-clause-aimed g c =
-    let d = c.args.links.now in
     let hp = c.hold_part-part.ensures in
     let vp = c.value-value.ensures in
     let ap = c.aim_half-aimed.ensures in
-    let known = pass_known g.L.Links g.met.L.Links.obeys g.met.L.Links.allowed d in
-    let untouched = g.met.L.Links.fresh_is d in (
+    let known = pass_known g.L.Links g.met.L.Links.obeys g.met.L.Links.allowed _ in
+    let untouched = g.met.L.Links.fresh_is _ in (
       hp.held.id,
       hp.held.leads,
-      kept_aimed (g.L.Links.numbers d) _ _ _ _ _ c.args.pair.now c.requires.slot c.requires.leads c.requires.fresh hp.held vp.nothing
+      kept_aimed _ _ _ _ _ _ c.args.pair.now c.requires.slot c.requires.leads c.requires.fresh hp.held vp.nothing
           (known c.hold_part-part.new.p hp.pass) (known c.value-value.new.p vp.pass) (λ i is. untouched c.value-value.new.p i vp.pass is) c.args.half _ _
           c.value-value.result (known c.args.p.now c.requires.pass) (known c.aim_half-aimed.new.p ap.pass)
-          (g.met.L.Links.allowed d c.release.new.p c.release.ensures.pass) (λ i is. untouched c.args.p.now i c.requires.pass is)
+          (g.met.L.Links.allowed _ _ c.release.ensures.pass) (λ i is. untouched c.args.p.now i c.requires.pass is)
           (λ i is. untouched c.hold_part-part.new.p i hp.pass is) (λ i is. untouched c.aim_half-aimed.new.p i ap.pass is) c.release.ensures.released
           (ok_of _ c.in-Ok.is ap.aimed) vp.value,
     )
 
 pub returns-in-Err-clause-aimed : goal.returns-in-Err-clause-aimed
 returns-in-Err-clause-aimed g c =
-    let d = c.args.links.now in
     let hp = c.hold_part-part.ensures in
     let vp = c.value-value.ensures in
     let ap = c.aim_half-aimed.ensures in
-    let known = pass_known g.L.Links g.met.L.Links.obeys g.met.L.Links.allowed d in
-    let untouched = g.met.L.Links.fresh_is d in
-    kept_refused (g.L.Links.numbers d) _ _ _ _ _ c.args.pair.now c.requires.slot c.requires.leads c.requires.fresh hp.held vp.nothing
+    let known = pass_known g.L.Links g.met.L.Links.obeys g.met.L.Links.allowed _ in
+    let untouched = g.met.L.Links.fresh_is _ in
+    kept_refused _ _ _ _ _ _ c.args.pair.now c.requires.slot c.requires.leads c.requires.fresh hp.held vp.nothing
     (known c.hold_part-part.new.p hp.pass) (known c.value-value.new.p vp.pass) (λ i is. untouched c.value-value.new.p i vp.pass is) c.args.half _ _
     c.value-value.result (known c.args.p.now c.requires.pass) (known c.aim_half-aimed.new.p ap.pass)
-    (g.met.L.Links.allowed d c.release.new.p c.release.ensures.pass) (λ i is. untouched c.args.p.now i c.requires.pass is)
+    (g.met.L.Links.allowed _ _ c.release.ensures.pass) (λ i is. untouched c.args.p.now i c.requires.pass is)
     (λ i is. untouched c.hold_part-part.new.p i hp.pass is) (λ i is. untouched c.aim_half-aimed.new.p i ap.pass is) c.release.ensures.released
     (err_of _ c.in-Err.is ap.none)
 

@@ -8,9 +8,8 @@ use Rattle.orc_cell.proofs.publish.aim_next.Goals as goal
 
 pub returns-in-Given-clause-aimed : goal.returns-in-Given-clause-aimed
 returns-in-Given-clause-aimed g c =
-    let d = c.args.links.now in
-    let n = g.L.Links.numbers d in
-    let s = g.L.Links.seat d c.args.p.now in
+    let n = g.L.Links.numbers _ in
+    let s = g.L.Links.seat _ c.args.p.now in
     let half = c.args.half in
     let pair = c.args.pair.now in
     let place = place_in s.slots c.args.place.now in
@@ -21,19 +20,17 @@ returns-in-Given-clause-aimed g c =
 
 pub returns-in-Zero-clause-aimed : goal.returns-in-Zero-clause-aimed
 returns-in-Zero-clause-aimed g c =
-    let d = c.args.links.now in
-    let n = g.L.Links.numbers d in
-    let s = g.L.Links.seat d c.args.p.now in
-    let t = g.L.Links.seat d c.aim_kept.new.p in
+    let n = g.L.Links.numbers _ in
+    let s = g.L.Links.seat _ c.args.p.now in
+    let t = g.L.Links.seat _ c.aim_kept.new.p in
     let place = place_in s.slots c.args.place.now in
     subst (λ (x : New). Aims n c.args.half c.args.pair.now (IsNewPart (heap_of n s) place x) s c.aim_kept.result t) (sym c.in-Zero.is) c.aim_kept.ensures.aimed
 
 pub returns-in-Kept-clause-aimed : goal.returns-in-Kept-clause-aimed
 returns-in-Kept-clause-aimed g c =
-    let d = c.args.links.now in
-    let n = g.L.Links.numbers d in
-    let s = g.L.Links.seat d c.args.p.now in
-    let t = g.L.Links.seat d c.aim_kept-in-Kept.new.p in
+    let n = g.L.Links.numbers _ in
+    let s = g.L.Links.seat _ c.args.p.now in
+    let t = g.L.Links.seat _ c.aim_kept-in-Kept.new.p in
     let place = place_in s.slots c.args.place.now in
     subst (λ (x : New). Aims n c.args.half c.args.pair.now (IsNewPart (heap_of n s) place x) s c.aim_kept-in-Kept.result t)
     (sym c.in-Kept.is) c.aim_kept-in-Kept.ensures.aimed

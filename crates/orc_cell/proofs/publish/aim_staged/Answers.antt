@@ -9,7 +9,7 @@ use Rattle.orc_cell.proofs.publish.aim_staged.Goals as goal
 pub aim_half-requires-clause-other : goal.aim_half-requires-clause-other
 aim_half-requires-clause-other g c =
     let d = c.args.links.now in
-    staged_not_fresh (g.L.Links.numbers d) _ _ _ _ c.requires.staged (λ i is. g.met.L.Links.fresh_is d c.args.p.now i c.requires.pass is)
+    staged_not_fresh _ _ _ _ _ c.requires.staged (λ i is. g.met.L.Links.fresh_is d c.args.p.now i c.requires.pass is)
 
 pub returns-in-Ok-clause-aimed : goal.returns-in-Ok-clause-aimed
 returns-in-Ok-clause-aimed g c =
@@ -24,6 +24,5 @@ returns-in-Ok-clause-aimed g c =
 
 pub returns-in-Err-clause-aimed : goal.returns-in-Err-clause-aimed
 returns-in-Err-clause-aimed g c =
-    let d = c.args.links.now in
     let e = c.aim_half.ensures in
-    staged_refused (g.L.Links.numbers d) _ _ c.args.pair.now c.requires.fresh (g.met.L.Links.allowed d c.aim_half.new.p e.pass) (err_of _ c.in-Err.is e.none)
+    staged_refused _ _ _ c.args.pair.now c.requires.fresh (g.met.L.Links.allowed _ _ e.pass) (err_of _ c.in-Err.is e.none)

@@ -15,25 +15,21 @@ aim_first-requires-clause-ready g c = c.requires.ready.0
 
 pub aim_first-requires-2-clause-ready : goal.aim_first-requires-2-clause-ready
 aim_first-requires-2-clause-ready g c =
-    let d = c.args.links.now in
-    right_stays_ready (g.L.Links.numbers d) _ _ c.args.pair.now _ _ c.args.right.now c.in-Ok.ensures.aimed.2 c.requires.ready.1
+    right_stays_ready _ _ _ c.args.pair.now _ _ c.args.right.now c.in-Ok.ensures.aimed.2 c.requires.ready.1
 
 pub aim_first-requires-2-clause-new : goal.aim_first-requires-2-clause-new
 aim_first-requires-2-clause-new g c =
-    let d = c.args.links.now in
     let one = c.in-Ok.ensures.aimed.2 in
-    right_kept (g.L.Links.numbers d) _ _ c.args.right.now [] one.answered (g.met.L.Links.allowed d c.aim_first.new.p c.in-Ok.ensures.pass) c.requires.right
+    right_kept _ _ _ c.args.right.now [] one.answered (g.met.L.Links.allowed _ _ c.in-Ok.ensures.pass) c.requires.right
 
 pub returns-in-Err-aim_first-clause-published : goal.returns-in-Err-aim_first-clause-published
 returns-in-Err-aim_first-clause-published g c =
-    let d = c.args.links.now in
-    spent_right (g.L.Links.numbers d) _ _ _ c.args.pair.now _ _ c.in-Ok.ensures.aimed.2 c.in-Err-aim_first.ensures.aimed
+    spent_right _ _ _ _ c.args.pair.now _ _ c.in-Ok.ensures.aimed.2 c.in-Err-aim_first.ensures.aimed
 
 -- what is known of the pass then
 known : (g : Over) (c : In-Ok-aim_first g) → let d = c.args.links.now in Known (g.L.Links.numbers d) (g.L.Links.seat d c.aim_first-2.new.p).seen
 known g c =
-    let d = c.args.links.now in
-    pass_known g.L.Links g.met.L.Links.obeys g.met.L.Links.allowed d c.aim_first-2.new.p c.in-Ok-aim_first.ensures.pass
+    pass_known g.L.Links g.met.L.Links.obeys g.met.L.Links.allowed _ _ c.in-Ok-aim_first.ensures.pass
 
 pub swing_pair-requires-clause-allowed : goal.swing_pair-requires-clause-allowed
 swing_pair-requires-clause-allowed g c =
@@ -54,9 +50,9 @@ returns-then-swing_pair-clause-published g c =
     let d = c.args.links.now in
     let left = c.in-Ok.ensures.aimed in
     let right = c.in-Ok-aim_first.ensures.aimed in
-    was_published (g.L.Links.numbers d) _ _ _ c.args.pair.now left.0 right.0 c.in-Ok.x c.in-Ok-aim_first.y left.2 right.2 known_b
+    was_published _ _ _ _ c.args.pair.now left.0 right.0 c.in-Ok.x c.in-Ok-aim_first.y left.2 right.2 known_b
     (λ i is. g.met.L.Links.fresh_is d c.aim_first-2.new.p i c.in-Ok-aim_first.ensures.pass is) _ _ _ _ _ c.swing_pair.ensures.swung
-    (g.met.L.Links.allowed d c.swing_pair.new.p c.swing_pair.ensures.pass) c.if-swing_pair.true
+    (g.met.L.Links.allowed _ _ c.swing_pair.ensures.pass) c.if-swing_pair.true
 
 pub returns-else-swing_pair-clause-published : goal.returns-else-swing_pair-clause-published
 returns-else-swing_pair-clause-published g c =
@@ -64,6 +60,6 @@ returns-else-swing_pair-clause-published g c =
     let d = c.args.links.now in
     let left = c.in-Ok.ensures.aimed in
     let right = c.in-Ok-aim_first.ensures.aimed in
-    was_missed (g.L.Links.numbers d) _ _ _ c.args.pair.now left.0 right.0 c.in-Ok.x c.in-Ok-aim_first.y left.2 right.2 known_b
+    was_missed _ _ _ _ c.args.pair.now left.0 right.0 c.in-Ok.x c.in-Ok-aim_first.y left.2 right.2 known_b
     (λ i is. g.met.L.Links.fresh_is d c.aim_first-2.new.p i c.in-Ok-aim_first.ensures.pass is) _ _ _ _ _ c.swing_pair.ensures.swung
-    (g.met.L.Links.allowed d c.swing_pair.new.p c.swing_pair.ensures.pass) c.if-swing_pair.false c.in-Ok.ensures.same c.in-Ok-aim_first.ensures.same
+    (g.met.L.Links.allowed _ _ c.swing_pair.ensures.pass) c.if-swing_pair.false c.in-Ok.ensures.same c.in-Ok-aim_first.ensures.same

@@ -11,21 +11,19 @@ use Rattle.orc_cell.proofs.publish.publish_given.Goals as goal
 
 pub aim_given-requires-2-clause-new : goal.aim_given-requires-2-clause-new
 aim_given-requires-2-clause-new g c =
-    let d = c.args.links.now in
-    right_kept (g.L.Links.numbers d) _ _ c.args.right.now [] c.in-Ok.ensures.aimed.answered (g.met.L.Links.allowed d c.aim_given.new.p c.in-Ok.ensures.pass)
+    right_kept _ _ _ c.args.right.now [] c.in-Ok.ensures.aimed.answered (g.met.L.Links.allowed _ _ c.in-Ok.ensures.pass)
     c.requires.right
 
 pub returns-in-Err-aim_given-clause-published : goal.returns-in-Err-aim_given-clause-published
 returns-in-Err-aim_given-clause-published g c =
-    let d = c.args.links.now in
     let x = c.in-Err-aim_given.ensures.aimed in
-    record { answered = Answered-trans (g.L.Links.numbers d) 0 0 _ _ _ [] [] c.in-Ok.ensures.aimed.answered x.answered; fresh = x.fresh }
+    record { answered = Answered-trans _ 0 0 _ _ _ [] [] c.in-Ok.ensures.aimed.answered x.answered; fresh = x.fresh }
 
 pub publish_turns-requires : goal.publish_turns-requires
 publish_turns-requires g c =
     let one = c.in-Ok.ensures.aimed in
     let two = c.in-Ok-aim_given.ensures.aimed in
-    let all = g.met.L.Links.allowed c.args.links.now c.aim_given-2.new.p c.in-Ok-aim_given.ensures.pass in
+    let all = g.met.L.Links.allowed _ _ c.in-Ok-aim_given.ensures.pass in
     let both = Answered-trans _ 0 0 _ _ _ [] [] one.answered two.answered in
     record {
       pass = c.in-Ok-aim_given.ensures.pass;
@@ -43,7 +41,7 @@ publish_turns-requires g c =
 pub returns-clause-published : goal.returns-clause-published
 returns-clause-published g c =
     let both = Answered-trans _ 0 0 _ _ _ [] [] c.in-Ok.ensures.aimed.answered c.in-Ok-aim_given.ensures.aimed.answered in
-    given_turns (g.L.Links.numbers c.args.links.now) c.args.turns (given_of c.args.left.now) (given_of c.args.right.now) c.args.pair.now _ _ _
+    given_turns _ c.args.turns (given_of c.args.left.now) (given_of c.args.right.now) c.args.pair.now _ _ _
     c.publish_turns.result both c.publish_turns.ensures.published
 
 pub returns-clause-worn : goal.returns-clause-worn

@@ -19,37 +19,32 @@ aim_next-requires-clause-ready g c = c.requires.ready.0
 
 pub aim_next-requires-2-clause-ready : goal.aim_next-requires-2-clause-ready
 aim_next-requires-2-clause-ready g c =
-    let d = c.args.links.now in
-    right_stays_ready (g.L.Links.numbers d) _ _ c.args.pair.now _ _ c.args.right.now c.in-Ok.ensures.aimed.2 c.requires.ready.1
+    right_stays_ready _ _ _ c.args.pair.now _ _ c.args.right.now c.in-Ok.ensures.aimed.2 c.requires.ready.1
 
 pub aim_next-requires-2-clause-new : goal.aim_next-requires-2-clause-new
 aim_next-requires-2-clause-new g c =
-    let d = c.args.links.now in
     let one = c.in-Ok.ensures.aimed.2 in
-    right_kept (g.L.Links.numbers d) _ _ c.args.right.now [] one.answered (g.met.L.Links.allowed d c.aim_next.new.p c.in-Ok.ensures.pass) c.requires.right
+    right_kept _ _ _ c.args.right.now [] one.answered (g.met.L.Links.allowed _ _ c.in-Ok.ensures.pass) c.requires.right
 
 pub aim_next-requires-2-clause-leads : goal.aim_next-requires-2-clause-leads
 aim_next-requires-2-clause-leads g c =
-    let d = c.args.links.now in
-    let n = g.L.Links.numbers d in
-    let s = g.L.Links.seat d c.args.p.now in
-    let a = g.L.Links.seat d c.aim_next.new.p in
+    let n = g.L.Links.numbers _ in
+    let s = g.L.Links.seat _ c.args.p.now in
+    let a = g.L.Links.seat _ c.aim_next.new.p in
     let one = c.in-Ok.ensures.aimed.2 in
-    let before = before_kept n s a (id_in s.slots c.args.old.now) [] one.answered (g.met.L.Links.allowed d c.aim_next.new.p c.in-Ok.ensures.pass)
+    let before = before_kept n s a (id_in s.slots c.args.old.now) [] one.answered (g.met.L.Links.allowed _ _ c.in-Ok.ensures.pass)
     c.requires.before in
     subst (λ (z : Slots). LeadsToPart (heap_of n a) (Side (id_in z c.args.old.now))) (sym one.answered.slots)
     (right_leads n a.seen (id_in s.slots c.args.old.now) c.requires.made.two before)
 
 pub returns-in-Err-aim_next-clause-published : goal.returns-in-Err-aim_next-clause-published
 returns-in-Err-aim_next-clause-published g c =
-    let d = c.args.links.now in
-    spent_right (g.L.Links.numbers d) _ _ _ c.args.pair.now _ _ c.in-Ok.ensures.aimed.2 c.in-Err-aim_next.ensures.aimed
+    spent_right _ _ _ _ c.args.pair.now _ _ c.in-Ok.ensures.aimed.2 c.in-Err-aim_next.ensures.aimed
 
 -- what is known of the pass then
 known : (g : Over) (c : In-Ok-aim_next g) → let d = c.args.links.now in Known (g.L.Links.numbers d) (g.L.Links.seat d c.aim_next-2.new.p).seen
 known g c =
-    let d = c.args.links.now in
-    pass_known g.L.Links g.met.L.Links.obeys g.met.L.Links.allowed d c.aim_next-2.new.p c.in-Ok-aim_next.ensures.pass
+    pass_known g.L.Links g.met.L.Links.obeys g.met.L.Links.allowed _ _ c.in-Ok-aim_next.ensures.pass
 
 pub swing_pair-requires-clause-allowed : goal.swing_pair-requires-clause-allowed
 swing_pair-requires-clause-allowed g c =
@@ -66,7 +61,7 @@ swing_pair-requires-clause-allowed g c =
     let is_right = subst (λ (z : Slots). IsNewPart (heap_of n a) (Side (id_in z old)) c.args.right.now right.0 c.in-Ok-aim_next.y) left.2.answered.slots
     right.1 in
     let follows = follows_pair n _ a b pair c.args.left.now c.args.right.now id left.0 right.0 c.in-Ok.x c.in-Ok-aim_next.y c.requires.made.two
-    c.requires.before left.2 right.2 (g.met.L.Links.allowed d c.aim_next.new.p c.in-Ok.ensures.pass) known_b.all left.1 is_right in
+    c.requires.before left.2 right.2 (g.met.L.Links.allowed _ _ c.in-Ok.ensures.pass) known_b.all left.1 is_right in
     let may = may_publish n _ a b pair left.0 right.0 c.in-Ok.x c.in-Ok-aim_next.y left.2 right.2 known_b
     (λ i is. g.met.L.Links.fresh_is d c.aim_next-2.new.p i c.in-Ok-aim_next.ensures.pass is) (given_of c.args.left.now) (given_of c.args.right.now)
     (link_to id) c.requires.made.two follows in
@@ -79,9 +74,8 @@ swung : (g : Over) (c : After-swing_pair g) → let d = c.args.links.now in let 
     SwingsPair (link_to (id_in s.slots c.args.old.now)) (id_in b.slots c.args.pair.now) (given_of c.args.left.now) (given_of c.args.right.now) c.in-Ok.x
     c.in-Ok-aim_next.y b c.swing_pair.result (g.L.Links.seat d c.swing_pair.new.p)
 swung g c =
-    let d = c.args.links.now in
-    let b = g.L.Links.seat d c.aim_next-2.new.p in
-    let t = g.L.Links.seat d c.swing_pair.new.p in
+    let b = g.L.Links.seat _ c.aim_next-2.new.p in
+    let t = g.L.Links.seat _ c.swing_pair.new.p in
     let slots = c.in-Ok-aim_next.ensures.aimed.2.answered.slots ∙ c.in-Ok.ensures.aimed.2.answered.slots in
     subst (λ (z : Slots). SwingsPair (link_to (id_in z c.args.old.now)) (id_in b.slots c.args.pair.now) (given_of c.args.left.now) (given_of c.args.right.now)
     c.in-Ok.x c.in-Ok-aim_next.y b c.swing_pair.result t) slots c.swing_pair.ensures.swung
@@ -92,9 +86,9 @@ returns-then-swing_pair-clause-published g c =
     let d = c.args.links.now in
     let left = c.in-Ok.ensures.aimed in
     let right = c.in-Ok-aim_next.ensures.aimed in
-    was_published (g.L.Links.numbers d) _ _ _ c.args.pair.now left.0 right.0 c.in-Ok.x c.in-Ok-aim_next.y left.2 right.2 (known g at.In-Ok-aim_next)
+    was_published _ _ _ _ c.args.pair.now left.0 right.0 c.in-Ok.x c.in-Ok-aim_next.y left.2 right.2 (known g at.In-Ok-aim_next)
     (λ i is. g.met.L.Links.fresh_is d c.aim_next-2.new.p i c.in-Ok-aim_next.ensures.pass is) _ _ _ _ _ (swung g at.After-swing_pair)
-    (g.met.L.Links.allowed d c.swing_pair.new.p c.swing_pair.ensures.pass) c.if-swing_pair.true
+    (g.met.L.Links.allowed _ _ c.swing_pair.ensures.pass) c.if-swing_pair.true
 
 pub returns-else-swing_pair-clause-published : goal.returns-else-swing_pair-clause-published
 returns-else-swing_pair-clause-published g c =
@@ -102,6 +96,6 @@ returns-else-swing_pair-clause-published g c =
     let d = c.args.links.now in
     let left = c.in-Ok.ensures.aimed in
     let right = c.in-Ok-aim_next.ensures.aimed in
-    was_missed (g.L.Links.numbers d) _ _ _ c.args.pair.now left.0 right.0 c.in-Ok.x c.in-Ok-aim_next.y left.2 right.2 (known g at.In-Ok-aim_next)
+    was_missed _ _ _ _ c.args.pair.now left.0 right.0 c.in-Ok.x c.in-Ok-aim_next.y left.2 right.2 (known g at.In-Ok-aim_next)
     (λ i is. g.met.L.Links.fresh_is d c.aim_next-2.new.p i c.in-Ok-aim_next.ensures.pass is) _ _ _ _ _ (swung g at.After-swing_pair)
-    (g.met.L.Links.allowed d c.swing_pair.new.p c.swing_pair.ensures.pass) c.if-swing_pair.false c.in-Ok.ensures.same c.in-Ok-aim_next.ensures.same
+    (g.met.L.Links.allowed _ _ c.swing_pair.ensures.pass) c.if-swing_pair.false c.in-Ok.ensures.same c.in-Ok-aim_next.ensures.same

@@ -23,19 +23,15 @@ swing-requires-clause-allowed g c = rw (c.agent-agent.ensures, c.given.ensures, 
 
 pub unreachable-requires : goal.unreachable-requires
 unreachable-requires g c =
-    let d = c.args.links.now in
-    let n = g.L.Links.numbers d in
-    let q = c.swing.new.p in
     let e = c.in-Err.ensures in
-    let id = id_in (g.L.Links.seat d c.args.p.now).slots c.args.pair.now in
-    let u = g.met.L.Links.fresh_is d q id e.pass (e.none.fresh ∙ c.requires.fresh.fresh) in
-    not_worn n (g.L.Links.seat d q).agent (g.L.Links.seat d q).seen id (g.met.L.Links.obeys d q e.pass).lawful u e.spent.1.links
+    let id = id_in (g.L.Links.seat _ c.args.p.now).slots c.args.pair.now in
+    let u = g.met.L.Links.fresh_is _ _ id e.pass (e.none.fresh ∙ c.requires.fresh.fresh) in
+    not_worn _ (g.L.Links.seat _ _).agent (g.L.Links.seat _ _).seen id (g.met.L.Links.obeys _ _ e.pass).lawful u e.spent.1.links
 
 pub returns-clause-swung : goal.returns-clause-swung
 returns-clause-swung g c =
-    let d = c.args.links.now in
-    let s = g.L.Links.seat d c.args.p.now in
-    let t = g.L.Links.seat d c.swing.new.p in
+    let s = g.L.Links.seat _ c.args.p.now in
+    let t = g.L.Links.seat _ c.swing.new.p in
     let w = c.in-Ok.ensures.swung in
     let from = link_in s.slots c.args.from.now in
     let to = link_to (id_in s.slots c.args.pair.now) in

@@ -14,24 +14,22 @@ use Rattle.orc_cell.proofs.read.read_pair.Goals as goal
 
 pub read_part-left-requires-clause-leads : goal.read_part-left-requires-clause-leads
 read_part-left-requires-clause-leads g c =
-    let d = c.args.links.now in
-    let s = g.L.Links.seat d c.args.p.now in
-    left_leads (g.L.Links.numbers d) s.seen (id_in s.slots c.args.pair.now) c.requires.pair
+    let s = g.L.Links.seat _ c.args.p.now in
+    left_leads _ s.seen (id_in s.slots c.args.pair.now) c.requires.pair
 
 -- both parts were read
 both : (g : Over) (c : After-read_part-right g) → let d = c.args.links.now in let s = g.L.Links.seat d c.args.p.now in
     BothRead (g.L.Links.numbers d) (id_in s.slots c.args.pair.now) c.read_part-left.result c.read_part-right.result (g.L.Links.seat d c.read_part-right.new.p)
 both g c =
-    let d = c.args.links.now in
-    let n = g.L.Links.numbers d in
-    let s = g.L.Links.seat d c.args.p.now in
-    let a = g.L.Links.seat d c.read_part-left.new.p in
-    let b = g.L.Links.seat d c.read_part-right.new.p in
+    let n = g.L.Links.numbers _ in
+    let s = g.L.Links.seat _ c.args.p.now in
+    let a = g.L.Links.seat _ c.read_part-left.new.p in
+    let b = g.L.Links.seat _ c.read_part-right.new.p in
     let one = c.read_part-left.ensures in
     let other = c.read_part-right.ensures in
     let right = subst (λ (z : Slots). ReadsPart n (Side (id_in z c.args.pair.now)) a c.read_part-right.result b) one.read.only.slots other.read in
     both_read n s a b (id_in s.slots c.args.pair.now) c.read_part-left.result c.read_part-right.result c.requires.made.two c.requires.pair one.read right
-    (g.met.L.Links.allowed d c.read_part-left.new.p one.pass) (g.met.L.Links.allowed d c.read_part-right.new.p other.pass)
+    (g.met.L.Links.allowed _ _ one.pass) (g.met.L.Links.allowed _ _ other.pass)
 
 -- and nothing else was done
 so_far : (g : Over) (c : After-read_part-right g) → let d = c.args.links.now in
@@ -40,15 +38,14 @@ so_far g c = FindsOnly-trans _ _ _ [] [] c.read_part-left.ensures.read.only c.re
 
 pub read_part-right-requires : goal.read_part-right-requires
 read_part-right-requires g c =
-    let d = c.args.links.now in
     let e = c.read_part-left.ensures in
     let slots = e.read.only.slots in
-    let n = g.L.Links.numbers d in
-    let s = g.L.Links.seat d c.args.p.now in
-    let a = g.L.Links.seat d c.read_part-left.new.p in
+    let n = g.L.Links.numbers _ in
+    let s = g.L.Links.seat _ c.args.p.now in
+    let a = g.L.Links.seat _ c.read_part-left.new.p in
     let pair = c.args.pair.now in
     let (l, r, parts, has) = c.requires.pair in
-    let in_a = pair_puts n s a e.read.only.finds.own e.read.only.finds.puts (g.met.L.Links.allowed d c.read_part-left.new.p e.pass)
+    let in_a = pair_puts n s a e.read.only.finds.own e.read.only.finds.puts (g.met.L.Links.allowed _ _ e.pass)
     (id_in s.slots pair) l r parts
     has in
     record {
@@ -62,14 +59,13 @@ read_part-right-requires g c =
 pub confirm-requires : goal.confirm-requires
 confirm-requires g c =
     let at = goal.at.confirm-requires g c in
-    let d = c.args.links.now in
-    let n = g.L.Links.numbers d in
-    let s = g.L.Links.seat d c.args.p.now in
-    let b = g.L.Links.seat d c.read_part-right.new.p in
+    let n = g.L.Links.numbers _ in
+    let s = g.L.Links.seat _ c.args.p.now in
+    let b = g.L.Links.seat _ c.read_part-right.new.p in
     let pair = c.args.pair.now in
     let e = c.read_part-right.ensures in
     let slots = (so_far g at.After-read_part-right).slots in
-    let k = pass_known g.L.Links g.met.L.Links.obeys g.met.L.Links.allowed d c.read_part-right.new.p e.pass in
+    let k = pass_known g.L.Links g.met.L.Links.obeys g.met.L.Links.allowed _ _ e.pass in
     record {
       pass = e.pass;
       made = c.requires.made;
@@ -83,9 +79,8 @@ said : (g : Over) (c : After-confirm g) → let d = c.args.links.now in let s = 
     Confirms (link_to (id_in s.slots c.args.pair.now)) c.read_part-left.result c.read_part-right.result (g.L.Links.seat d c.read_part-right.new.p)
     c.confirm.result (g.L.Links.seat d c.confirm.new.p)
 said g c =
-    let d = c.args.links.now in
-    let b = g.L.Links.seat d c.read_part-right.new.p in
-    let t = g.L.Links.seat d c.confirm.new.p in
+    let b = g.L.Links.seat _ c.read_part-right.new.p in
+    let t = g.L.Links.seat _ c.confirm.new.p in
     subst (λ (z : Slots). Confirms (link_to (id_in z c.args.pair.now)) c.read_part-left.result c.read_part-right.result b c.confirm.result t)
     (c.read_part-right.ensures.read.only.slots ∙ c.read_part-left.ensures.read.only.slots) c.confirm.ensures.confirmed
 
@@ -97,6 +92,5 @@ returns-then-confirm-clause-read g c =
 pub returns-else-confirm-clause-read : goal.returns-else-confirm-clause-read
 returns-else-confirm-clause-read g c =
     let at = goal.at.returns-else-confirm-clause-read g c in
-    let d = c.args.links.now in
-    left_pair (g.L.Links.numbers d) _ _ _ _ _ _ _ c.if-confirm.false (so_far g at.After-read_part-right) (said g at.After-confirm)
-    (g.met.L.Links.allowed d c.read_part-right.new.p c.read_part-right.ensures.pass) (g.met.L.Links.allowed d c.confirm.new.p c.confirm.ensures.pass)
+    left_pair _ _ _ _ _ _ _ _ c.if-confirm.false (so_far g at.After-read_part-right) (said g at.After-confirm)
+    (g.met.L.Links.allowed _ _ c.read_part-right.ensures.pass) (g.met.L.Links.allowed _ _ c.confirm.ensures.pass)

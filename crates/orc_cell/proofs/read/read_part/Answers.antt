@@ -5,15 +5,14 @@ use Rattle.orc_cell.proofs.read.read_part.Goals as goal
 
 pub value-value-requires-clause-held : goal.value-value-requires-clause-held
 value-value-requires-clause-held g c =
-    let d = c.args.links.now in
     let h = c.hold_part-part.ensures.held in
-    slot_holds (g.L.Links.seat d c.args.p.now) (g.L.Links.seat d c.hold_part-part.new.p) 2 h.id _ c.requires.slot h.in_slot
+    slot_holds _ _ 2 h.id _ c.requires.slot h.in_slot
 
 pub returns-clause-read : goal.returns-clause-read
 returns-clause-read g c =
     let d = c.args.links.now in
     let h = c.hold_part-part.ensures in
     let v = c.value-value.ensures in
-    part_read (g.L.Links.numbers d) _ _ _ _ _ _ _ c.requires.slot c.requires.leads h.held (g.met.L.Links.allowed d c.hold_part-part.new.p h.pass) v.nothing
-    (g.met.L.Links.allowed d c.value-value.new.p v.pass) v.value (λ i is. g.met.L.Links.fresh_is d c.value-value.new.p i v.pass is) c.release.ensures.released
-    (g.met.L.Links.allowed d c.release.new.p c.release.ensures.pass)
+    part_read _ _ _ _ _ _ _ _ c.requires.slot c.requires.leads h.held (g.met.L.Links.allowed _ _ h.pass) v.nothing
+    (g.met.L.Links.allowed _ _ v.pass) v.value (λ i is. g.met.L.Links.fresh_is d c.value-value.new.p i v.pass is) c.release.ensures.released
+    (g.met.L.Links.allowed _ _ c.release.ensures.pass)

@@ -23,19 +23,17 @@ look-requires-clause-place g c = omega (arith, c.requires.made.roots)
 found : (g : Over) (c : In-Stable-default-Some g) → let d = c.args.links.now in
     HoldsPair (g.L.Links.numbers d) 1 (g.L.Links.seat d c.args.p.now) c.in-Stable-default-Some.pair (g.L.Links.seat d c.look.new.p)
 found g c =
-    let d = c.args.links.now in
     let e = c.in-Stable-default-Some.ensures in
-    let known = pass_known g.L.Links g.met.L.Links.obeys g.met.L.Links.allowed d c.args.p.now c.requires.pass in
-    root_held _ _ _ 1 _ _ known (g.met.L.Links.allowed d c.look.new.p e.pass) (Looks-held {place = Root 0} e.looked c.in-Stable-default-Some.field-1-is)
+    let known = pass_known g.L.Links g.met.L.Links.obeys g.met.L.Links.allowed _ _ c.requires.pass in
+    root_held _ _ _ 1 _ _ known (g.met.L.Links.allowed _ _ e.pass) (Looks-held {place = Root 0} e.looked c.in-Stable-default-Some.field-1-is)
 
 -- it found null
 ended : (g : Over) (c : In-Stable-default-None g) → let d = c.args.links.now in
     RootNull (g.L.Links.numbers d) (g.L.Links.seat d c.args.p.now) (g.L.Links.seat d c.look.new.p)
 ended g c =
-    let d = c.args.links.now in
     let e = c.in-Stable-default-None.ensures in
-    let known = pass_known g.L.Links g.met.L.Links.obeys g.met.L.Links.allowed d c.args.p.now c.requires.pass in
-    root_null _ _ _ _ known (g.met.L.Links.allowed d c.look.new.p e.pass) (Looks-null {place = Root 0} e.looked c.in-Stable-default-None.field-1-is)
+    let known = pass_known g.L.Links g.met.L.Links.obeys g.met.L.Links.allowed _ _ c.requires.pass in
+    root_null _ _ _ _ known (g.met.L.Links.allowed _ _ e.pass) (Looks-null {place = Root 0} e.looked c.in-Stable-default-None.field-1-is)
 
 pub read_pair-parts-requires : goal.read_pair-parts-requires
 read_pair-parts-requires g c =
@@ -55,12 +53,9 @@ read_pair-parts-requires g c =
 pub release-requires-clause-held : goal.release-requires-clause-held
 release-requires-clause-held g c =
     let f = found g (goal.at.release-requires-clause-held g c).In-Stable-default-Some in
-    let d = c.args.links.now in
-    let s = g.L.Links.seat d c.args.p.now in
-    let a = g.L.Links.seat d c.look.new.p in
     let h = c.in-Stable-default-Some.pair in
-    subst (λ (z : Slots). Holds z h) (sym (pair_slots (g.L.Links.numbers d) _ a _ c.read_pair-parts.result c.read_pair-parts.ensures.read))
-    (slot_holds s a 1 f.id h c.requires.slots.0 f.in_slot)
+    subst (λ (z : Slots). Holds z h) (sym (pair_slots _ _ _ _ c.read_pair-parts.result c.read_pair-parts.ensures.read))
+    (slot_holds _ _ 1 f.id h c.requires.slots.0 f.in_slot)
 
 pub returns-in-Stable-default-Some-clause-read : goal.returns-in-Stable-default-Some-clause-read
 returns-in-Stable-default-Some-clause-read g c =
@@ -78,9 +73,8 @@ returns-in-Stable-default-Some-clause-read g c =
 
 pub confirm-requires-clause-allowed : goal.confirm-requires-clause-allowed
 confirm-requires-clause-allowed g c =
-    let d = c.args.links.now in
-    let a = g.L.Links.seat d c.look.new.p in
-    seen_null (g.L.Links.numbers d) a.agent a.seen (g.met.L.Links.obeys d c.look.new.p c.in-Stable-default-None.ensures.pass)
+    let a = g.L.Links.seat _ c.look.new.p in
+    seen_null _ a.agent a.seen (g.met.L.Links.obeys _ _ c.in-Stable-default-None.ensures.pass)
 
 pub returns-then-confirm-clause-read : goal.returns-then-confirm-clause-read
 returns-then-confirm-clause-read g c =
@@ -90,13 +84,11 @@ returns-then-confirm-clause-read g c =
 pub returns-else-confirm-clause-read : goal.returns-else-confirm-clause-read
 returns-else-confirm-clause-read g c =
     let r = ended g (goal.at.returns-else-confirm-clause-read g c).In-Stable-default-None in
-    let d = c.args.links.now in
-    null_over (g.L.Links.numbers d) _ _ _ 0 0 _ c.if-confirm.false r c.in-Stable-default-None.ensures.looked.fresh c.confirm.ensures.confirmed
-    (g.met.L.Links.allowed d c.look.new.p c.in-Stable-default-None.ensures.pass) (g.met.L.Links.allowed d c.confirm.new.p c.confirm.ensures.pass)
+    null_over _ _ _ _ 0 0 _ c.if-confirm.false r c.in-Stable-default-None.ensures.looked.fresh c.confirm.ensures.confirmed
+    (g.met.L.Links.allowed _ _ c.in-Stable-default-None.ensures.pass) (g.met.L.Links.allowed _ _ c.confirm.ensures.pass)
 
 pub returns-in-Moved-clause-read : goal.returns-in-Moved-clause-read
 returns-in-Moved-clause-read g c =
-    let d = c.args.links.now in
     let e = c.in-Moved.ensures in
     let r = e.looked.tells in
     record {
@@ -104,5 +96,5 @@ returns-in-Moved-clause-read g c =
         finds = record { own = _; puts = r.4; finding = (tt, (tt, tt)); entries_are = refl; fresh = e.looked.fresh };
         slots = r.3;
       };
-      moved = looks_differ_by_others (g.L.Links.numbers d) _ _ r.0 r.1 r.4 (g.met.L.Links.allowed d c.look.new.p e.pass) r.2;
+      moved = looks_differ_by_others _ _ _ r.0 r.1 r.4 (g.met.L.Links.allowed _ _ e.pass) r.2;
     }

@@ -9,8 +9,7 @@ use Rattle.orc_cell.proofs.read.read_turns.Goals as goal
 
 pub loop-init : goal.loop-init
 loop-init g c =
-    let s = g.L.Links.seat c.args.links.now c.args.p.now in
-    record { pass = c.requires.pass; later = ([], append-nil _); over = over_none s; still = λ zero. only_none s }
+    record { pass = c.requires.pass; later = ([], append-nil _); over = over_none _; still = λ zero. only_none _ }
 
 pub read_turn-requires : goal.read_turn-requires
 read_turn-requires g c =

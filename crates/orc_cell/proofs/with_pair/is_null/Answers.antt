@@ -14,27 +14,21 @@ same-requires-clause-place g c = omega (arith, c.requires.made.roots)
 
 pub same-requires-clause-allowed : goal.same-requires-clause-allowed
 same-requires-clause-allowed g c =
-    let d = c.args.links.now in
-    let s = g.L.Links.seat d c.args.p.now in
-    λ more later at. unnoted_later (g.L.Links.numbers d) s.agent (Look (Root 0) null) s.seen tt more later at
+    let s = g.L.Links.seat _ c.args.p.now in
+    λ more later at. unnoted_later _ s.agent (Look (Root 0) null) s.seen tt more later at
 
 pub returns-clause-only : goal.returns-clause-only
 returns-clause-only g c = tests_only _ _ _ _ c.same.result c.same.ensures.tested
 
 pub returns-clause-published : goal.returns-clause-published
 returns-clause-published g c =
-    let d = c.args.links.now in
-    let o = c.args.p.now in
     let e = c.same.ensures in
-    λ is. null_missed (g.L.Links.numbers d) _ _ (record { holds = g.met.L.Links.obeys d o c.requires.pass; all = g.met.L.Links.allowed d o c.requires.pass })
-    (g.met.L.Links.allowed d c.same.new.p e.pass) (Tests-missed e.tested is)
+    λ is. null_missed _ _ _ (record { holds = g.met.L.Links.obeys _ _ c.requires.pass; all = g.met.L.Links.allowed _ _ c.requires.pass })
+    (g.met.L.Links.allowed _ _ e.pass) (Tests-missed e.tested is)
 
 pub returns-clause-begun : goal.returns-clause-begun
 returns-clause-begun g c =
-    let d = c.args.links.now in
-    let o = c.args.p.now in
-    let q = c.same.new.p in
     let e = c.same.ensures in
     let w = tests_puts _ _ _ _ c.same.result e.tested in
-    part_begun_seats g.L.Links.agent_of (g.L.Links.events d) (g.met.L.Links.steps_add d) (g.L.Links.journal o) (g.L.Links.journal q)
-    (g.L.Links.seat d o) (g.L.Links.seat d q) w.0 w.1 e.later (g.met.L.Links.seen_is d o c.requires.pass) (g.met.L.Links.seen_is d q e.pass) w.2
+    part_begun_seats g.L.Links.agent_of _ (g.met.L.Links.steps_add _) _ _
+    _ _ w.0 w.1 e.later (g.met.L.Links.seen_is _ _ c.requires.pass) (g.met.L.Links.seen_is _ _ e.pass) w.2

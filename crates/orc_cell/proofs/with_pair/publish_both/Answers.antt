@@ -11,26 +11,24 @@ ready-requires-clause-staging g c = inl c.requires.roots.0
 
 pub publish_right-answer-requires : goal.publish_right-answer-requires
 publish_right-answer-requires g c =
-    let d = c.args.links.now in
     let e = c.in-Ok.ensures in
-    let all = g.met.L.Links.allowed d c.ready.new.p e.pass in
+    let all = g.met.L.Links.allowed _ _ e.pass in
     let free = c.requires.slots.0 in
-    let n = g.L.Links.numbers d in
-    let s = g.L.Links.seat d c.args.p.now in
-    let a = g.L.Links.seat d c.ready.new.p in
-    let agent = ready_agent n 1 c.args.roots.0 s a c.in-Ok.part e.ready in
+    let n = g.L.Links.numbers _ in
+    let a = g.L.Links.seat _ c.ready.new.p in
+    let agent = ready_agent n 1 c.args.roots.0 _ a c.in-Ok.part e.ready in
     let ne : c.args.roots.1 ≢ c.args.roots.0 = λ z. omega (arith, z, c.requires.roots.0, c.requires.roots.1) in
-    let slot = ready_slot n 1 c.args.roots.0 s a c.in-Ok.part free e.ready in
+    let slot = ready_slot n 1 c.args.roots.0 _ a c.in-Ok.part free e.ready in
     record {
       pass = e.pass;
       made = c.requires.made;
-      no_fresh = ready_fresh n 1 c.args.roots.0 s a c.in-Ok.part c.requires.no_fresh e.ready;
+      no_fresh = ready_fresh n 1 c.args.roots.0 _ a c.in-Ok.part c.requires.no_fresh e.ready;
       root = c.requires.roots.1 ∙ ap (λ (i : ℕ). 2 + 2 * i) (sym agent);
       there = c.requires.there.1;
-      null = ready_null n 1 c.args.roots.0 c.args.roots.1 s a c.in-Ok.part all (inr c.requires.roots.1) ne e.ready c.requires.null.1;
+      null = ready_null n 1 c.args.roots.0 c.args.roots.1 _ a c.in-Ok.part all (inr c.requires.roots.1) ne e.ready c.requires.null.1;
       left = subst (λ (i : ℕ). SideHeld n i c.in-Ok.part a) (c.requires.roots.0 ∙ ap (λ (i : ℕ). 1 + 2 * i) (sym agent))
-          (ready_held n 1 c.args.roots.0 s a c.in-Ok.part free e.ready);
-      published = λ none full. ready_published n 1 c.args.roots.0 s a c.in-Ok.part all e.ready (c.requires.right_published none full);
+          (ready_held n 1 c.args.roots.0 _ a c.in-Ok.part free e.ready);
+      published = λ none full. ready_published n 1 c.args.roots.0 _ a c.in-Ok.part all e.ready (c.requires.right_published none full);
       slots = (
         slot 2 (λ k. omega (arith, k)) c.requires.slots.1,
         slot 3 (λ k. omega (arith, k)) c.requires.slots.2,
@@ -41,47 +39,43 @@ publish_right-answer-requires g c =
 
 pub let_go-requires : goal.let_go-requires
 let_go-requires g c =
-    let d = c.args.links.now in
     let x = c.publish_right-answer.ensures in
-    let (own, held, fresh) = ready_answered (g.L.Links.numbers d) 1 c.args.roots.0 2 c.args.turns _ _ (g.L.Links.seat d c.args.p.now)
-    (g.L.Links.seat d c.ready.new.p) (g.L.Links.seat d c.publish_right-answer.new.p) c.in-Ok.part c.publish_right-answer.result c.requires.slots.0 (inl c.requires.roots.0)
-    c.in-Ok.ensures.ready (g.met.L.Links.allowed d c.publish_right-answer.new.p x.pass) x.answered in
+    let (own, held, fresh) = ready_answered _ 1 c.args.roots.0 2 c.args.turns _ _ _
+    _ _ c.in-Ok.part c.publish_right-answer.result c.requires.slots.0 (inl c.requires.roots.0)
+    c.in-Ok.ensures.ready (g.met.L.Links.allowed _ _ x.pass) x.answered in
     record { pass = x.pass; there = c.requires.there.0; staging = own; held = held; no_fresh = fresh }
 
 pub returns-in-Err-clause-answered : goal.returns-in-Err-clause-answered
 returns-in-Err-clause-answered g c =
-    let d = c.args.links.now in
-    pair_lacking (g.L.Links.numbers d) 3 _ _ (omega arith) c.requires.no_fresh c.in-Err.ensures.none
-    (g.met.L.Links.allowed d c.ready.new.p c.in-Err.ensures.pass)
+    pair_lacking _ 3 _ _ (omega arith) c.requires.no_fresh c.in-Err.ensures.none
+    (g.met.L.Links.allowed _ _ c.in-Err.ensures.pass)
 
 pub returns-in-Err-clause-no_node : goal.returns-in-Err-clause-no_node
 returns-in-Err-clause-no_node g c = λ is. err_of _ c.in-Err.is c.ready.ensures.lacking
 
 pub returns-clause-answered : goal.returns-clause-answered
 returns-clause-answered g c =
-    let d = c.args.links.now in
     let e = c.in-Ok.ensures in
-    let n = g.L.Links.numbers d in
-    let s = g.L.Links.seat d c.args.p.now in
-    let t = g.L.Links.seat d c.let_go.new.p in
+    let n = g.L.Links.numbers _ in
+    let s = g.L.Links.seat _ c.args.p.now in
+    let t = g.L.Links.seat _ c.let_go.new.p in
     let r = c.publish_right-answer.result in
-    let joined = answers_join n 1 c.args.roots.0 2 c.args.turns (given_of c.in-Ok.part) c.args.right.0 s (g.L.Links.seat d c.ready.new.p) (g.L.Links.seat d c.publish_right-answer.new.p) t c.in-Ok.part r c.requires.slots.0
+    let joined = answers_join n 1 c.args.roots.0 2 c.args.turns (given_of c.in-Ok.part) c.args.right.0 s _ _ t c.in-Ok.part r c.requires.slots.0
     (inl c.requires.roots.0) c.requires.null.0 c.requires.no_fresh e.ready c.publish_right-answer.ensures.answered c.let_go.ensures.gone
-    (g.met.L.Links.allowed d c.ready.new.p e.pass) (g.met.L.Links.allowed d c.let_go.new.p c.let_go.ensures.pass) in
+    (g.met.L.Links.allowed _ _ e.pass) (g.met.L.Links.allowed _ _ c.let_go.ensures.pass) in
     subst (λ (o : Option ℕ). PublishAnswers n 3 c.args.turns o c.args.right.0 s r t) e.given joined
 
 pub returns-clause-no_node : goal.returns-clause-no_node
 returns-clause-no_node g c = λ is.
-    let d = c.args.links.now in
-    let agent = ready_agent (g.L.Links.numbers d) 1 c.args.roots.0 (g.L.Links.seat d c.args.p.now) (g.L.Links.seat d c.ready.new.p) c.in-Ok.part
+    let agent = ready_agent _ 1 c.args.roots.0 _ _ c.in-Ok.part
     c.in-Ok.ensures.ready in
-    within_call g.L.Links d c.args.p.now c.ready.new.p c.publish_right-answer.new.p c.let_go.new.p (g.L.Links.lacking d) (g.met.L.Links.lacking_stays d) agent c.in-Ok.ensures.later
+    within_call g.L.Links _ c.args.p.now c.ready.new.p c.publish_right-answer.new.p c.let_go.new.p (g.L.Links.lacking _) (g.met.L.Links.lacking_stays _) agent c.in-Ok.ensures.later
     c.let_go.ensures.later (c.publish_right-answer.ensures.no_node is)
 
 pub returns-clause-worn : goal.returns-clause-worn
 returns-clause-worn g c = λ why is.
     let d = c.args.links.now in
-    let agent = ready_agent (g.L.Links.numbers d) 1 c.args.roots.0 (g.L.Links.seat d c.args.p.now) (g.L.Links.seat d c.ready.new.p) c.in-Ok.part
+    let agent = ready_agent _ 1 c.args.roots.0 _ _ c.in-Ok.part
     c.in-Ok.ensures.ready in
     within_call g.L.Links d c.args.p.now c.ready.new.p c.publish_right-answer.new.p c.let_go.new.p (λ who. g.L.Links.worn d who why) (λ who. g.met.L.Links.worn_stays d who why)
     agent c.in-Ok.ensures.later c.let_go.ensures.later (c.publish_right-answer.ensures.worn why is)

@@ -9,7 +9,7 @@ use Rattle.orc_cell.proofs.with_pair.publish_pair.Goals as goal
 pub publish_given-turn-requires : goal.publish_given-turn-requires
 publish_given-turn-requires g c =
     let e = c.in-Ok.ensures in
-    let all = g.met.L.Links.allowed c.args.links.now c.give.new.p e.pass in
+    let all = g.met.L.Links.allowed _ _ e.pass in
     let free = c.requires.slots.0 in
     record {
       pass = e.pass;
@@ -25,47 +25,42 @@ publish_given-turn-requires g c =
 
 pub release-requires-clause-held : goal.release-requires-clause-held
 release-requires-clause-held g c =
-    let d = c.args.links.now in
     let e = c.in-Ok.ensures in
-    let f = pair_fresh _ _ _ _ c.requires.slots.0 e.given (g.met.L.Links.allowed d c.give.new.p e.pass) in
-    let same = given_slots (g.L.Links.numbers d) _ _ _ _ (g.L.Links.seat d c.give.new.p) _ c.publish_given-turn.result c.publish_given-turn.ensures.published in
+    let f = pair_fresh _ _ _ _ c.requires.slots.0 e.given (g.met.L.Links.allowed _ _ e.pass) in
+    let same = given_slots _ _ _ _ _ _ _ c.publish_given-turn.result c.publish_given-turn.ensures.published in
     subst (λ (z : Slots). Holds z c.in-Ok.pair) (sym same) f.held
 
 pub returns-in-Err-clause-answered : goal.returns-in-Err-clause-answered
 returns-in-Err-clause-answered g c =
-    let d = c.args.links.now in
-    pair_lacking (g.L.Links.numbers d) 1 _ _ (omega arith) c.requires.no_fresh c.in-Err.ensures.none
-    (g.met.L.Links.allowed d c.give.new.p c.in-Err.ensures.pass)
+    pair_lacking _ 1 _ _ (omega arith) c.requires.no_fresh c.in-Err.ensures.none
+    (g.met.L.Links.allowed _ _ c.in-Err.ensures.pass)
 
 pub returns-in-Err-clause-no_node : goal.returns-in-Err-clause-no_node
 returns-in-Err-clause-no_node g c =
     let d = c.args.links.now in
     let agent = (g.L.Links.seat d c.args.p.now).agent in
     let k = g.L.Links.journal c.give.new.p in
-    λ is. err_of _ c.in-Err.is (err_within g.L.Links.agent_of agent (g.L.Links.journal c.args.p.now) k c.give.result (λ e. g.L.Links.lacking d agent k)
+    λ is. err_of _ c.in-Err.is (err_within g.L.Links.agent_of agent _ k c.give.result (λ e. g.L.Links.lacking d agent k)
     c.give.ensures.later c.give.ensures.lacking)
 
 pub returns-in-Published-clause-answered : goal.returns-in-Published-clause-answered
 returns-in-Published-clause-answered g c =
-    let d = c.args.links.now in
     let e = c.in-Ok.ensures in
-    pair_done _ _ _ _ c.requires.slots.0 e.given (g.met.L.Links.allowed d c.give.new.p e.pass) _ _ c.release.ensures.released
-    (g.met.L.Links.allowed d c.release.new.p c.release.ensures.pass) (given_of c.args.left.now) (given_of c.args.right.now) c.in-Published.x
+    pair_done _ _ _ _ c.requires.slots.0 e.given (g.met.L.Links.allowed _ _ e.pass) _ _ c.release.ensures.released
+    (g.met.L.Links.allowed _ _ c.release.ensures.pass) (given_of c.args.left.now) (given_of c.args.right.now) c.in-Published.x
     c.in-Published.y c.in-Published.ensures.published
 
 pub returns-in-Over-clause-answered : goal.returns-in-Over-clause-answered
 returns-in-Over-clause-answered g c =
-    let d = c.args.links.now in
     let e = c.in-Ok.ensures in
-    pair_over _ _ _ _ c.requires.slots.0 e.given (g.met.L.Links.allowed d c.give.new.p e.pass) _ _ c.release.ensures.released
-    (g.met.L.Links.allowed d c.release.new.p c.release.ensures.pass) c.args.turns c.in-Over.ensures.published
+    pair_over _ _ _ _ c.requires.slots.0 e.given (g.met.L.Links.allowed _ _ e.pass) _ _ c.release.ensures.released
+    (g.met.L.Links.allowed _ _ c.release.ensures.pass) c.args.turns c.in-Over.ensures.published
 
 pub returns-in-Spent-clause-answered : goal.returns-in-Spent-clause-answered
 returns-in-Spent-clause-answered g c =
-    let d = c.args.links.now in
     let e = c.in-Ok.ensures in
-    pair_spent _ _ _ _ c.requires.slots.0 e.given (g.met.L.Links.allowed d c.give.new.p e.pass) _ _ c.release.ensures.released
-    (g.met.L.Links.allowed d c.release.new.p c.release.ensures.pass) c.in-Spent.ensures.published
+    pair_spent _ _ _ _ c.requires.slots.0 e.given (g.met.L.Links.allowed _ _ e.pass) _ _ c.release.ensures.released
+    (g.met.L.Links.allowed _ _ c.release.ensures.pass) c.in-Spent.ensures.published
 
 pub returns-in-Spent-clause-worn : goal.returns-in-Spent-clause-worn
 returns-in-Spent-clause-worn g c = λ why is.

@@ -9,8 +9,7 @@ use Rattle.orc_cell.proofs.with_pair.publish_parts.Goals as goal
 
 pub returns-then-turns-eq0-clause-answered : goal.returns-then-turns-eq0-clause-answered
 returns-then-turns-eq0-clause-answered g c =
-    let d = c.args.links.now in
-    answers_none (g.L.Links.numbers d) c.args.turns (g.L.Links.seat d c.args.p.now) c.if-turns-eq0.true c.requires.idle.fresh
+    answers_none _ c.args.turns _ c.if-turns-eq0.true c.requires.idle.fresh
 
 pub publish_both-requires-clause-no_fresh : goal.publish_both-requires-clause-no_fresh
 publish_both-requires-clause-no_fresh g c = c.is_null-empty.ensures.only.finds.fresh ∙ c.requires.idle.fresh
@@ -22,9 +21,8 @@ publish_both-requires-clause-roots g c =
 
 pub publish_both-requires-clause-null : goal.publish_both-requires-clause-null
 publish_both-requires-clause-null g c =
-    let d = c.args.links.now in
     let e = c.is_null-empty.ensures in
-    let kept = finds_staging (g.L.Links.numbers d) _ _ [] e.only.finds (g.met.L.Links.allowed d c.is_null-empty.new.p e.pass) in
+    let kept = finds_staging _ _ _ [] e.only.finds (g.met.L.Links.allowed _ _ e.pass) in
     (kept c.args.roots.0 (inl c.requires.roots.0) ∙ c.requires.null.0, kept c.args.roots.1 (inr c.requires.roots.1) ∙ c.requires.null.1)
 
 pub publish_both-requires-clause-slots : goal.publish_both-requires-clause-slots
@@ -39,10 +37,9 @@ publish_both-requires-clause-slots g c =
 
 pub returns-clause-answered : goal.returns-clause-answered
 returns-clause-answered g c =
-    let d = c.args.links.now in
     let e = c.is_null-empty.ensures in
-    answers_after (g.L.Links.numbers d) 3 c.args.turns c.args.left c.args.right _ _ _ c.publish_both.result e.only
-    (g.met.L.Links.allowed d c.is_null-empty.new.p e.pass) c.publish_both.ensures.answered
+    answers_after _ 3 c.args.turns c.args.left c.args.right _ _ _ c.publish_both.result e.only
+    (g.met.L.Links.allowed _ _ e.pass) c.publish_both.ensures.answered
 
 pub returns-then-turns-eq0-clause-nothing : goal.returns-then-turns-eq0-clause-nothing
 returns-then-turns-eq0-clause-nothing g c = λ zero. only_none _
@@ -54,7 +51,7 @@ returns-clause-no_node g c =
     let e = c.is_null-empty.ensures in
     let k = g.L.Links.journal c.is_null-empty.new.p in
     let m = g.L.Links.journal c.publish_both.new.p in
-    λ is. part_of_piece g.L.Links.agent_of s.agent (λ j. g.L.Links.lacking d s.agent j) (g.L.Links.journal c.args.p.now) k m e.later
+    λ is. part_of_piece g.L.Links.agent_of s.agent (λ j. g.L.Links.lacking d s.agent j) _ k m e.later
     c.publish_both.ensures.later e.begun
     (subst (λ (i : ℕ). Within (length k) (length m) (g.L.Links.lacking d i m)) e.only.finds.puts.agent (c.publish_both.ensures.no_node is))
 
@@ -65,6 +62,6 @@ returns-clause-worn g c =
     let e = c.is_null-empty.ensures in
     let k = g.L.Links.journal c.is_null-empty.new.p in
     let m = g.L.Links.journal c.publish_both.new.p in
-    λ why is. part_of_piece g.L.Links.agent_of s.agent (λ j. g.L.Links.worn d s.agent why j) (g.L.Links.journal c.args.p.now) k m e.later
+    λ why is. part_of_piece g.L.Links.agent_of s.agent (λ j. g.L.Links.worn d s.agent why j) _ k m e.later
     c.publish_both.ensures.later e.begun
     (subst (λ (i : ℕ). Within (length k) (length m) (g.L.Links.worn d i why m)) e.only.finds.puts.agent (c.publish_both.ensures.worn why is))

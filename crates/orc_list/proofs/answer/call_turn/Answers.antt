@@ -13,7 +13,7 @@ answer_found-requires-clause-found g c = (Root c.args.root, g.L.Links.seat c.arg
 
 pub returns-clause-answered : goal.returns-clause-answered
 returns-clause-answered g c =
-    c.answer_found.ensures.answered (Root c.args.root) (g.L.Links.seat c.args.links.now c.args.p.now) c.search-found.ensures.found
+    c.answer_found.ensures.answered (Root c.args.root) _ c.search-found.ensures.found
 
 pub returns-clause-few : goal.returns-clause-few
 returns-clause-few g c =
@@ -24,18 +24,16 @@ returns-clause-few g c =
 pub returns-clause-off : goal.returns-clause-off
 returns-clause-off g c = λ call yes.
     let d = c.args.links.now in
-    let n = g.L.Links.numbers d in
     let s = g.L.Links.seat d c.args.p.now in
     let t = g.L.Links.seat d c.search-found.new.p in
-    let u = g.L.Links.seat d c.answer_found.new.p in
     let j = g.L.Links.journal c.args.p.now in
     let k = g.L.Links.journal c.search-found.new.p in
     let l = g.L.Links.journal c.answer_found.new.p in
     let e = c.search-found.ensures in
     let f = c.answer_found.ensures in
     let took = f.taken (Root c.args.root) s e.found call yes in
-    takes_wider n c.args.key (HasWorn (g.L.Links.worn d t.agent) k l) _ s u
+    takes_wider _ c.args.key (HasWorn (g.L.Links.worn d t.agent) k l) _ s _
     (λ w. worn_wider (g.L.Links.worn d) s.agent t.agent j k l l (λ why xs more from to h. g.met.L.Links.worn_stays d s.agent why xs more from to h)
     took.finds.behind.quiet.puts.agent e.later ([], append-nil l) w)
-    (removes_off took.finds (HasWorn (g.L.Links.worn d t.agent) k l) u took.takes (g.met.L.Links.obeys d c.search-found.new.p e.pass)
-    (g.met.L.Links.allowed d c.answer_found.new.p f.pass))
+    (removes_off took.finds (HasWorn (g.L.Links.worn d t.agent) k l) _ took.takes (g.met.L.Links.obeys _ _ e.pass)
+    (g.met.L.Links.allowed _ _ f.pass))

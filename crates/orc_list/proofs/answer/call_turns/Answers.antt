@@ -22,17 +22,13 @@ loop-init g c =
 
 pub loop-preserved : goal.loop-preserved
 loop-preserved g c =
-    let d = c.args.links.now in
     let i = c.loop.invariant in
     let e = c.in_default.ensures in
-    let s = g.L.Links.seat d c.args.p.now in
-    let t = g.L.Links.seat d c.loop.p in
-    let u = g.L.Links.seat d c.call_turn.new.p in
     record {
       pass = e.pass;
       later = goes_on _ _ _ i.later e.later;
-      tires = tires_next (list_reading (g.L.Links.numbers d)) c.loop.counter s t u i.tires e.answered;
-      few = made_next c.loop.counter s t u i.tires.own e.answered.own i.tires.over.made.puts e.answered.over.made.puts i.few e.few;
+      tires = tires_next (list_reading _) c.loop.counter _ _ _ i.tires e.answered;
+      few = made_next c.loop.counter _ _ _ i.tires.own e.answered.own i.tires.over.made.puts e.answered.over.made.puts i.few e.few;
     }
 
 pub call_turn-requires-clause-room : goal.call_turn-requires-clause-room
@@ -40,11 +36,10 @@ call_turn-requires-clause-room g c = subst (λ (z : Slots). HasRoom z) (sym c.lo
 
 pub returns-in-Some-clause-answered : goal.returns-in-Some-clause-answered
 returns-in-Some-clause-answered g c =
-    let d = c.args.links.now in
-    let r = list_reading (g.L.Links.numbers d) in
-    let s = g.L.Links.seat d c.args.p.now in
-    let t = g.L.Links.seat d c.loop.p in
-    let u = g.L.Links.seat d c.call_turn.new.p in
+    let r = list_reading _ in
+    let s = g.L.Links.seat _ c.args.p.now in
+    let t = g.L.Links.seat _ c.loop.p in
+    let u = g.L.Links.seat _ c.call_turn.new.p in
     let i = c.loop.invariant in
     let answer = c.in-Some.answer in
     let here = subst (λ (x : ℕ). AnswersTurn r (λ yes. entry_by c.args.call x c.args.key yes) t (Some answer) u) i.tires.over.made.puts.agent
@@ -67,13 +62,12 @@ returns-in-Some-clause-off g c = λ call yes.
     let d = c.args.links.now in
     let s = g.L.Links.seat d c.args.p.now in
     let t = g.L.Links.seat d c.loop.p in
-    let u = g.L.Links.seat d c.call_turn.new.p in
     let i = c.loop.invariant in
     let e = c.in-Some.ensures in
     let j = g.L.Links.journal c.args.p.now in
     let k = g.L.Links.journal c.loop.p in
     let l = g.L.Links.journal c.call_turn.new.p in
-    takes_next (g.L.Links.numbers d) c.args.key (HasWorn (g.L.Links.worn d t.agent) k l) _ s t u i.tires.own e.answered.own i.tires.over.made.puts
+    takes_next _ c.args.key (HasWorn (g.L.Links.worn d t.agent) k l) _ s t _ i.tires.own e.answered.own i.tires.over.made.puts
     e.answered.made.puts (λ w. worn_wider (g.L.Links.worn d) s.agent t.agent j k l l
     (λ why xs more from to h. g.met.L.Links.worn_stays d s.agent why xs more from to h) i.tires.over.made.puts.agent i.later ([], append-nil l) w)
     (e.off call (ok_some c.in-Some.answer yes))

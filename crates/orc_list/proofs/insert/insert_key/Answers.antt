@@ -19,59 +19,51 @@ use Rattle.orc_list.proofs.insert.insert_key.Goals as goal
 made : (g : Over) (c : After-insert_turns-turn g) → let d = c.args.links.now in
     (own : List (Event ChainNote)) × Puts (g.L.Links.seat d c.args.p.now) own (g.L.Links.seat d c.insert_turns-turn.new.p)
 made g c =
-    let d = c.args.links.now in
-    let s = g.L.Links.seat d c.args.p.now in
-    turns_puts (g.L.Links.numbers d) c.args.key c.args.turns (λ yes. Added s.agent c.args.key yes) c.insert_turns-turn.result.1 s
-    (g.L.Links.seat d c.insert_turns-turn.new.p) c.insert_turns-turn.result.0 c.insert_turns-turn.ensures.inserted
+    let s = g.L.Links.seat _ c.args.p.now in
+    turns_puts _ c.args.key c.args.turns (λ yes. Added s.agent c.args.key yes) c.insert_turns-turn.result.1 s
+    _ c.insert_turns-turn.result.0 c.insert_turns-turn.ensures.inserted
 
 pub insert_turns-turn-requires-clause-room : goal.insert_turns-turn-requires-clause-room
 insert_turns-turn-requires-clause-room g c = idle_room (g.L.Links.seat c.args.links.now c.args.p.now) c.requires.idle
 
 pub let_go-requires-clause-held : goal.let_go-requires-clause-held
 let_go-requires-clause-held g c =
-    let d = c.args.links.now in
-    let s = g.L.Links.seat d c.args.p.now in
-    let t = g.L.Links.seat d c.insert_turns-turn.new.p in
+    let s = g.L.Links.seat _ c.args.p.now in
     let kept = c.insert_turns-turn.result.1 in
-    let ends = ends_of (list_reading (g.L.Links.numbers d)) c.args.key 0 (λ yes. Added s.agent c.args.key yes) c.args.turns kept s t
+    let ends = ends_of (list_reading _) c.args.key 0 (λ yes. Added s.agent c.args.key yes) c.args.turns kept s _
     c.insert_turns-turn.result.0 c.insert_turns-turn.ensures.inserted in
-    ends_held kept s t ends (idle_room s c.requires.idle)
+    ends_held kept s _ ends (idle_room s c.requires.idle)
 
 pub returns-clause-inserted : goal.returns-clause-inserted
 returns-clause-inserted g c =
-    let d = c.args.links.now in
-    let r = list_reading (g.L.Links.numbers d) in
-    let s = g.L.Links.seat d c.args.p.now in
-    let t = g.L.Links.seat d c.insert_turns-turn.new.p in
-    let u = g.L.Links.seat d c.let_go.new.p in
+    let r = list_reading _ in
+    let s = g.L.Links.seat _ c.args.p.now in
+    let u = g.L.Links.seat _ c.let_go.new.p in
     subst (λ (x : Result Bool ListRefused). InsertAnswers r (λ yes. Added s.agent c.args.key yes) c.args.turns s x u) (sym c.answer_of.ensures)
-    (turns_answer r c.args.turns c.insert_turns-turn.result.1 s t u (idle_room s c.requires.idle) c.let_go.ensures.let_go c.args.key 0
+    (turns_answer r c.args.turns c.insert_turns-turn.result.1 s _ u (idle_room s c.requires.idle) c.let_go.ensures.let_go c.args.key 0
     (λ yes. Added s.agent c.args.key yes) c.insert_turns-turn.result.0 c.insert_turns-turn.ensures.inserted)
 
 pub returns-clause-few : goal.returns-clause-few
 returns-clause-few g c =
-    let d = c.args.links.now in
     let (own, puts) = made g (goal.at.returns-clause-few g c).After-insert_turns-turn in
-    made_on c.args.turns (g.L.Links.seat d c.args.p.now) (g.L.Links.seat d c.insert_turns-turn.new.p) (g.L.Links.seat d c.let_go.new.p) own puts
+    made_on c.args.turns _ _ _ own puts
     c.let_go.ensures.let_go.puts c.insert_turns-turn.ensures.few
 
 pub returns-clause-off : goal.returns-clause-off
 returns-clause-off g c = λ yes.
-    let d = c.args.links.now in
     let (own, puts) = made g (goal.at.returns-clause-off g c).After-insert_turns-turn in
     let e = c.insert_turns-turn.ensures in
     let h = c.let_go.ensures in
     let (passed, is) = turn_added c.insert_turns-turn.result.0 (sym c.answer_of.ensures ∙ yes) in
-    leaves_still (g.L.Links.numbers d) c.args.key (g.L.Links.seat d c.args.p.now) (g.L.Links.seat d c.insert_turns-turn.new.p)
-    (g.L.Links.seat d c.let_go.new.p) own puts h.let_go.puts (g.met.L.Links.obeys d c.insert_turns-turn.new.p e.pass)
-    (g.met.L.Links.allowed d c.let_go.new.p h.pass) (e.off passed is)
+    leaves_still _ c.args.key _ _
+    _ own puts h.let_go.puts (g.met.L.Links.obeys _ _ e.pass)
+    (g.met.L.Links.allowed _ _ h.pass) (e.off passed is)
 
 pub returns-clause-absent : goal.returns-clause-absent
 returns-clause-absent g c = λ is.
-    let d = c.args.links.now in
     let (own, puts) = made g (goal.at.returns-clause-absent g c).After-insert_turns-turn in
-    absent_still (g.L.Links.numbers d) c.args.key (g.L.Links.seat d c.args.p.now) (g.L.Links.seat d c.insert_turns-turn.new.p)
-    (g.L.Links.seat d c.let_go.new.p) own puts c.let_go.ensures.let_go.puts (g.met.L.Links.allowed d c.let_go.new.p c.let_go.ensures.pass)
+    absent_still _ c.args.key _ _
+    _ own puts c.let_go.ensures.let_go.puts (g.met.L.Links.allowed _ _ c.let_go.ensures.pass)
     (c.insert_turns-turn.ensures.absent (turn_lacks c.insert_turns-turn.result.0 (sym c.answer_of.ensures ∙ is)))
 
 pub returns-clause-lacking : goal.returns-clause-lacking
@@ -79,8 +71,8 @@ returns-clause-lacking g c = λ is.
     let d = c.args.links.now in
     let s = g.L.Links.seat d c.args.p.now in
     let e = c.insert_turns-turn.ensures in
-    part_goes_on g.L.Links.agent_of s.agent (g.L.Links.lacking d s.agent) (g.L.Links.journal c.args.p.now) (g.L.Links.journal c.insert_turns-turn.new.p)
-    (g.L.Links.journal c.let_go.new.p) (λ xs more from to h. g.met.L.Links.lacking_stays d s.agent xs more from to h)
+    part_goes_on g.L.Links.agent_of s.agent (g.L.Links.lacking d s.agent) _ _
+    _ (λ xs more from to h. g.met.L.Links.lacking_stays d s.agent xs more from to h)
     e.later c.let_go.ensures.later (e.lacking (turn_lacks c.insert_turns-turn.result.0 (sym c.answer_of.ensures ∙ is)))
 
 pub returns-clause-worn : goal.returns-clause-worn
@@ -88,6 +80,6 @@ returns-clause-worn g c = λ why is.
     let d = c.args.links.now in
     let s = g.L.Links.seat d c.args.p.now in
     let e = c.insert_turns-turn.ensures in
-    part_goes_on g.L.Links.agent_of s.agent (g.L.Links.worn d s.agent why) (g.L.Links.journal c.args.p.now) (g.L.Links.journal c.insert_turns-turn.new.p)
-    (g.L.Links.journal c.let_go.new.p) (λ xs more from to h. g.met.L.Links.worn_stays d s.agent why xs more from to h)
+    part_goes_on g.L.Links.agent_of s.agent (g.L.Links.worn d s.agent why) _ _
+    _ (λ xs more from to h. g.met.L.Links.worn_stays d s.agent why xs more from to h)
     e.later c.let_go.ensures.later (e.worn why (turn_worn c.insert_turns-turn.result.0 why (sym c.answer_of.ensures ∙ is)))

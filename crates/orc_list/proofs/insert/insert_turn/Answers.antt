@@ -27,9 +27,8 @@ sought g c = λ slots room k. record {
 
 pub search-found-requires-clause-room : goal.search-found-requires-clause-room
 search-found-requires-clause-room g c =
-    let d = c.args.links.now in
     let (slots, room, k) = c.requires.keeps in
-    has_room (list_reading (g.L.Links.numbers d)) c.args.key 0 c.args.node slots (g.L.Links.seat d c.args.p.now) room k
+    has_room (list_reading _) c.args.key 0 c.args.node slots _ room k
 
 pub insert_found-requires-clause-sought : goal.insert_found-requires-clause-sought
 insert_found-requires-clause-sought g c =
@@ -49,16 +48,12 @@ returns-clause-few g c =
 
 pub returns-clause-off : goal.returns-clause-off
 returns-clause-off g c = λ many is.
-    let d = c.args.links.now in
-    let n = g.L.Links.numbers d in
-    let s = g.L.Links.seat d c.args.p.now in
-    let t = g.L.Links.seat d c.search-found.new.p in
-    let u = g.L.Links.seat d c.insert_found.new.p in
+    let t = g.L.Links.seat _ c.search-found.new.p in
     let (slots, room, k) = c.requires.keeps in
     let e = c.insert_found.ensures in
-    let q = found_quiet (list_reading n) (Root c.args.root) c.args.key s c.search-found.result t c.search-found.ensures.found in
-    found_leaves n (Root c.args.root) c.args.key t.agent c.search-found.result many s u q.1.puts.agent
-    (e.added (sought g (goal.at.returns-clause-off g c).After-search-found slots room k) many is) (g.met.L.Links.allowed d c.insert_found.new.p e.pass)
+    let q = found_quiet (list_reading _) (Root c.args.root) c.args.key _ c.search-found.result t c.search-found.ensures.found in
+    found_leaves _ (Root c.args.root) c.args.key t.agent c.search-found.result many _ _ q.1.puts.agent
+    (e.added (sought g (goal.at.returns-clause-off g c).After-search-found slots room k) many is) (g.met.L.Links.allowed _ _ e.pass)
 
 pub returns-clause-absent : goal.returns-clause-absent
 returns-clause-absent g c = λ is.
@@ -67,20 +62,19 @@ returns-clause-absent g c = λ is.
 
 pub returns-clause-lacking : goal.returns-clause-lacking
 returns-clause-lacking g c = λ is.
-    let d = c.args.links.now in
     let e = c.search-found.ensures in
     let f = c.insert_found.ensures in
-    let q = found_quiet (list_reading (g.L.Links.numbers d)) (Root c.args.root) c.args.key (g.L.Links.seat d c.args.p.now) c.search-found.result
-    (g.L.Links.seat d c.search-found.new.p) e.found in
-    part_of_later g.L.Links g.met.L.Links.steps_add g.met.L.Links.seen_is d c.args.p.now c.search-found.new.p c.insert_found.new.p q.0 c.requires.pass e.pass
-    q.1.puts q.1.some e.later f.later (g.L.Links.lacking d) (f.lacking is)
+    let q = found_quiet (list_reading _) (Root c.args.root) c.args.key _ c.search-found.result
+    _ e.found in
+    part_of_later g.L.Links g.met.L.Links.steps_add g.met.L.Links.seen_is _ _ c.search-found.new.p c.insert_found.new.p q.0 c.requires.pass e.pass
+    q.1.puts q.1.some e.later f.later (g.L.Links.lacking _) (f.lacking is)
 
 pub returns-clause-worn : goal.returns-clause-worn
 returns-clause-worn g c = λ why is.
     let d = c.args.links.now in
     let e = c.search-found.ensures in
     let f = c.insert_found.ensures in
-    let q = found_quiet (list_reading (g.L.Links.numbers d)) (Root c.args.root) c.args.key (g.L.Links.seat d c.args.p.now) c.search-found.result
-    (g.L.Links.seat d c.search-found.new.p) e.found in
-    part_of_later g.L.Links g.met.L.Links.steps_add g.met.L.Links.seen_is d c.args.p.now c.search-found.new.p c.insert_found.new.p q.0 c.requires.pass e.pass
+    let q = found_quiet (list_reading _) (Root c.args.root) c.args.key _ c.search-found.result
+    _ e.found in
+    part_of_later g.L.Links g.met.L.Links.steps_add g.met.L.Links.seen_is _ _ c.search-found.new.p c.insert_found.new.p q.0 c.requires.pass e.pass
     q.1.puts q.1.some e.later f.later (λ agent. g.L.Links.worn d agent why) (f.worn why is)

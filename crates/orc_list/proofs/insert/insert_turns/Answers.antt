@@ -29,16 +29,14 @@ loop-init g c =
 
 pub insert_turn-turn-requires-clause-keeps : goal.insert_turn-turn-requires-clause-keeps
 insert_turn-turn-requires-clause-keeps g c =
-    let d = c.args.links.now in
-    ((g.L.Links.seat d c.args.p.now).slots, c.requires.room, c.loop.invariant.on.keeps)
+    ((g.L.Links.seat _ c.args.p.now).slots, c.requires.room, c.loop.invariant.on.keeps)
 
 pub loop-preserved : goal.loop-preserved
 loop-preserved g c =
-    let d = c.args.links.now in
-    let n = g.L.Links.numbers d in
-    let s = g.L.Links.seat d c.args.p.now in
-    let t = g.L.Links.seat d c.loop.p in
-    let u = g.L.Links.seat d c.insert_turn-turn.new.p in
+    let n = g.L.Links.numbers _ in
+    let s = g.L.Links.seat _ c.args.p.now in
+    let t = g.L.Links.seat _ c.loop.p in
+    let u = g.L.Links.seat _ c.insert_turn-turn.new.p in
     let i = c.loop.invariant in
     let e = c.insert_turn-turn.ensures in
     let kept = c.insert_turn-turn.result.1 in
@@ -55,20 +53,18 @@ loop-preserved g c =
 last : (g : Over) (c : In_default g) → let d = c.args.links.now in
     (own : List (Event ChainNote)) × Puts (g.L.Links.seat d c.loop.p) own (g.L.Links.seat d c.insert_turn-turn.new.p)
 last g c =
-    let d = c.args.links.now in
-    let t = g.L.Links.seat d c.loop.p in
-    let s = g.L.Links.seat d c.args.p.now in
-    inserts_puts (g.L.Links.numbers d) c.args.key 1 (λ yes. Added t.agent c.args.key yes) s.slots c.loop.node c.insert_turn-turn.result.1 t
-    (g.L.Links.seat d c.insert_turn-turn.new.p) c.insert_turn-turn.result.0
+    let t = g.L.Links.seat _ c.loop.p in
+    let s = g.L.Links.seat _ c.args.p.now in
+    inserts_puts _ c.args.key 1 (λ yes. Added t.agent c.args.key yes) s.slots c.loop.node c.insert_turn-turn.result.1 t
+    _ c.insert_turn-turn.result.0
     (c.insert_turn-turn.ensures.inserted s.slots c.requires.room c.loop.invariant.on.keeps)
 
 pub returns-in_default-clause-inserted : goal.returns-in_default-clause-inserted
 returns-in_default-clause-inserted g c =
-    let d = c.args.links.now in
-    let r = list_reading (g.L.Links.numbers d) in
-    let s = g.L.Links.seat d c.args.p.now in
-    let t = g.L.Links.seat d c.loop.p in
-    let u = g.L.Links.seat d c.insert_turn-turn.new.p in
+    let r = list_reading _ in
+    let s = g.L.Links.seat _ c.args.p.now in
+    let t = g.L.Links.seat _ c.loop.p in
+    let u = g.L.Links.seat _ c.insert_turn-turn.new.p in
     let i = c.loop.invariant in
     let kept = c.insert_turn-turn.result.1 in
     let turn = c.insert_turn-turn.result.0 in
@@ -90,26 +86,23 @@ returns-in_default-clause-few g c =
 
 pub returns-in_default-clause-off : goal.returns-in_default-clause-off
 returns-in_default-clause-off g c = λ many is.
-    let d = c.args.links.now in
     let i = c.loop.invariant in
     let (own, puts) = last g (goal.at.returns-in_default-clause-off g c).In_default in
-    leaves_next (g.L.Links.numbers d) c.args.key (g.L.Links.seat d c.args.p.now) (g.L.Links.seat d c.loop.p) (g.L.Links.seat d c.insert_turn-turn.new.p)
+    leaves_next _ c.args.key _ _ _
     i.on.own i.on.over.made.puts own puts (c.insert_turn-turn.ensures.off many is)
 
 pub returns-in_default-clause-absent : goal.returns-in_default-clause-absent
 returns-in_default-clause-absent g c = λ is.
-    let d = c.args.links.now in
     let i = c.loop.invariant in
     let (own, puts) = last g (goal.at.returns-in_default-clause-absent g c).In_default in
-    absent_next (g.L.Links.numbers d) c.args.key (g.L.Links.seat d c.args.p.now) (g.L.Links.seat d c.loop.p) (g.L.Links.seat d c.insert_turn-turn.new.p)
+    absent_next _ c.args.key _ _ _
     i.on.own i.on.over.made.puts own puts (c.insert_turn-turn.ensures.absent is)
 
 pub returns-in_default-clause-lacking : goal.returns-in_default-clause-lacking
 returns-in_default-clause-lacking g c = λ is.
-    let d = c.args.links.now in
     let i = c.loop.invariant in
     let e = c.insert_turn-turn.ensures in
-    part_of_next g.L.Links d c.args.p.now c.loop.p c.insert_turn-turn.new.p i.on.over.made.puts.agent i.later e.later (g.L.Links.lacking d) (e.lacking is)
+    part_of_next g.L.Links _ c.args.p.now c.loop.p c.insert_turn-turn.new.p i.on.over.made.puts.agent i.later e.later (g.L.Links.lacking _) (e.lacking is)
 
 pub returns-in_default-clause-worn : goal.returns-in_default-clause-worn
 returns-in_default-clause-worn g c = λ why is.

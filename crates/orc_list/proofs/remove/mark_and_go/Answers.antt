@@ -16,63 +16,53 @@ use Rattle.orc_list.proofs.remove.mark_and_go.Goals as goal
 pub mark_node-marked-requires-clause-node : goal.mark_node-marked-requires-clause-node
 mark_node-marked-requires-clause-node g c =
     let (passed, s, f) = c.requires.present in
-    let d = c.args.links.now in
     let a = c.args in
-    (reads_node (list_ordering (g.L.Links.numbers d)) (Root a.root) a.key passed a.left a.first a.node a.next s (g.L.Links.seat d a.p.now) f).node_held
+    (reads_node (list_ordering _) (Root a.root) a.key passed a.left a.first a.node a.next s _ f).node_held
 
 pub mark_node-marked-requires-clause-next : goal.mark_node-marked-requires-clause-next
 mark_node-marked-requires-clause-next g c =
     let (passed, s, f) = c.requires.present in
-    let d = c.args.links.now in
     let a = c.args in
-    let t = g.L.Links.seat d a.p.now in
-    (reads_node (list_ordering (g.L.Links.numbers d)) (Root a.root) a.key passed a.left a.first a.node a.next s t f).next_held
+    (reads_node (list_ordering _) (Root a.root) a.key passed a.left a.first a.node a.next s _ f).next_held
 
 pub mark_node-marked-requires-clause-key : goal.mark_node-marked-requires-clause-key
 mark_node-marked-requires-clause-key g c =
     let (passed, s, f) = c.requires.present in
-    let d = c.args.links.now in
     let a = c.args in
-    let t = g.L.Links.seat d a.p.now in
-    let n = g.L.Links.numbers d in
-    subst (λ (i : ℕ). HasRank (chain_order n.roots) (heap_of n t) i a.key) (sym (reads_node (list_ordering (g.L.Links.numbers d)) (Root a.root) a.key passed a.left a.first a.node a.next s t f).id_is)
+    let t = g.L.Links.seat _ a.p.now in
+    let n = g.L.Links.numbers _ in
+    subst (λ (i : ℕ). HasRank (chain_order n.roots) (heap_of n t) i a.key) (sym (reads_node (list_ordering _) (Root a.root) a.key passed a.left a.first a.node a.next s t f).id_is)
     f.is_of.has_key
 
 pub mark_node-marked-requires-clause-follows : goal.mark_node-marked-requires-clause-follows
 mark_node-marked-requires-clause-follows g c =
     let (passed, s, f) = c.requires.present in
-    let d = c.args.links.now in
     let a = c.args in
-    let t = g.L.Links.seat d a.p.now in
-    let r = reads_node (list_ordering (g.L.Links.numbers d)) (Root a.root) a.key passed a.left a.first a.node a.next s t f in
-    follows_at (list_reading (g.L.Links.numbers d)) t f.id _ _ _ (sym r.id_is) (sym r.next_is) f.follows
+    let r = reads_node (list_ordering _) (Root a.root) a.key passed a.left a.first a.node a.next s _ f in
+    follows_at (list_reading _) _ f.id _ _ _ (sym r.id_is) (sym r.next_is) f.follows
 
 pub let_all_go-requires-clause-hands : goal.let_all_go-requires-clause-hands
 let_all_go-requires-clause-hands g c =
-    let d = c.args.links.now in
     let a = c.args in
     let (passed, s, f) = c.requires.present in
-    let t = g.L.Links.seat d a.p.now in
-    let u = g.L.Links.seat d c.mark_node-marked.new.p in
+    let t = g.L.Links.seat _ a.p.now in
     let e = c.mark_node-marked.ensures in
-    let ord = list_ordering (g.L.Links.numbers d) in
+    let ord = list_ordering _ in
     let noted = Entry (Removed t.agent a.key true) in (
       s.slots,
-      marked_hand ord (Root a.root) a.key passed a.left a.first a.node a.next s t f noted _ u
-          (marks_at ord (Root a.root) a.key passed a.left a.first a.node a.next s t f noted _ u e.marked) (g.met.L.Links.allowed d c.mark_node-marked.new.p e.pass),
+      marked_hand ord (Root a.root) a.key passed a.left a.first a.node a.next s t f noted _ _
+          (marks_at ord (Root a.root) a.key passed a.left a.first a.node a.next s t f noted _ _ e.marked) (g.met.L.Links.allowed _ _ e.pass),
     )
 
 pub returns-clause-stopped : goal.returns-clause-stopped
 returns-clause-stopped g c = λ passed s f.
-    let d = c.args.links.now in
     let a = c.args in
-    let t = g.L.Links.seat d a.p.now in
-    let u = g.L.Links.seat d c.mark_node-marked.new.p in
+    let t = g.L.Links.seat _ a.p.now in
     let e = c.mark_node-marked.ensures in
     let done = c.mark_node-marked.result in
-    let ord = list_ordering (g.L.Links.numbers d) in
+    let ord = list_ordering _ in
     let noted = Entry (Removed t.agent a.key true) in
-    let m = marks_at ord (Root a.root) a.key passed a.left a.first a.node a.next s t f noted done u e.marked in
-    let all = g.met.L.Links.allowed d c.mark_node-marked.new.p e.pass in
-    let gone = c.let_all_go.ensures.gone s.slots (marked_hand ord (Root a.root) a.key passed a.left a.first a.node a.next s t f noted done u m all) in
-    mark_stops f done u (g.L.Links.seat d c.let_all_go.new.p) m gone all
+    let m = marks_at ord (Root a.root) a.key passed a.left a.first a.node a.next s t f noted done _ e.marked in
+    let all = g.met.L.Links.allowed _ _ e.pass in
+    let gone = c.let_all_go.ensures.gone s.slots (marked_hand ord (Root a.root) a.key passed a.left a.first a.node a.next s t f noted done _ m all) in
+    mark_stops f done _ _ m gone all

@@ -20,20 +20,17 @@ hands : (g : Over) (c : After-same-entered g) → let d = c.args.links.now in le
     (f : FindsAbsent r start (g.K.SetRank.key_rank a.key) passed a.left a.first a.right s (g.L.Links.seat d a.p.now))
     → InHand r s.slots a.left a.first a.right None (g.L.Links.seat d c.same-entered.new.p)
 hands g c = λ start passed s f.
-    let d = c.args.links.now in
     let a = c.args in
-    let t = g.L.Links.seat d a.p.now in
     let e = c.same-entered.ensures in
-    let ord = ordering_of (g.met.K.Rank.ordered (g.L.Links.numbers d)) in
-    tested_hand ord s.slots a.left a.first a.right None _ _ _ _ t (g.L.Links.seat d c.same-entered.new.p) e.tested
-    (g.met.L.Links.allowed d c.same-entered.new.p e.pass) (absent_hand ord start (g.K.SetRank.key_rank a.key) passed a.left a.first s t a.right f)
+    let ord = ordering_of (g.met.K.Rank.ordered _) in
+    tested_hand ord s.slots a.left a.first a.right None _ _ _ _ _ _ e.tested
+    (g.met.L.Links.allowed _ _ e.pass) (absent_hand ord start (g.K.SetRank.key_rank a.key) passed a.left a.first s _ a.right f)
 
 pub same-entered-requires-clause-place : goal.same-entered-requires-clause-place
 same-entered-requires-clause-place g c =
-    let d = c.args.links.now in
-    let t = g.L.Links.seat d c.args.p.now in
+    let t = g.L.Links.seat _ c.args.p.now in
     let (start, passed, s, f) = c.requires.absent in
-    c.place_of.ensures.held (g.L.Links.numbers d) t.slots c.requires.root.0 (first_held s.slots t.slots _ f.left_id _ f.hands)
+    c.place_of.ensures.held _ t.slots c.requires.root.0 (first_held s.slots t.slots _ f.left_id _ f.hands)
 
 pub same-entered-requires-clause-link : goal.same-entered-requires-clause-link
 same-entered-requires-clause-link g c =
@@ -43,17 +40,15 @@ same-entered-requires-clause-link g c =
 
 pub same-entered-requires-clause-allowed : goal.same-entered-requires-clause-allowed
 same-entered-requires-clause-allowed g c =
-    let d = c.args.links.now in
     let a = c.args in
-    let n = g.L.Links.numbers d in
-    let t = g.L.Links.seat d a.p.now in
+    let t = g.L.Links.seat _ a.p.now in
     let (start, passed, s, f) = c.requires.absent in
-    let ord = ordering_of (g.met.K.Rank.ordered n) in
+    let ord = ordering_of (g.met.K.Rank.ordered _) in
     let wanted = g.K.SetRank.key_rank a.key in
-    absent_allowed ord g.K.SetRank.key_rank g.K.SetRank.noted (g.met.K.SetRank.allows_absence n) start a.key passed a.left a.first a.right s t f _ _ _ a.entry
+    absent_allowed ord g.K.SetRank.key_rank g.K.SetRank.noted (g.met.K.SetRank.allows_absence _) start a.key passed a.left a.first a.right s t f _ _ _ a.entry
     (c.place_of.ensures.place t.slots ∙ left_is ord start wanted passed a.left a.first a.right s t f a.root c.requires.root.1)
     (c.link_of.ensures.link t.slots ∙ left_link ord start wanted passed a.left a.first a.right s t f) c.note-note.ensures c.requires.entry
-    (g.met.L.Links.obeys d a.p.now c.requires.pass)
+    (g.met.L.Links.obeys _ _ c.requires.pass)
 
 pub let_all_go-requires-clause-hands : goal.let_all_go-requires-clause-hands
 let_all_go-requires-clause-hands g c =
@@ -62,28 +57,23 @@ let_all_go-requires-clause-hands g c =
 
 pub returns-clause-entered : goal.returns-clause-entered
 returns-clause-entered g c = λ start passed s f.
-    let d = c.args.links.now in
     let a = c.args in
-    let n = g.L.Links.numbers d in
-    let t = g.L.Links.seat d a.p.now in
-    let u = g.L.Links.seat d c.same-entered.new.p in
+    let t = g.L.Links.seat _ a.p.now in
     let e = c.same-entered.ensures in
     let l = f.behind.leads in
-    let ord = ordering_of (g.met.K.Rank.ordered n) in
+    let ord = ordering_of (g.met.K.Rank.ordered _) in
     let wanted = g.K.SetRank.key_rank a.key in
     let place = left_place (ord.reading.order.root wanted) a.left f.left_id in
-    let enters = ap (λ (z : g.row.K-Rule-Note.Denot). ord.reading.entries_in (Some z)) c.note-note.ensures ∙ g.met.K.SetRank.enters n a.entry in
-    entered_at ord s t u (g.L.Links.seat d c.let_all_go.new.p) f.own place l.from c.note-note.result a.entry _ _ c.same-entered.result f.behind.quiet
+    let enters = ap (λ (z : g.row.K-Rule-Note.Denot). ord.reading.entries_in (Some z)) c.note-note.ensures ∙ g.met.K.SetRank.enters _ a.entry in
+    entered_at ord s t _ _ f.own place l.from c.note-note.result a.entry _ _ c.same-entered.result f.behind.quiet
     (absent_few ord.reading start wanted passed a.left a.first a.right s t f) enters l.still (left_place_linked ord t place wanted l.below)
     (c.place_of.ensures.place t.slots ∙ left_is ord start wanted passed a.left a.first a.right s t f a.root c.requires.root.1)
     (c.link_of.ensures.link t.slots ∙ left_link ord start wanted passed a.left a.first a.right s t f) e.tested
     (c.let_all_go.ensures.gone s.slots (hands g (goal.at.returns-clause-entered g c).After-same-entered start passed s f))
-    (g.met.L.Links.allowed d c.same-entered.new.p e.pass)
+    (g.met.L.Links.allowed _ _ e.pass)
 
 pub returns-clause-load : goal.returns-clause-load
 returns-clause-load g c =
-    let d = c.args.links.now in
-    let t = g.L.Links.seat d c.args.p.now in
     let (start, passed, s, f) = c.requires.absent in
-    tests_once _ _ _ c.same-entered.result t (g.L.Links.seat d c.same-entered.new.p) (g.L.Links.seat d c.let_all_go.new.p) c.same-entered.ensures.tested
+    tests_once _ _ _ c.same-entered.result _ _ _ c.same-entered.ensures.tested
     (c.let_all_go.ensures.gone s.slots (hands g (goal.at.returns-clause-load g c).After-same-entered start passed s f)).puts

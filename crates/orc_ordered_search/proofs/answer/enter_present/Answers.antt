@@ -23,43 +23,37 @@ hands : (g : Over) (c : After-same-entered g) → let d = c.args.links.now in le
     (f : FindsPresent r start (g.K.SetRank.key_rank a.key) passed a.left a.first a.node a.next s (g.L.Links.seat d a.p.now))
     → InHand r s.slots a.left a.first (Some a.node) a.next (g.L.Links.seat d c.same-entered.new.p)
 hands g c = λ start passed s f.
-    let d = c.args.links.now in
     let a = c.args in
-    let t = g.L.Links.seat d a.p.now in
     let e = c.same-entered.ensures in
-    let ord = ordering_of (g.met.K.Rank.ordered (g.L.Links.numbers d)) in
-    tested_hand ord s.slots a.left a.first (Some a.node) a.next _ _ _ _ t (g.L.Links.seat d c.same-entered.new.p) e.tested
-    (g.met.L.Links.allowed d c.same-entered.new.p e.pass) (present_hand ord start (g.K.SetRank.key_rank a.key) passed a.left a.first s t a.node a.next f)
+    let ord = ordering_of (g.met.K.Rank.ordered _) in
+    tested_hand ord s.slots a.left a.first (Some a.node) a.next _ _ _ _ _ _ e.tested
+    (g.met.L.Links.allowed _ _ e.pass) (present_hand ord start (g.K.SetRank.key_rank a.key) passed a.left a.first s _ a.node a.next f)
 
 pub same-entered-requires-clause-place : goal.same-entered-requires-clause-place
 same-entered-requires-clause-place g c =
-    let d = c.args.links.now in
     let a = c.args in
     let (start, passed, s, f) = c.requires.present in
-    (reads_node (ordering_of (g.met.K.Rank.ordered (g.L.Links.numbers d))) start (g.K.SetRank.key_rank a.key) passed a.left a.first a.node a.next s
-    (g.L.Links.seat d a.p.now) f).node_held
+    (reads_node (ordering_of (g.met.K.Rank.ordered _)) start (g.K.SetRank.key_rank a.key) passed a.left a.first a.node a.next s
+    _ f).node_held
 
 pub same-entered-requires-clause-link : goal.same-entered-requires-clause-link
 same-entered-requires-clause-link g c =
-    let d = c.args.links.now in
     let a = c.args in
-    let t = g.L.Links.seat d a.p.now in
+    let t = g.L.Links.seat _ a.p.now in
     let (start, passed, s, f) = c.requires.present in
-    c.link_to.ensures.held t.slots (reads_node (ordering_of (g.met.K.Rank.ordered (g.L.Links.numbers d))) start (g.K.SetRank.key_rank a.key) passed a.left
+    c.link_to.ensures.held t.slots (reads_node (ordering_of (g.met.K.Rank.ordered _)) start (g.K.SetRank.key_rank a.key) passed a.left
     a.first a.node a.next s t f).next_held
 
 pub same-entered-requires-clause-allowed : goal.same-entered-requires-clause-allowed
 same-entered-requires-clause-allowed g c =
-    let d = c.args.links.now in
     let a = c.args in
-    let n = g.L.Links.numbers d in
-    let t = g.L.Links.seat d a.p.now in
+    let t = g.L.Links.seat _ a.p.now in
     let (start, passed, s, f) = c.requires.present in
-    let ord = ordering_of (g.met.K.Rank.ordered n) in
+    let ord = ordering_of (g.met.K.Rank.ordered _) in
     let r = reads_node ord start (g.K.SetRank.key_rank a.key) passed a.left a.first a.node a.next s t f in
-    present_allowed ord g.K.SetRank.key_rank g.K.SetRank.noted (g.met.K.SetRank.allows_presence n) start a.key passed a.left a.first a.node a.next s t f _ _ _
+    present_allowed ord g.K.SetRank.key_rank g.K.SetRank.noted (g.met.K.SetRank.allows_presence _) start a.key passed a.left a.first a.node a.next s t f _ _ _
     a.entry (ap Next r.id_is) (c.link_to.ensures.link t.slots ∙ ap link_over r.next_is) c.note-note.ensures c.requires.entry
-    (g.met.L.Links.obeys d a.p.now c.requires.pass)
+    (g.met.L.Links.obeys _ _ c.requires.pass)
 
 pub let_all_go-requires-clause-hands : goal.let_all_go-requires-clause-hands
 let_all_go-requires-clause-hands g c =
@@ -68,26 +62,21 @@ let_all_go-requires-clause-hands g c =
 
 pub returns-clause-entered : goal.returns-clause-entered
 returns-clause-entered g c = λ start passed s f.
-    let d = c.args.links.now in
     let a = c.args in
-    let n = g.L.Links.numbers d in
-    let t = g.L.Links.seat d a.p.now in
-    let u = g.L.Links.seat d c.same-entered.new.p in
+    let t = g.L.Links.seat _ a.p.now in
     let e = c.same-entered.ensures in
-    let ord = ordering_of (g.met.K.Rank.ordered n) in
+    let ord = ordering_of (g.met.K.Rank.ordered _) in
     let wanted = g.K.SetRank.key_rank a.key in
     let r = reads_node ord start wanted passed a.left a.first a.node a.next s t f in
-    let enters = ap (λ (z : g.row.K-Rule-Note.Denot). ord.reading.entries_in (Some z)) c.note-note.ensures ∙ g.met.K.SetRank.enters n a.entry in
-    entered_at ord s t u (g.L.Links.seat d c.let_all_go.new.p) f.own (Next f.id) (link_over (node_of a.next f.next_id)) c.note-note.result a.entry _ _
+    let enters = ap (λ (z : g.row.K-Rule-Note.Denot). ord.reading.entries_in (Some z)) c.note-note.ensures ∙ g.met.K.SetRank.enters _ a.entry in
+    entered_at ord s t _ _ f.own (Next f.id) (link_over (node_of a.next f.next_id)) c.note-note.result a.entry _ _
     c.same-entered.result f.behind.quiet (present_few ord.reading start wanted passed a.left a.first a.node a.next s t f) enters f.still
-    (rank_linked ord.reading.order (heap_of n t) f.id wanted f.is_of.has_key) (ap Next r.id_is) (c.link_to.ensures.link t.slots ∙ ap link_over r.next_is)
+    (rank_linked ord.reading.order (heap_of _ t) f.id wanted f.is_of.has_key) (ap Next r.id_is) (c.link_to.ensures.link t.slots ∙ ap link_over r.next_is)
     e.tested (c.let_all_go.ensures.gone s.slots (hands g (goal.at.returns-clause-entered g c).After-same-entered start passed s f))
-    (g.met.L.Links.allowed d c.same-entered.new.p e.pass)
+    (g.met.L.Links.allowed _ _ e.pass)
 
 pub returns-clause-load : goal.returns-clause-load
 returns-clause-load g c =
-    let d = c.args.links.now in
-    let t = g.L.Links.seat d c.args.p.now in
     let (start, passed, s, f) = c.requires.present in
-    tests_once _ _ _ c.same-entered.result t (g.L.Links.seat d c.same-entered.new.p) (g.L.Links.seat d c.let_all_go.new.p) c.same-entered.ensures.tested
+    tests_once _ _ _ c.same-entered.result _ _ _ c.same-entered.ensures.tested
     (c.let_all_go.ensures.gone s.slots (hands g (goal.at.returns-clause-load g c).After-same-entered start passed s f)).puts

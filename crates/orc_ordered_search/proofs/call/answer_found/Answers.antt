@@ -40,17 +40,15 @@ present g c = λ start s f.
 
 pub returns-in-Over-clause-answered : goal.returns-in-Over-clause-answered
 returns-in-Over-clause-answered g c = λ start s f.
-    let d = c.args.links.now in
-    let r = reading_by (g.L.Links.numbers d) g.K.Rank.manner in
-    let t = g.L.Links.seat d c.args.p.now in
+    let r = reading_by _ g.K.Rank.manner in
+    let t = g.L.Links.seat _ c.args.p.now in
     let moved = subst (λ (x : Searched). Finds r start (g.K.SetRank.key_rank c.args.key) s x t) c.in-Over.is f in
     found_over r s t moved.0
 
 pub returns-in-Over-clause-few : goal.returns-in-Over-clause-few
 returns-in-Over-clause-few g c = λ start s f.
-    let d = c.args.links.now in
-    let r = reading_by (g.L.Links.numbers d) g.K.Rank.manner in
-    let t = g.L.Links.seat d c.args.p.now in
+    let r = reading_by _ g.K.Rank.manner in
+    let t = g.L.Links.seat _ c.args.p.now in
     let moved = subst (λ (x : Searched). Finds r start (g.K.SetRank.key_rank c.args.key) s x t) c.in-Over.is f in
     few_made 4 4 s t moved.0.own moved.0.quiet.puts moved.1 (omega arith)
 
@@ -72,7 +70,7 @@ answer_present-requires-clause-present g c =
 pub returns-then-enter_absent-clause-answered : goal.returns-then-enter_absent-clause-answered
 returns-then-enter_absent-clause-answered g c = λ start s f.
     let d = c.args.links.now in
-    let r = reading_by (g.L.Links.numbers d) g.K.Rank.manner in
+    let r = reading_by _ g.K.Rank.manner in
     let found = absent g (goal.at.returns-then-enter_absent-clause-answered g c).In-Absent start s f in
     let done = c.if-enter_absent.ensures.entered start c.in-Absent.passed s found in
     subst (λ (e : SetEntry). Enters r e s true (g.L.Links.seat d c.enter_absent.new.p)) (c.entry_of-entry.ensures
@@ -80,8 +78,7 @@ returns-then-enter_absent-clause-answered g c = λ start s f.
 
 pub returns-then-enter_absent-clause-few : goal.returns-then-enter_absent-clause-few
 returns-then-enter_absent-clause-few g c = λ start s f.
-    let d = c.args.links.now in
-    enters_few (reading_by (g.L.Links.numbers d) g.K.Rank.manner) c.entry_of-entry.result s (g.L.Links.seat d c.enter_absent.new.p) true
+    enters_few (reading_by _ g.K.Rank.manner) c.entry_of-entry.result s _ true
     (c.if-enter_absent.ensures.entered start c.in-Absent.passed s (absent g (goal.at.returns-then-enter_absent-clause-few g c).In-Absent start s f))
 
 pub returns-else-enter_absent-clause-answered : goal.returns-else-enter_absent-clause-answered
@@ -91,8 +88,7 @@ returns-else-enter_absent-clause-answered g c = λ start s f.
 
 pub returns-else-enter_absent-clause-few : goal.returns-else-enter_absent-clause-few
 returns-else-enter_absent-clause-few g c = λ start s f.
-    let d = c.args.links.now in
-    enters_few (reading_by (g.L.Links.numbers d) g.K.Rank.manner) c.entry_of-entry.result s (g.L.Links.seat d c.enter_absent.new.p) false
+    enters_few (reading_by _ g.K.Rank.manner) c.entry_of-entry.result s _ false
     (c.if-enter_absent.ensures.entered start c.in-Absent.passed s (absent g (goal.at.returns-else-enter_absent-clause-few g c).In-Absent start s f))
 
 pub returns-then-answer_present-clause-answered : goal.returns-then-answer_present-clause-answered

@@ -14,50 +14,44 @@ enter_present-requires-clause-entry g c = inr (ap (λ (i : ℕ). Asked i c.args.
 
 pub returns-in-Ask-clause-answered : goal.returns-in-Ask-clause-answered
 returns-in-Ask-clause-answered g c = λ start passed s f.
-    let d = c.args.links.now in
-    let r = reading_by (g.L.Links.numbers d) g.K.Rank.manner in
-    let u = g.L.Links.seat d c.enter_present.new.p in
+    let r = reading_by _ g.K.Rank.manner in
+    let u = g.L.Links.seat _ c.enter_present.new.p in
     let done = enters_any r (Asked c.agent-agent.result c.args.key true) s u c.enter_present.result (c.enter_present.ensures.entered start passed s f) in
     subst (λ (e : SetEntry). Enters r e s c.enter_present.result u)
     (entry_is c.args.call Ask c.agent-agent.result s.agent c.args.key true c.in-Ask.is (c.agent-agent.ensures ∙ f.behind.quiet.puts.agent)) done
 
 pub returns-in-Ask-clause-few : goal.returns-in-Ask-clause-few
 returns-in-Ask-clause-few g c = λ start passed s f.
-    let d = c.args.links.now in
-    enters_few (reading_by (g.L.Links.numbers d) g.K.Rank.manner) (Asked c.agent-agent.result c.args.key true) s (g.L.Links.seat d c.enter_present.new.p)
+    enters_few (reading_by _ g.K.Rank.manner) (Asked c.agent-agent.result c.args.key true) s _
     c.enter_present.result (c.enter_present.ensures.entered start passed s f)
 
 pub returns-in-Remove-clause-answered : goal.returns-in-Remove-clause-answered
 returns-in-Remove-clause-answered g c = λ start passed s f.
-    let d = c.args.links.now in
-    let n = g.L.Links.numbers d in
-    let x = ordering_of (g.met.K.Rank.ordered n) in
+    let x = ordering_of (g.met.K.Rank.ordered _) in
     let a = c.args in
-    let t = g.L.Links.seat d a.p.now in
-    let u = g.L.Links.seat d c.take_out.new.p in
+    let t = g.L.Links.seat _ a.p.now in
+    let u = g.L.Links.seat _ c.take_out.new.p in
     let entry = Removed t.agent a.key true in
     let done = takes_enters x start (g.K.SetRank.key_rank a.key) passed a.left a.first a.node a.next s t f (g.K.SetRank.noted entry) g.K.SetRank.unlinking entry _
-    c.take_out.result u (g.met.K.SetRank.enters n entry) (g.met.K.SetRank.enters_none n) (c.take_out.ensures.removed start passed s f) in
+    c.take_out.result u (g.met.K.SetRank.enters _ entry) (g.met.K.SetRank.enters_none _) (c.take_out.ensures.removed start passed s f) in
     subst (λ (e : SetEntry). Enters x.reading e s c.take_out.result u)
     (entry_is a.call Remove t.agent s.agent a.key true c.in-Remove.is f.behind.quiet.puts.agent) done
 
 pub returns-in-Remove-clause-few : goal.returns-in-Remove-clause-few
 returns-in-Remove-clause-few g c = λ start passed s f.
-    let d = c.args.links.now in
-    let x = ordering_of (g.met.K.Rank.ordered (g.L.Links.numbers d)) in
+    let x = ordering_of (g.met.K.Rank.ordered _) in
     let a = c.args in
-    let t = g.L.Links.seat d a.p.now in
+    let t = g.L.Links.seat _ a.p.now in
     takes_few x start (g.K.SetRank.key_rank a.key) passed a.left a.first a.node a.next s t f (g.K.SetRank.noted (Removed t.agent a.key true))
-    g.K.SetRank.unlinking _ c.take_out.result (g.L.Links.seat d c.take_out.new.p) (c.take_out.ensures.removed start passed s f)
+    g.K.SetRank.unlinking _ c.take_out.result _ (c.take_out.ensures.removed start passed s f)
 
 pub returns-in-Remove-clause-taken : goal.returns-in-Remove-clause-taken
 returns-in-Remove-clause-taken g c = λ start passed s f call yes.
-    let d = c.args.links.now in
-    let x = ordering_of (g.met.K.Rank.ordered (g.L.Links.numbers d)) in
+    let x = ordering_of (g.met.K.Rank.ordered _) in
     let a = c.args in
-    let t = g.L.Links.seat d a.p.now in
+    let t = g.L.Links.seat _ a.p.now in
     takes_found x start (g.K.SetRank.key_rank a.key) passed a.left a.first a.node a.next s t f (g.K.SetRank.noted (Removed t.agent a.key true))
-    g.K.SetRank.unlinking _ c.take_out.result (g.L.Links.seat d c.take_out.new.p) (c.take_out.ensures.removed start passed s f) yes
+    g.K.SetRank.unlinking _ c.take_out.result _ (c.take_out.ensures.removed start passed s f) yes
 
 pub returns-in-Ask-clause-taken : goal.returns-in-Ask-clause-taken
 returns-in-Ask-clause-taken g c = λ start passed s f call yes. let is = c.in-Ask.is in cc

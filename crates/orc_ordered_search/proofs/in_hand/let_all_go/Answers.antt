@@ -5,31 +5,21 @@ use Rattle.orc_ordered_search.proofs.in_hand.let_all_go.Goals as goal
 
 pub let_go-requires-4-clause-held : goal.let_go-requires-4-clause-held
 let_go-requires-4-clause-held g c =
-    let d = c.args.links.now in
-    let t = g.L.Links.seat d c.args.p.now in
-    let u = g.L.Links.seat d c.let_go.new.p in
-    let v = g.L.Links.seat d c.let_go-2.new.p in
-    let x = g.L.Links.seat d c.let_go-3.new.p in
+    let x = g.L.Links.seat _ c.let_go-3.new.p in
     let a = c.args in
     let (s, w) = c.requires.hands in
-    let hands = goes_hands s v x a.at w.id _ c.let_go-3.ensures.let_go (goes_hands s u v a.first w.first_id _ c.let_go-2.ensures.let_go
-    (goes_hands s t u a.left w.left_id _ c.let_go.ensures.let_go w.hands)) in
+    let hands = goes_hands s _ x a.at w.id _ c.let_go-3.ensures.let_go (goes_hands s _ _ a.first w.first_id _ c.let_go-2.ensures.let_go
+    (goes_hands s _ _ a.left w.left_id _ c.let_go.ensures.let_go w.hands)) in
     first_held s x.slots a.next w.next_id _ hands
 
 pub returns-clause-gone : goal.returns-clause-gone
 returns-clause-gone g c = λ s w.
     let d = c.args.links.now in
-    let n = g.L.Links.numbers d in
-    let t = g.L.Links.seat d c.args.p.now in
-    let u = g.L.Links.seat d c.let_go.new.p in
-    let v = g.L.Links.seat d c.let_go-2.new.p in
-    let x = g.L.Links.seat d c.let_go-3.new.p in
-    let y = g.L.Links.seat d c.let_go-4.new.p in
     let a = c.args in
     let e = c.let_go.ensures in
     let f = c.let_go-2.ensures in
     let h = c.let_go-3.ensures in
-    four_go (ordering_of (g.met.K.Rank.ordered n)) s t u v x y a.left a.first a.at a.next w e.let_go f.let_go h.let_go c.let_go-4.ensures.let_go
+    four_go (ordering_of (g.met.K.Rank.ordered _)) s _ _ _ _ _ a.left a.first a.at a.next w e.let_go f.let_go h.let_go c.let_go-4.ensures.let_go
     (λ i k. g.met.L.Links.fresh_is d a.p.now i c.requires.pass k) (λ i k. g.met.L.Links.fresh_is d c.let_go.new.p i e.pass k)
     (λ i k. g.met.L.Links.fresh_is d c.let_go-2.new.p i f.pass k) (λ i k. g.met.L.Links.fresh_is d c.let_go-3.new.p i h.pass k)
-    (g.met.L.Links.allowed d c.let_go.new.p e.pass) (g.met.L.Links.allowed d c.let_go-2.new.p f.pass) (g.met.L.Links.allowed d c.let_go-3.new.p h.pass)
+    (g.met.L.Links.allowed _ _ e.pass) (g.met.L.Links.allowed _ _ f.pass) (g.met.L.Links.allowed _ _ h.pass)

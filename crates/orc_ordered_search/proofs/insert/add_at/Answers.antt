@@ -22,21 +22,18 @@ note_is g c = c.note-note.ensures ∙ ap (λ (i : ℕ). g.K.SetRank.noted (Added
 allows : (g : Over) (c : After-note-note g) → let d = c.args.links.now in let x = ordering_of (g.met.K.Rank.ordered (g.L.Links.numbers d)) in
     AllowsNode x.reading x.holds x.may (g.K.SetRank.key_rank c.args.key) c.args.key g.K.SetRank.key_kind (g.L.Links.seat d c.args.p.now).agent c.note-note.result
 allows g c =
-    let d = c.args.links.now in
-    let n = g.L.Links.numbers d in
-    let x = ordering_of (g.met.K.Rank.ordered n) in
-    let t = g.L.Links.seat d c.args.p.now in
+    let x = ordering_of (g.met.K.Rank.ordered _) in
+    let t = g.L.Links.seat _ c.args.p.now in
     subst (λ (z : g.row.K-Rule-Note.Denot). AllowsNode x.reading x.holds x.may (g.K.SetRank.key_rank c.args.key) c.args.key g.K.SetRank.key_kind t.agent z)
-    (sym (note_is g c)) (g.met.K.SetRank.allows_add n t.agent c.args.key)
+    (sym (note_is g c)) (g.met.K.SetRank.allows_add _ t.agent c.args.key)
 
 -- it enters the key
 enters : (g : Over) (c : After-note-note g) (agent : ℕ) → (g.L.Links.seat c.args.links.now c.args.p.now).agent ≡ agent
     → let r = reading_by (g.L.Links.numbers c.args.links.now) g.K.Rank.manner in r.entries_in (Some c.note-note.result) ≡ Added agent c.args.key true ∷ []
 enters g c = λ agent same.
-    let n = g.L.Links.numbers c.args.links.now in
-    let r = reading_by n g.K.Rank.manner in
+    let r = reading_by _ g.K.Rank.manner in
     ap (λ (z : g.row.K-Rule-Note.Denot). r.entries_in (Some z)) (note_is g c)
-    ∙ (g.met.K.SetRank.enters n _ ∙ ap (λ (i : ℕ). Added i c.args.key true ∷ []) same)
+    ∙ (g.met.K.SetRank.enters _ _ ∙ ap (λ (i : ℕ). Added i c.args.key true ∷ []) same)
 
 -- the node that was given
 new : (g : Over) (c : In-Ok g) → let d = c.args.links.now in
@@ -48,60 +45,55 @@ new g c =
 
 pub give-requires-clause-slot : goal.give-requires-clause-slot
 give-requires-clause-slot g c =
-    let d = c.args.links.now in
-    let x = ordering_of (g.met.K.Rank.ordered (g.L.Links.numbers d)) in
+    let x = ordering_of (g.met.K.Rank.ordered _) in
     (room_to_give x (g.K.SetRank.key_rank c.args.key) c.args.key g.K.SetRank.key_kind c.args.root c.args.passed c.note-note.result c.args.left c.args.first
-    c.args.right c.args.node (g.L.Links.seat d c.args.p.now) c.requires.sought c.requires.root.1
-    (allows g (goal.at.give-requires-clause-slot g c).After-note-note) (g.met.L.Links.allowed d c.args.p.now c.requires.pass) c.in_default.is).0
+    c.args.right c.args.node _ c.requires.sought c.requires.root.1
+    (allows g (goal.at.give-requires-clause-slot g c).After-note-note) (g.met.L.Links.allowed _ _ c.requires.pass) c.in_default.is).0
 
 pub give-requires-clause-no_other : goal.give-requires-clause-no_other
 give-requires-clause-no_other g c =
-    let d = c.args.links.now in
-    let x = ordering_of (g.met.K.Rank.ordered (g.L.Links.numbers d)) in
+    let x = ordering_of (g.met.K.Rank.ordered _) in
     (room_to_give x (g.K.SetRank.key_rank c.args.key) c.args.key g.K.SetRank.key_kind c.args.root c.args.passed c.note-note.result c.args.left c.args.first
-    c.args.right c.args.node (g.L.Links.seat d c.args.p.now) c.requires.sought c.requires.root.1
-    (allows g (goal.at.give-requires-clause-no_other g c).After-note-note) (g.met.L.Links.allowed d c.args.p.now c.requires.pass) c.in_default.is).1
+    c.args.right c.args.node _ c.requires.sought c.requires.root.1
+    (allows g (goal.at.give-requires-clause-no_other g c).After-note-note) (g.met.L.Links.allowed _ _ c.requires.pass) c.in_default.is).1
 
 pub add_node-linked-requires-clause-adds : goal.add_node-linked-requires-clause-adds
 add_node-linked-requires-clause-adds g c =
-    let d = c.args.links.now in
-    let x = ordering_of (g.met.K.Rank.ordered (g.L.Links.numbers d)) in
+    let x = ordering_of (g.met.K.Rank.ordered _) in
     let may = allows g (goal.at.add_node-linked-requires-clause-adds g c).After-note-note in
     in_hand x (g.K.SetRank.key_rank c.args.key) c.args.key g.K.SetRank.key_kind c.args.root c.args.passed c.note-note.result c.args.left c.args.first
-    c.args.right c.args.node (g.L.Links.seat d c.args.p.now) c.requires.sought c.requires.root.1 may (g.met.L.Links.allowed d c.args.p.now c.requires.pass)
+    c.args.right c.args.node _ c.requires.sought c.requires.root.1 may (g.met.L.Links.allowed _ _ c.requires.pass)
     c.in-Some.node c.in-Some.is
 
 pub returns-in-Some-clause-inserted : goal.returns-in-Some-clause-inserted
 returns-in-Some-clause-inserted g c = λ a.
     let d = c.args.links.now in
-    let x = ordering_of (g.met.K.Rank.ordered (g.L.Links.numbers d)) in
+    let x = ordering_of (g.met.K.Rank.ordered _) in
     let may = allows g (goal.at.returns-in-Some-clause-inserted g c).After-note-note in
     let there = hand_inserts x (g.K.SetRank.key_rank c.args.key) c.args.key g.K.SetRank.key_kind c.args.root c.args.passed c.note-note.result c.args.left c.args.first
-    c.args.right c.args.node (g.L.Links.seat d c.args.p.now) a c.requires.root.1 may (g.met.L.Links.allowed d c.args.p.now c.requires.pass)
-    c.in-Some.node c.in-Some.is (λ yes. Added a.begun.agent c.args.key yes) c.add_node-linked.result (g.L.Links.seat d c.add_node-linked.new.p)
+    c.args.right c.args.node _ a c.requires.root.1 may (g.met.L.Links.allowed _ _ c.requires.pass)
+    c.in-Some.node c.in-Some.is (λ yes. Added a.begun.agent c.args.key yes) c.add_node-linked.result _
     c.add_node-linked.ensures.added (enters g (goal.at.returns-in-Some-clause-inserted g c).After-note-note a.begun.agent a.finds.behind.quiet.puts.agent) in
     subst (λ (y : InsertTurn). Inserts x.reading c.args.key g.K.SetRank.key_kind (λ yes. Added a.begun.agent c.args.key yes) 1 a.slots c.args.node a.begun y
     (Some c.in-Some.node) (g.L.Links.seat d c.add_node-linked.new.p)) (sym c.turn_of.ensures) there
 
 pub returns-in-Some-clause-few : goal.returns-in-Some-clause-few
 returns-in-Some-clause-few g c = λ a.
-    let d = c.args.links.now in
-    let x = ordering_of (g.met.K.Rank.ordered (g.L.Links.numbers d)) in
+    let x = ordering_of (g.met.K.Rank.ordered _) in
     let may = allows g (goal.at.returns-in-Some-clause-few g c).After-note-note in
     hand_few x (g.K.SetRank.key_rank c.args.key) c.args.key g.K.SetRank.key_kind c.args.root c.args.passed c.note-note.result c.args.left c.args.first
-    c.args.right c.args.node (g.L.Links.seat d c.args.p.now) a c.requires.root.1 may (g.met.L.Links.allowed d c.args.p.now c.requires.pass)
-    c.in-Some.node c.in-Some.is c.add_node-linked.result (g.L.Links.seat d c.add_node-linked.new.p) c.add_node-linked.ensures.added
+    c.args.right c.args.node _ a c.requires.root.1 may (g.met.L.Links.allowed _ _ c.requires.pass)
+    c.in-Some.node c.in-Some.is c.add_node-linked.result _ c.add_node-linked.ensures.added
     c.add_node-linked.ensures.few
 
 pub returns-in-Some-clause-added : goal.returns-in-Some-clause-added
 returns-in-Some-clause-added g c = λ a many is.
-    let d = c.args.links.now in
-    let x = ordering_of (g.met.K.Rank.ordered (g.L.Links.numbers d)) in
+    let x = ordering_of (g.met.K.Rank.ordered _) in
     let may = allows g (goal.at.returns-in-Some-clause-added g c).After-note-note in
     let told = turn_true c.args.passed c.add_node-linked.result many (sym c.turn_of.ensures ∙ is) in
     hand_found x (g.K.SetRank.key_rank c.args.key) c.args.key g.K.SetRank.key_kind c.args.root c.args.passed c.note-note.result c.args.left c.args.first
-    c.args.right c.args.node (g.L.Links.seat d c.args.p.now) a c.requires.root.1 may (g.met.L.Links.allowed d c.args.p.now c.requires.pass)
-    c.in-Some.node c.in-Some.is _ many (g.L.Links.seat d c.add_node-linked.new.p)
+    c.args.right c.args.node _ a c.requires.root.1 may (g.met.L.Links.allowed _ _ c.requires.pass)
+    c.in-Some.node c.in-Some.is _ many _
     (note_is g (goal.at.returns-in-Some-clause-added g c).After-note-note) told.1 (λ k. c.add_node-linked.ensures.linked k told.0)
 
 pub returns-in-Some-clause-absent : goal.returns-in-Some-clause-absent
@@ -115,49 +107,46 @@ returns-in-Some-clause-worn g c = λ why is. c.add_node-linked.ensures.worn why 
 
 pub add_node-linked-requires-in-Ok-clause-adds : goal.add_node-linked-requires-in-Ok-clause-adds
 add_node-linked-requires-in-Ok-clause-adds g c =
-    let d = c.args.links.now in
-    let x = ordering_of (g.met.K.Rank.ordered (g.L.Links.numbers d)) in
+    let x = ordering_of (g.met.K.Rank.ordered _) in
     let may = allows g (goal.at.add_node-linked-requires-in-Ok-clause-adds g c).After-note-note in
     node_given x (g.K.SetRank.key_rank c.args.key) c.args.key g.K.SetRank.key_kind c.args.root c.args.passed c.note-note.result c.args.left c.args.first
-    c.args.right c.args.node (g.L.Links.seat d c.args.p.now) c.requires.sought c.requires.root.1 may (g.met.L.Links.allowed d c.args.p.now c.requires.pass)
-    (g.L.Links.seat d c.give.new.p) c.in_default.is (g.met.L.Links.allowed d c.give.new.p c.in-Ok.ensures.pass)
+    c.args.right c.args.node _ c.requires.sought c.requires.root.1 may (g.met.L.Links.allowed _ _ c.requires.pass)
+    _ c.in_default.is (g.met.L.Links.allowed _ _ c.in-Ok.ensures.pass)
     c.in-Ok.node (new g (goal.at.add_node-linked-requires-in-Ok-clause-adds g c).In-Ok)
 
 pub returns-in-Ok-clause-inserted : goal.returns-in-Ok-clause-inserted
 returns-in-Ok-clause-inserted g c = λ a.
     let d = c.args.links.now in
-    let x = ordering_of (g.met.K.Rank.ordered (g.L.Links.numbers d)) in
+    let x = ordering_of (g.met.K.Rank.ordered _) in
     let may = allows g (goal.at.returns-in-Ok-clause-inserted g c).After-note-note in
     let there = given_inserts x (g.K.SetRank.key_rank c.args.key) c.args.key g.K.SetRank.key_kind c.args.root c.args.passed c.note-note.result c.args.left c.args.first
-    c.args.right c.args.node (g.L.Links.seat d c.args.p.now) a c.requires.root.1 may (g.met.L.Links.allowed d c.args.p.now c.requires.pass)
-    (g.L.Links.seat d c.give.new.p) c.in_default.is (g.met.L.Links.allowed d c.give.new.p c.in-Ok.ensures.pass)
+    c.args.right c.args.node _ a c.requires.root.1 may (g.met.L.Links.allowed _ _ c.requires.pass)
+    _ c.in_default.is (g.met.L.Links.allowed _ _ c.in-Ok.ensures.pass)
     c.in-Ok.node (new g (goal.at.returns-in-Ok-clause-inserted g c).In-Ok) (λ yes. Added a.begun.agent c.args.key yes) c.add_node-linked-in-Ok.result
-    (g.L.Links.seat d c.add_node-linked-in-Ok.new.p) c.add_node-linked-in-Ok.ensures.added
+    _ c.add_node-linked-in-Ok.ensures.added
     (enters g (goal.at.returns-in-Ok-clause-inserted g c).After-note-note a.begun.agent a.finds.behind.quiet.puts.agent) in
     subst (λ (y : InsertTurn). Inserts x.reading c.args.key g.K.SetRank.key_kind (λ yes. Added a.begun.agent c.args.key yes) 1 a.slots c.args.node a.begun y
     (Some c.in-Ok.node) (g.L.Links.seat d c.add_node-linked-in-Ok.new.p)) (sym c.turn_of-in-Ok.ensures) there
 
 pub returns-in-Ok-clause-few : goal.returns-in-Ok-clause-few
 returns-in-Ok-clause-few g c = λ a.
-    let d = c.args.links.now in
-    let x = ordering_of (g.met.K.Rank.ordered (g.L.Links.numbers d)) in
+    let x = ordering_of (g.met.K.Rank.ordered _) in
     let may = allows g (goal.at.returns-in-Ok-clause-few g c).After-note-note in
     given_few x (g.K.SetRank.key_rank c.args.key) c.args.key g.K.SetRank.key_kind c.args.root c.args.passed c.note-note.result c.args.left c.args.first
-    c.args.right c.args.node (g.L.Links.seat d c.args.p.now) a c.requires.root.1 may (g.met.L.Links.allowed d c.args.p.now c.requires.pass)
-    (g.L.Links.seat d c.give.new.p) c.in_default.is (g.met.L.Links.allowed d c.give.new.p c.in-Ok.ensures.pass)
-    c.in-Ok.node (new g (goal.at.returns-in-Ok-clause-few g c).In-Ok) c.add_node-linked-in-Ok.result (g.L.Links.seat d c.add_node-linked-in-Ok.new.p)
+    c.args.right c.args.node _ a c.requires.root.1 may (g.met.L.Links.allowed _ _ c.requires.pass)
+    _ c.in_default.is (g.met.L.Links.allowed _ _ c.in-Ok.ensures.pass)
+    c.in-Ok.node (new g (goal.at.returns-in-Ok-clause-few g c).In-Ok) c.add_node-linked-in-Ok.result _
     c.add_node-linked-in-Ok.ensures.added c.add_node-linked-in-Ok.ensures.few
 
 pub returns-in-Ok-clause-added : goal.returns-in-Ok-clause-added
 returns-in-Ok-clause-added g c = λ a many is.
-    let d = c.args.links.now in
-    let x = ordering_of (g.met.K.Rank.ordered (g.L.Links.numbers d)) in
+    let x = ordering_of (g.met.K.Rank.ordered _) in
     let may = allows g (goal.at.returns-in-Ok-clause-added g c).After-note-note in
     let told = turn_true c.args.passed c.add_node-linked-in-Ok.result many (sym c.turn_of-in-Ok.ensures ∙ is) in
     given_found x (g.K.SetRank.key_rank c.args.key) c.args.key g.K.SetRank.key_kind c.args.root c.args.passed c.note-note.result c.args.left c.args.first
-    c.args.right c.args.node (g.L.Links.seat d c.args.p.now) a c.requires.root.1 may (g.met.L.Links.allowed d c.args.p.now c.requires.pass)
-    (g.L.Links.seat d c.give.new.p) c.in_default.is (g.met.L.Links.allowed d c.give.new.p c.in-Ok.ensures.pass)
-    c.in-Ok.node (new g (goal.at.returns-in-Ok-clause-added g c).In-Ok) _ many (g.L.Links.seat d c.add_node-linked-in-Ok.new.p)
+    c.args.right c.args.node _ a c.requires.root.1 may (g.met.L.Links.allowed _ _ c.requires.pass)
+    _ c.in_default.is (g.met.L.Links.allowed _ _ c.in-Ok.ensures.pass)
+    c.in-Ok.node (new g (goal.at.returns-in-Ok-clause-added g c).In-Ok) _ many _
     (note_is g (goal.at.returns-in-Ok-clause-added g c).After-note-note) told.1 (λ k. c.add_node-linked-in-Ok.ensures.linked k told.0)
 
 pub returns-in-Ok-clause-absent : goal.returns-in-Ok-clause-absent
@@ -170,71 +159,66 @@ pub returns-in-Ok-clause-worn : goal.returns-in-Ok-clause-worn
 returns-in-Ok-clause-worn g c = λ why is.
     let d = c.args.links.now in
     let t = g.L.Links.seat d c.args.p.now in
-    let j = g.L.Links.journal c.args.p.now in
     let k = g.L.Links.journal c.give.new.p in
     let m = g.L.Links.journal c.add_node-linked-in-Ok.new.p in
     let e = c.in-Ok.ensures in
     let w = c.add_node-linked-in-Ok.ensures.worn why (turn_spent c.args.passed c.add_node-linked-in-Ok.result why (sym c.turn_of-in-Ok.ensures ∙ is)) in
     let there = subst (λ (x : ℕ). Within (length k) (length m) (g.L.Links.worn d x why m)) e.given.puts.agent w in
-    within_wider (g.L.Links.worn d t.agent why) j k m m (λ xs more from to h. g.met.L.Links.worn_stays d t.agent why xs more from to h) e.later
+    within_wider (g.L.Links.worn d t.agent why) _ k m m (λ xs more from to h. g.met.L.Links.worn_stays d t.agent why xs more from to h) e.later
     ([], append-nil m) there
 
 pub let_all_go-requires-clause-hands : goal.let_all_go-requires-clause-hands
 let_all_go-requires-clause-hands g c =
-    let d = c.args.links.now in
-    let x = ordering_of (g.met.K.Rank.ordered (g.L.Links.numbers d)) in
+    let x = ordering_of (g.met.K.Rank.ordered _) in
     let may = allows g (goal.at.let_all_go-requires-clause-hands g c).After-note-note in
     let a = c.requires.sought in (
       a.begun.slots,
       lacking_hand x (g.K.SetRank.key_rank c.args.key) c.args.key g.K.SetRank.key_kind c.args.root c.args.passed c.note-note.result c.args.left c.args.first
-          c.args.right c.args.node (g.L.Links.seat d c.args.p.now) a c.requires.root.1 may (g.met.L.Links.allowed d c.args.p.now c.requires.pass)
-          (g.L.Links.seat d c.give.new.p) c.in_default.is (g.met.L.Links.allowed d c.give.new.p c.in-Err.ensures.pass) c.in-Err.ensures.none,
+          c.args.right c.args.node _ a c.requires.root.1 may (g.met.L.Links.allowed _ _ c.requires.pass)
+          _ c.in_default.is (g.met.L.Links.allowed _ _ c.in-Err.ensures.pass) c.in-Err.ensures.none,
     )
 
 pub returns-in-Err-clause-inserted : goal.returns-in-Err-clause-inserted
 returns-in-Err-clause-inserted g c = λ a.
-    let d = c.args.links.now in
-    let x = ordering_of (g.met.K.Rank.ordered (g.L.Links.numbers d)) in
+    let x = ordering_of (g.met.K.Rank.ordered _) in
     let may = allows g (goal.at.returns-in-Err-clause-inserted g c).After-note-note in
     let hand = lacking_hand x (g.K.SetRank.key_rank c.args.key) c.args.key g.K.SetRank.key_kind c.args.root c.args.passed c.note-note.result c.args.left c.args.first
-    c.args.right c.args.node (g.L.Links.seat d c.args.p.now) a c.requires.root.1 may (g.met.L.Links.allowed d c.args.p.now c.requires.pass)
-    (g.L.Links.seat d c.give.new.p) c.in_default.is (g.met.L.Links.allowed d c.give.new.p c.in-Err.ensures.pass) c.in-Err.ensures.none in
+    c.args.right c.args.node _ a c.requires.root.1 may (g.met.L.Links.allowed _ _ c.requires.pass)
+    _ c.in_default.is (g.met.L.Links.allowed _ _ c.in-Err.ensures.pass) c.in-Err.ensures.none in
     let gone = c.let_all_go.ensures.gone a.begun.slots hand in
     lacking_inserts x (g.K.SetRank.key_rank c.args.key) c.args.key g.K.SetRank.key_kind c.args.root c.args.passed c.note-note.result c.args.left c.args.first
-    c.args.right c.args.node (g.L.Links.seat d c.args.p.now) a c.requires.root.1 may (g.met.L.Links.allowed d c.args.p.now c.requires.pass)
-    (g.L.Links.seat d c.give.new.p) c.in_default.is (g.met.L.Links.allowed d c.give.new.p c.in-Err.ensures.pass)
-    (λ yes. Added a.begun.agent c.args.key yes) (g.L.Links.seat d c.let_all_go.new.p) c.in-Err.ensures.none gone
+    c.args.right c.args.node _ a c.requires.root.1 may (g.met.L.Links.allowed _ _ c.requires.pass)
+    _ c.in_default.is (g.met.L.Links.allowed _ _ c.in-Err.ensures.pass)
+    (λ yes. Added a.begun.agent c.args.key yes) _ c.in-Err.ensures.none gone
 
 pub returns-in-Err-clause-few : goal.returns-in-Err-clause-few
 returns-in-Err-clause-few g c = λ a.
-    let d = c.args.links.now in
-    let x = ordering_of (g.met.K.Rank.ordered (g.L.Links.numbers d)) in
+    let x = ordering_of (g.met.K.Rank.ordered _) in
     let may = allows g (goal.at.returns-in-Err-clause-few g c).After-note-note in
     let hand = lacking_hand x (g.K.SetRank.key_rank c.args.key) c.args.key g.K.SetRank.key_kind c.args.root c.args.passed c.note-note.result c.args.left c.args.first
-    c.args.right c.args.node (g.L.Links.seat d c.args.p.now) a c.requires.root.1 may (g.met.L.Links.allowed d c.args.p.now c.requires.pass)
-    (g.L.Links.seat d c.give.new.p) c.in_default.is (g.met.L.Links.allowed d c.give.new.p c.in-Err.ensures.pass) c.in-Err.ensures.none in
+    c.args.right c.args.node _ a c.requires.root.1 may (g.met.L.Links.allowed _ _ c.requires.pass)
+    _ c.in_default.is (g.met.L.Links.allowed _ _ c.in-Err.ensures.pass) c.in-Err.ensures.none in
     let gone = c.let_all_go.ensures.gone a.begun.slots hand in
     let few = (lacking_sees x (g.K.SetRank.key_rank c.args.key) c.args.key g.K.SetRank.key_kind c.args.root c.args.passed c.note-note.result c.args.left c.args.first
-    c.args.right c.args.node (g.L.Links.seat d c.args.p.now) a c.requires.root.1 may (g.met.L.Links.allowed d c.args.p.now c.requires.pass)
-    (g.L.Links.seat d c.give.new.p) c.in_default.is (g.met.L.Links.allowed d c.give.new.p c.in-Err.ensures.pass)
-    (g.L.Links.seat d c.let_all_go.new.p) c.in-Err.ensures.none gone
-    (g.met.L.Links.allowed d c.let_all_go.new.p c.let_all_go.ensures.pass)).1 in
+    c.args.right c.args.node _ a c.requires.root.1 may (g.met.L.Links.allowed _ _ c.requires.pass)
+    _ c.in_default.is (g.met.L.Links.allowed _ _ c.in-Err.ensures.pass)
+    _ c.in-Err.ensures.none gone
+    (g.met.L.Links.allowed _ _ c.let_all_go.ensures.pass)).1 in
     λ ids covers. omega (arith, few ids covers)
 
 pub returns-in-Err-clause-absent : goal.returns-in-Err-clause-absent
 returns-in-Err-clause-absent g c = λ a is.
-    let d = c.args.links.now in
-    let x = ordering_of (g.met.K.Rank.ordered (g.L.Links.numbers d)) in
+    let x = ordering_of (g.met.K.Rank.ordered _) in
     let may = allows g (goal.at.returns-in-Err-clause-absent g c).After-note-note in
     let hand = lacking_hand x (g.K.SetRank.key_rank c.args.key) c.args.key g.K.SetRank.key_kind c.args.root c.args.passed c.note-note.result c.args.left c.args.first
-    c.args.right c.args.node (g.L.Links.seat d c.args.p.now) a c.requires.root.1 may (g.met.L.Links.allowed d c.args.p.now c.requires.pass)
-    (g.L.Links.seat d c.give.new.p) c.in_default.is (g.met.L.Links.allowed d c.give.new.p c.in-Err.ensures.pass) c.in-Err.ensures.none in
+    c.args.right c.args.node _ a c.requires.root.1 may (g.met.L.Links.allowed _ _ c.requires.pass)
+    _ c.in_default.is (g.met.L.Links.allowed _ _ c.in-Err.ensures.pass) c.in-Err.ensures.none in
     let gone = c.let_all_go.ensures.gone a.begun.slots hand in
     (lacking_sees x (g.K.SetRank.key_rank c.args.key) c.args.key g.K.SetRank.key_kind c.args.root c.args.passed c.note-note.result c.args.left c.args.first
-    c.args.right c.args.node (g.L.Links.seat d c.args.p.now) a c.requires.root.1 may (g.met.L.Links.allowed d c.args.p.now c.requires.pass)
-    (g.L.Links.seat d c.give.new.p) c.in_default.is (g.met.L.Links.allowed d c.give.new.p c.in-Err.ensures.pass)
-    (g.L.Links.seat d c.let_all_go.new.p) c.in-Err.ensures.none gone
-    (g.met.L.Links.allowed d c.let_all_go.new.p c.let_all_go.ensures.pass)).0
+    c.args.right c.args.node _ a c.requires.root.1 may (g.met.L.Links.allowed _ _ c.requires.pass)
+    _ c.in_default.is (g.met.L.Links.allowed _ _ c.in-Err.ensures.pass)
+    _ c.in-Err.ensures.none gone
+    (g.met.L.Links.allowed _ _ c.let_all_go.ensures.pass)).0
 
 pub returns-in-Err-clause-added : goal.returns-in-Err-clause-added
 returns-in-Err-clause-added g c = λ a many is. cc
@@ -246,10 +230,7 @@ pub returns-in-Err-clause-lacking : goal.returns-in-Err-clause-lacking
 returns-in-Err-clause-lacking g c = λ is.
     let d = c.args.links.now in
     let t = g.L.Links.seat d c.args.p.now in
-    let j = g.L.Links.journal c.args.p.now in
-    let k = g.L.Links.journal c.give.new.p in
-    let o = g.L.Links.journal c.let_all_go.new.p in
     let e = c.in-Err.ensures in
-    within_wider (g.L.Links.lacking d t.agent) j j k o (λ xs more from to h. g.met.L.Links.lacking_stays d t.agent xs more from to h) ([], append-nil j)
+    within_wider (g.L.Links.lacking d t.agent) _ _ _ _ (λ xs more from to h. g.met.L.Links.lacking_stays d t.agent xs more from to h) ([], append-nil _)
     c.let_all_go.ensures.later
-    (part_fact g.L.Links.agent_of t.agent j k (g.L.Links.lacking d t.agent k) e.later e.lacking)
+    (part_fact g.L.Links.agent_of t.agent _ _ (g.L.Links.lacking d t.agent _) e.later e.lacking)

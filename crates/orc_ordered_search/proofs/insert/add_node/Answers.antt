@@ -17,11 +17,10 @@ hands : (g : Over) (c : After-link_node-linked g) → let d = c.args.links.now i
     (a : NodeToAdd x.reading x.holds x.may c.args.root c.args.note c.args.left c.args.first c.args.right c.args.node.now (g.L.Links.seat d c.args.p.now))
     → InHand x.reading a.slots c.args.left c.args.first c.args.right None (g.L.Links.seat d c.link_node-linked.new.p)
 hands g c = λ a.
-    let d = c.args.links.now in
     let e = c.link_node-linked.ensures in
-    links_hand (ordering_of (g.met.K.Rank.ordered (g.L.Links.numbers d))) a.start a.wanted a.value a.kind c.args.left c.args.first c.args.right c.args.node.now
-    a.given a.slots a.begun (g.L.Links.seat d c.args.p.now) a.at c.args.note (g.L.Links.seat d c.link_node-linked.new.p) c.link_node-linked.result (e.linked a)
-    (g.met.L.Links.allowed d c.link_node-linked.new.p e.pass)
+    links_hand (ordering_of (g.met.K.Rank.ordered _)) a.start a.wanted a.value a.kind c.args.left c.args.first c.args.right c.args.node.now
+    a.given a.slots a.begun _ a.at c.args.note _ c.link_node-linked.result (e.linked a)
+    (g.met.L.Links.allowed _ _ e.pass)
 
 pub let_all_go-requires-clause-hands : goal.let_all_go-requires-clause-hands
 let_all_go-requires-clause-hands g c =
@@ -29,28 +28,25 @@ let_all_go-requires-clause-hands g c =
 
 pub returns-clause-added : goal.returns-clause-added
 returns-clause-added g c = λ a.
-    let d = c.args.links.now in
     let e = c.link_node-linked.ensures in
     let f = c.let_all_go.ensures in
-    links_on (ordering_of (g.met.K.Rank.ordered (g.L.Links.numbers d))) a.start a.wanted a.value a.kind c.args.left c.args.first c.args.right c.args.node.now
-    a.given a.slots a.begun (g.L.Links.seat d c.args.p.now) a.at c.args.note (g.L.Links.seat d c.link_node-linked.new.p) (g.L.Links.seat d c.let_all_go.new.p)
+    links_on (ordering_of (g.met.K.Rank.ordered _)) a.start a.wanted a.value a.kind c.args.left c.args.first c.args.right c.args.node.now
+    a.given a.slots a.begun _ a.at c.args.note _ _
     c.link_node-linked.result (e.linked a) (f.gone a.slots (hands g (goal.at.returns-clause-added g c).After-link_node-linked a))
-    (g.met.L.Links.obeys d c.link_node-linked.new.p e.pass) (g.met.L.Links.allowed d c.link_node-linked.new.p e.pass)
-    (g.met.L.Links.allowed d c.let_all_go.new.p f.pass)
+    (g.met.L.Links.obeys _ _ e.pass) (g.met.L.Links.allowed _ _ e.pass)
+    (g.met.L.Links.allowed _ _ f.pass)
 
 pub returns-clause-few : goal.returns-clause-few
 returns-clause-few g c = λ a.
-    let d = c.args.links.now in
-    links_few (ordering_of (g.met.K.Rank.ordered (g.L.Links.numbers d))) a.start a.wanted a.value a.kind c.args.left c.args.first c.args.right c.args.node.now
-    a.given a.slots a.begun (g.L.Links.seat d c.args.p.now) a.at c.args.note (g.L.Links.seat d c.link_node-linked.new.p) (g.L.Links.seat d c.let_all_go.new.p)
+    links_few (ordering_of (g.met.K.Rank.ordered _)) a.start a.wanted a.value a.kind c.args.left c.args.first c.args.right c.args.node.now
+    a.given a.slots a.begun _ a.at c.args.note _ _
     c.link_node-linked.result (c.link_node-linked.ensures.linked a)
     (c.let_all_go.ensures.gone a.slots (hands g (goal.at.returns-clause-few g c).After-link_node-linked a))
 
 pub returns-clause-linked : goal.returns-clause-linked
 returns-clause-linked g c = λ a is.
-    let d = c.args.links.now in
-    links_gone (ordering_of (g.met.K.Rank.ordered (g.L.Links.numbers d))) a.start a.wanted a.value a.kind c.args.left c.args.first c.args.right c.args.node.now
-    a.given a.slots a.begun (g.L.Links.seat d c.args.p.now) a.at c.args.note (g.L.Links.seat d c.link_node-linked.new.p) (g.L.Links.seat d c.let_all_go.new.p)
+    links_gone (ordering_of (g.met.K.Rank.ordered _)) a.start a.wanted a.value a.kind c.args.left c.args.first c.args.right c.args.node.now
+    a.given a.slots a.begun _ a.at c.args.note _ _
     c.link_node-linked.result (c.link_node-linked.ensures.linked a)
     (c.let_all_go.ensures.gone a.slots (hands g (goal.at.returns-clause-linked g c).After-link_node-linked a)) is
 
@@ -60,9 +56,8 @@ returns-clause-worn g c = λ why is.
     let t = g.L.Links.seat d c.args.p.now in
     let j = g.L.Links.journal c.args.p.now in
     let k = g.L.Links.journal c.link_node-linked.new.p in
-    let o = g.L.Links.journal c.let_all_go.new.p in
     let e = c.link_node-linked.ensures in
     let worn : Within (length j) (length k) (g.L.Links.worn d t.agent why k) = subst
     (λ (r : Result Bool Spent). IfErr r (λ x. Within (length j) (length k) (g.L.Links.worn d t.agent x k))) is e.worn in
-    within_wider (g.L.Links.worn d t.agent why) j j k o (λ xs more from to h. g.met.L.Links.worn_stays d t.agent why xs more from to h) ([], append-nil j)
+    within_wider (g.L.Links.worn d t.agent why) j j k _ (λ xs more from to h. g.met.L.Links.worn_stays d t.agent why xs more from to h) ([], append-nil j)
     c.let_all_go.ensures.later worn

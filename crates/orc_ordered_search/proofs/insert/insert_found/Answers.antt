@@ -14,18 +14,15 @@ use Rattle.orc_ordered_search.proofs.insert.insert_found.Goals as goal
 
 pub returns-in-Over-clause-inserted : goal.returns-in-Over-clause-inserted
 returns-in-Over-clause-inserted g c = λ a.
-    let d = c.args.links.now in
-    let n = g.L.Links.numbers d in
-    let x = ordering_of (g.met.K.Rank.ordered n) in
-    let t = g.L.Links.seat d c.args.p.now in
-    let over = found_over x.reading a.begun t (sought_at c.in-Over.is a).finds.0 in
-    let all = g.met.L.Links.allowed d c.args.p.now c.requires.pass in
-    keeps_on x c.args.key g.K.SetRank.key_kind c.args.node a.slots a.begun t a.keeps over (seen_holds x a.begun t over.own over.over.made.puts all) all
+    let x = ordering_of (g.met.K.Rank.ordered _) in
+    let over = found_over x.reading a.begun _ (sought_at c.in-Over.is a).finds.0 in
+    let all = g.met.L.Links.allowed _ _ c.requires.pass in
+    keeps_on x c.args.key g.K.SetRank.key_kind c.args.node a.slots a.begun _ a.keeps over (seen_holds x a.begun _ over.own over.over.made.puts all) all
 
 pub returns-in-Over-clause-few : goal.returns-in-Over-clause-few
 returns-in-Over-clause-few g c = λ a.
     let (f, few) = (sought_at c.in-Over.is a).finds in
-    let t = g.L.Links.seat c.args.links.now c.args.p.now in
+    let t = g.L.Links.seat _ c.args.p.now in
     few_made 4 (4 + 3 * gives_in (made_from a.begun t)) a.begun t f.own f.quiet.puts few (omega arith)
 
 pub add_at-requires-clause-sought : goal.add_at-requires-clause-sought
@@ -59,9 +56,8 @@ enter_present-requires-clause-present g c =
 
 pub returns-then-enter_present-clause-inserted : goal.returns-then-enter_present-clause-inserted
 returns-then-enter_present-clause-inserted g c = λ a.
-    let d = c.args.links.now in
-    let r = reading_by (g.L.Links.numbers d) g.K.Rank.manner in
-    let u = g.L.Links.seat d c.enter_present.new.p in
+    let r = reading_by _ g.K.Rank.manner in
+    let u = g.L.Links.seat _ c.enter_present.new.p in
     let f = (sought_at c.in-Present.is a).finds in
     let done = (c.if-enter_present.ensures.entered a.start c.in-Present.passed a.begun f).0 in
     keeps_answer r c.args.key g.K.SetRank.key_kind c.args.node a.slots (Added a.begun.agent c.args.key false) a.begun u a.keeps
@@ -71,23 +67,20 @@ pub returns-then-enter_present-clause-few : goal.returns-then-enter_present-clau
 returns-then-enter_present-clause-few g c = λ a.
     let f = (sought_at c.in-Present.is a).finds in
     let (done, few) = c.if-enter_present.ensures.entered a.start c.in-Present.passed a.begun f in
-    let u = g.L.Links.seat c.args.links.now c.enter_present.new.p in
+    let u = g.L.Links.seat _ c.enter_present.new.p in
     few_made 3 (4 + 3 * gives_in (made_from a.begun u)) a.begun u done.own done.made.puts few (omega arith)
 
 pub returns-else-enter_present-clause-inserted : goal.returns-else-enter_present-clause-inserted
 returns-else-enter_present-clause-inserted g c = λ a.
-    let d = c.args.links.now in
-    let n = g.L.Links.numbers d in
-    let x = ordering_of (g.met.K.Rank.ordered n) in
-    let u = g.L.Links.seat d c.enter_present.new.p in
+    let x = ordering_of (g.met.K.Rank.ordered _) in
     let f = (sought_at c.in-Present.is a).finds in
     let over = (c.if-enter_present.ensures.entered a.start c.in-Present.passed a.begun f).0 in
-    let all = g.met.L.Links.allowed d c.enter_present.new.p c.enter_present.ensures.pass in
-    keeps_on x c.args.key g.K.SetRank.key_kind c.args.node a.slots a.begun u a.keeps over (seen_holds x a.begun u over.own over.over.made.puts all) all
+    let all = g.met.L.Links.allowed _ _ c.enter_present.ensures.pass in
+    keeps_on x c.args.key g.K.SetRank.key_kind c.args.node a.slots a.begun _ a.keeps over (seen_holds x a.begun _ over.own over.over.made.puts all) all
 
 pub returns-else-enter_present-clause-few : goal.returns-else-enter_present-clause-few
 returns-else-enter_present-clause-few g c = λ a.
     let f = (sought_at c.in-Present.is a).finds in
     let (over, few) = c.if-enter_present.ensures.entered a.start c.in-Present.passed a.begun f in
-    let u = g.L.Links.seat c.args.links.now c.enter_present.new.p in
+    let u = g.L.Links.seat _ c.enter_present.new.p in
     few_made 3 (4 + 3 * gives_in (made_from a.begun u)) a.begun u over.own over.over.made.puts few (omega arith)

@@ -21,12 +21,10 @@ use Rattle.orc_ordered_search.proofs.insert.link_node.Goals as goal
 only : (g : Over) (c : In_ok-aim g) → let d = c.args.links.now in let a = c.requires.adds in let s = g.L.Links.seat d c.args.p.now in
     Only (event_of s (Aim a.at.id (node_of c.args.right.now a.at.right_id)) None ∷ []) s (g.L.Links.seat d c.aim.new.p)
 only g c =
-    let d = c.args.links.now in
     let a = c.requires.adds in
-    let x = ordering_of (g.met.K.Rank.ordered (g.L.Links.numbers d)) in
-    let s = g.L.Links.seat d c.args.p.now in
-    aim_only s (g.L.Links.seat d c.aim.new.p) c.args.node.now a.at.id c.args.right.now _ _ c.node_in.ensures
-    (adds_right x a.start a.wanted a.value a.kind c.args.left.now c.args.first.now c.args.right.now c.args.node.now a.given a.slots a.begun s a.at)
+    let x = ordering_of (g.met.K.Rank.ordered _) in
+    aim_only _ _ c.args.node.now a.at.id c.args.right.now _ _ c.node_in.ensures
+    (adds_right x a.start a.wanted a.value a.kind c.args.left.now c.args.first.now c.args.right.now c.args.node.now a.given a.slots a.begun _ a.at)
     a.at.holds.held c.in_ok-aim.ensures.aimed
 
 -- the target isn't the node
@@ -42,22 +40,20 @@ place_is : (g : Over) (c : In_ok-aim g) (after : Slots) → after ≡ (g.L.Links
     let a = c.requires.adds in let x = ordering_of (g.met.K.Rank.ordered (g.L.Links.numbers d)) in
     place_at after c.args.root c.args.left.now ≡ left_place (x.reading.order.root a.wanted) c.args.left.now a.at.left_id
 place_is g c = λ after same.
-    let d = c.args.links.now in
     let a = c.requires.adds in
-    let x = ordering_of (g.met.K.Rank.ordered (g.L.Links.numbers d)) in
-    let s = g.L.Links.seat d c.args.p.now in
+    let x = ordering_of (g.met.K.Rank.ordered _) in
+    let s = g.L.Links.seat _ c.args.p.now in
     ap (λ (z : Slots). place_at z c.args.root c.args.left.now) same ∙ (ap (λ (r : ℕ). place_at s.slots r c.args.left.now) a.root_is
     ∙ adds_place x a.start a.wanted a.value a.kind c.args.left.now c.args.first.now c.args.right.now c.args.node.now a.given a.slots a.begun s a.at)
 
 link_is : (g : Over) (c : In_ok-aim g) (after : Slots) → after ≡ (g.L.Links.seat c.args.links.now c.args.p.now).slots
     → link_over (target_at after (first_or c.args.first.now c.args.right.now)) ≡ c.requires.adds.at.leads.from
 link_is g c = λ after same.
-    let d = c.args.links.now in
     let a = c.requires.adds in
-    let x = ordering_of (g.met.K.Rank.ordered (g.L.Links.numbers d)) in
+    let x = ordering_of (g.met.K.Rank.ordered _) in
     ap (λ (z : Slots). link_over (target_at z (first_or c.args.first.now c.args.right.now))) same
     ∙ adds_link x a.start a.wanted a.value a.kind c.args.left.now c.args.first.now c.args.right.now c.args.node.now a.given a.slots a.begun
-    (g.L.Links.seat d c.args.p.now) a.at
+    _ a.at
 
 pub aim-requires-clause-fresh : goal.aim-requires-clause-fresh
 aim-requires-clause-fresh g c =
@@ -70,7 +66,7 @@ pub aim-requires-clause-target : goal.aim-requires-clause-target
 aim-requires-clause-target g c =
     let d = c.args.links.now in
     let a = c.requires.adds in
-    let x = ordering_of (g.met.K.Rank.ordered (g.L.Links.numbers d)) in
+    let x = ordering_of (g.met.K.Rank.ordered _) in
     let s = g.L.Links.seat d c.args.p.now in
     let held = adds_held x a.start a.wanted a.value a.kind c.args.left.now c.args.first.now c.args.right.now c.args.node.now a.given a.slots a.begun s a.at in
     let right = adds_right x a.start a.wanted a.value a.kind c.args.left.now c.args.first.now c.args.right.now c.args.node.now a.given a.slots a.begun s a.at in
@@ -82,29 +78,23 @@ aim-requires-clause-allowed g c = λ more later fits. g.met.K.SetRank.allows_aim
 
 pub returns-in_err-aim-clause-linked : goal.returns-in_err-aim-clause-linked
 returns-in_err-aim-clause-linked g c = λ a.
-    let d = c.args.links.now in
-    let x = ordering_of (g.met.K.Rank.ordered (g.L.Links.numbers d)) in
+    let x = ordering_of (g.met.K.Rank.ordered _) in
     let r = err_from_is_err_and c.from_residual.result c.from_residual.ensures.1 in
-    rw r.1 (aim_refused x (g.L.Links.seat d c.args.p.now) (g.L.Links.seat d c.aim.new.p) c.in_err-aim.ensures.none)
+    rw r.1 (aim_refused x _ _ c.in_err-aim.ensures.none)
 
 pub returns-in_err-aim-clause-worn : goal.returns-in_err-aim-clause-worn
 returns-in_err-aim-clause-worn g c =
-    let d = c.args.links.now in
-    let s = g.L.Links.seat d c.args.p.now in
-    let j = g.L.Links.journal c.args.p.now in
-    let k = g.L.Links.journal c.aim.new.p in
+    let s = g.L.Links.seat _ c.args.p.now in
     let e = c.in_err-aim.ensures in
     let r = err_from_is_err_and c.from_residual.result c.from_residual.ensures.1 in
-    rw (r.1, r.2) (part_fact g.L.Links.agent_of s.agent j k (g.L.Links.worn d s.agent c.in_err-aim.field-0.0 k) e.later e.worn)
+    rw (r.1, r.2) (part_fact g.L.Links.agent_of s.agent _ _ (g.L.Links.worn _ s.agent c.in_err-aim.field-0.0 _) e.later e.worn)
 
 pub swing-requires-clause-place : goal.swing-requires-clause-place
 swing-requires-clause-place g c =
-    let d = c.args.links.now in
     let a = c.requires.adds in
-    let x = ordering_of (g.met.K.Rank.ordered (g.L.Links.numbers d)) in
-    let s = g.L.Links.seat d c.args.p.now in
-    let held = adds_held x a.start a.wanted a.value a.kind c.args.left.now c.args.first.now c.args.right.now c.args.node.now a.given a.slots a.begun s a.at in
-    c.place_of.ensures.held _ (g.L.Links.seat d c.aim.new.p).slots c.requires.root
+    let x = ordering_of (g.met.K.Rank.ordered _) in
+    let held = adds_held x a.start a.wanted a.value a.kind c.args.left.now c.args.first.now c.args.right.now c.args.node.now a.given a.slots a.begun _ a.at in
+    c.place_of.ensures.held _ (g.L.Links.seat _ c.aim.new.p).slots c.requires.root
     (subst (λ (z : Slots). HoldsIfAny z c.args.left.now) (sym c.in_ok-aim.ensures.aimed.slots) held.0)
 
 pub swing-requires-clause-linked : goal.swing-requires-clause-linked
@@ -112,24 +102,22 @@ swing-requires-clause-linked g c =
     let at = (goal.at.swing-requires-clause-linked g c).In_ok-aim in
     let d = c.args.links.now in
     let a = c.requires.adds in
-    let x = ordering_of (g.met.K.Rank.ordered (g.L.Links.numbers d)) in
-    let s = g.L.Links.seat d c.args.p.now in
+    let x = ordering_of (g.met.K.Rank.ordered _) in
     let t = g.L.Links.seat d c.aim.new.p in
     let o = only g at in
     let e = c.in_ok-aim.ensures in
     let place = left_place (x.reading.order.root a.wanted) c.args.left.now a.at.left_id in
     not_fresh_at x t c.place_of.result place (c.place_of.ensures.place t.slots ∙ place_is g at t.slots o.slots)
     (left_place_begins x t a.wanted c.args.left.now a.at.left_id
-    (below_puts x s t _ o.puts (g.met.L.Links.allowed d c.aim.new.p e.pass) place a.wanted a.at.leads.below))
+    (below_puts x _ t _ o.puts (g.met.L.Links.allowed _ _ e.pass) place a.wanted a.at.leads.below))
     (λ i h. g.met.L.Links.fresh_is d c.aim.new.p i e.pass h)
 
 pub swing-requires-clause-links : goal.swing-requires-clause-links
 swing-requires-clause-links g c =
-    let d = c.args.links.now in
     let a = c.requires.adds in
-    let x = ordering_of (g.met.K.Rank.ordered (g.L.Links.numbers d)) in
-    let s = g.L.Links.seat d c.args.p.now in
-    let t = g.L.Links.seat d c.aim.new.p in
+    let x = ordering_of (g.met.K.Rank.ordered _) in
+    let s = g.L.Links.seat _ c.args.p.now in
+    let t = g.L.Links.seat _ c.aim.new.p in
     let same = c.in_ok-aim.ensures.aimed.slots in
     let held = adds_held x a.start a.wanted a.value a.kind c.args.left.now c.args.first.now c.args.right.now c.args.node.now a.given a.slots a.begun s a.at in (
       c.link_of.ensures.held t.slots (subst (λ (z : Slots). HoldsIfAny z c.args.first.now) (sym same) held.1)
@@ -140,45 +128,40 @@ swing-requires-clause-links g c =
 pub swing-requires-clause-allowed : goal.swing-requires-clause-allowed
 swing-requires-clause-allowed g c =
     let at = (goal.at.swing-requires-clause-allowed g c).In_ok-aim in
-    let d = c.args.links.now in
     let a = c.requires.adds in
-    let x = ordering_of (g.met.K.Rank.ordered (g.L.Links.numbers d)) in
-    let s = g.L.Links.seat d c.args.p.now in
-    let t = g.L.Links.seat d c.aim.new.p in
+    let x = ordering_of (g.met.K.Rank.ordered _) in
+    let t = g.L.Links.seat _ c.aim.new.p in
     let o = only g at in
     let e = c.in_ok-aim.ensures in
-    link_allowed x a.wanted a.value a.kind c.args.note c.args.node.now a.at.id (node_of c.args.right.now a.at.right_id) s t
+    link_allowed x a.wanted a.value a.kind c.args.note c.args.node.now a.at.id (node_of c.args.right.now a.at.right_id) _ t
     (left_place (x.reading.order.root a.wanted) c.args.left.now a.at.left_id) _ a.at.leads.from _ a.at.leads.over a.allowed a.at.holds o
-    (g.met.L.Links.obeys d c.args.p.now c.requires.pass) (g.met.L.Links.obeys d c.aim.new.p e.pass) (g.met.L.Links.allowed d c.aim.new.p e.pass)
+    (g.met.L.Links.obeys _ _ c.requires.pass) (g.met.L.Links.obeys _ _ e.pass) (g.met.L.Links.allowed _ _ e.pass)
     (apart g at) (c.place_of.ensures.place t.slots ∙ place_is g at t.slots o.slots) (c.link_of.ensures.link t.slots ∙ link_is g at t.slots o.slots)
     a.at.leads.plain a.at.leads.below a.at.leads.run a.at.above
 
 pub returns-clause-linked : goal.returns-clause-linked
 returns-clause-linked g c = λ a.
     let d = c.args.links.now in
-    let n = g.L.Links.numbers d in
-    let x = ordering_of (g.met.K.Rank.ordered n) in
+    let x = ordering_of (g.met.K.Rank.ordered _) in
     let s = g.L.Links.seat d c.args.p.now in
     let t = g.L.Links.seat d c.aim.new.p in
-    let u = g.L.Links.seat d c.swing.new.p in
     let e = c.in_ok-aim.ensures in
     let f = c.swing.ensures in
     let left = c.args.left.now in
     let first = c.args.first.now in
     let right = c.args.right.now in
-    let node = c.args.node.now in
     let to : Option ℕ = node_of c.args.right.now a.at.right_id in
-    let o = aim_only s t node a.at.id right _ to c.node_in.ensures
-    (adds_right x a.start a.wanted a.value a.kind left first right node a.given a.slots a.begun s a.at) a.at.holds.held e.aimed in
+    let o = aim_only s t _ a.at.id right _ to c.node_in.ensures
+    (adds_right x a.start a.wanted a.value a.kind left first right _ a.given a.slots a.begun s a.at) a.at.holds.held e.aimed in
     let apart : to ≢ Some a.at.id = λ is. above_not_fresh x s to a.wanted a.at.above
     (λ i h. g.met.L.Links.fresh_is d c.args.p.now i c.requires.pass h) a.at.id is a.at.holds.fresh in
     let place = c.place_of.ensures.place t.slots ∙ (ap (λ (z : Slots). place_at z c.args.root left) o.slots ∙ (ap (λ (r : ℕ). place_at s.slots r left) a.root_is
-    ∙ adds_place x a.start a.wanted a.value a.kind left first right node a.given a.slots a.begun s a.at)) in
+    ∙ adds_place x a.start a.wanted a.value a.kind left first right _ a.given a.slots a.begun s a.at)) in
     let link = c.link_of.ensures.link t.slots ∙ (ap (λ (z : Slots). link_over (target_at z (first_or first right))) o.slots
-    ∙ adds_link x a.start a.wanted a.value a.kind left first right node a.given a.slots a.begun s a.at) in
-    links_to x a.value a.kind c.args.note node a.at.id to s t u (left_place (x.reading.order.root a.wanted) left a.at.left_id) a.at.leads.from _ _ _
-    c.swing.result a.at.holds o place link refl (g.met.L.Links.obeys d c.args.p.now c.requires.pass) (g.met.L.Links.allowed d c.aim.new.p e.pass)
-    (g.met.L.Links.allowed d c.swing.new.p f.pass) apart f.swung f.none
+    ∙ adds_link x a.start a.wanted a.value a.kind left first right _ a.given a.slots a.begun s a.at) in
+    links_to x a.value a.kind c.args.note _ a.at.id to s t _ (left_place (x.reading.order.root a.wanted) left a.at.left_id) a.at.leads.from _ _ _
+    c.swing.result a.at.holds o place link refl (g.met.L.Links.obeys _ _ c.requires.pass) (g.met.L.Links.allowed _ _ e.pass)
+    (g.met.L.Links.allowed _ _ f.pass) apart f.swung f.none
 
 pub returns-clause-worn : goal.returns-clause-worn
 returns-clause-worn g c =
@@ -186,6 +169,6 @@ returns-clause-worn g c =
     let s = g.L.Links.seat d c.args.p.now in
     let t = g.L.Links.seat d c.aim.new.p in
     let f = c.swing.ensures in
-    worn_since (g.L.Links.worn d) g.L.Links.agent_of s.agent t.agent (g.L.Links.journal c.args.p.now) (g.L.Links.journal c.aim.new.p)
-    (g.L.Links.journal c.swing.new.p) (λ why xs more from to h. g.met.L.Links.worn_stays d s.agent why xs more from to h)
+    worn_since (g.L.Links.worn d) g.L.Links.agent_of s.agent t.agent _ _
+    _ (λ why xs more from to h. g.met.L.Links.worn_stays d s.agent why xs more from to h)
     c.in_ok-aim.ensures.aimed.puts.agent c.in_ok-aim.ensures.later f.later c.swing.result f.worn

@@ -22,12 +22,11 @@ marks : (g : Over) (c : After-mark_node g) → let d = c.args.links.now in let a
     → c.mark_node.result ≡ done
     → Marks (g.K.SetRank.noted (Removed t.agent a.key true)) f.id (node_of a.next f.next_id) t done (g.L.Links.seat d c.mark_node.new.p)
 marks g c = λ start passed s f done is.
-    let d = c.args.links.now in
     let a = c.args in
-    let t = g.L.Links.seat d a.p.now in
-    let u = g.L.Links.seat d c.mark_node.new.p in
+    let t = g.L.Links.seat _ a.p.now in
+    let u = g.L.Links.seat _ c.mark_node.new.p in
     let noted = g.K.SetRank.noted (Removed t.agent a.key true) in
-    marks_at (ordering_of (g.met.K.Rank.ordered (g.L.Links.numbers d))) start (g.K.SetRank.key_rank a.key) passed a.left a.first a.node a.next s t f noted done u
+    marks_at (ordering_of (g.met.K.Rank.ordered _)) start (g.K.SetRank.key_rank a.key) passed a.left a.first a.node a.next s t f noted done u
     (subst (λ (b : Bool). Marks noted (id_in t.slots a.node) (target_at t.slots a.next) t b u) is c.mark_node.ensures.marked)
 
 -- the nodes of the search are in hand on
@@ -36,12 +35,10 @@ hands : (g : Over) (c : After-mark_node g) → let d = c.args.links.now in let r
     (f : FindsPresent r start (g.K.SetRank.key_rank a.key) passed a.left a.first a.node a.next s (g.L.Links.seat d a.p.now))
     → InHand r s.slots a.left a.first (Some a.node) a.next (g.L.Links.seat d c.mark_node.new.p)
 hands g c = λ start passed s f.
-    let d = c.args.links.now in
     let a = c.args in
-    let t = g.L.Links.seat d a.p.now in
-    let u = g.L.Links.seat d c.mark_node.new.p in
-    marked_hand (ordering_of (g.met.K.Rank.ordered (g.L.Links.numbers d))) start (g.K.SetRank.key_rank a.key) passed a.left a.first a.node a.next s t f
-    (g.K.SetRank.noted (Removed t.agent a.key true)) _ u (marks g c start passed s f _ refl) (g.met.L.Links.allowed d c.mark_node.new.p c.mark_node.ensures.pass)
+    let t = g.L.Links.seat _ a.p.now in
+    marked_hand (ordering_of (g.met.K.Rank.ordered _)) start (g.K.SetRank.key_rank a.key) passed a.left a.first a.node a.next s t f
+    (g.K.SetRank.noted (Removed t.agent a.key true)) _ _ (marks g c start passed s f _ refl) (g.met.L.Links.allowed _ _ c.mark_node.ensures.pass)
 
 hands_on : (g : Over) (c : After-unlink_run g) → let d = c.args.links.now in let r = reading_by (g.L.Links.numbers d) g.K.Rank.manner in let a = c.args in
     (start : Place) (passed : ℕ) (s : Seat g.row.K-Rule-Note.Denot)
@@ -49,64 +46,51 @@ hands_on : (g : Over) (c : After-unlink_run g) → let d = c.args.links.now in l
     → InHand r s.slots a.left a.first (Some a.node) a.next (g.L.Links.seat d c.mark_node.new.p)
     → InHand r s.slots a.left a.first (Some a.node) a.next (g.L.Links.seat d c.unlink_run.new.p)
 hands_on g c = λ start passed s f h.
-    let d = c.args.links.now in
     let a = c.args in
-    let n = g.L.Links.numbers d in
-    let t = g.L.Links.seat d a.p.now in
-    let u = g.L.Links.seat d c.mark_node.new.p in
-    let v = g.L.Links.seat d c.unlink_run.new.p in
     let r = c.unlink_run.ensures in
-    tried_hand (ordering_of (g.met.K.Rank.ordered (g.L.Links.numbers d))) start (g.K.SetRank.key_rank a.key) passed a.left a.first a.node a.next s t f u v
-    (tried_of (ordering_of (g.met.K.Rank.ordered n)) u v _ _ _ _ g.K.SetRank.unlinking (g.met.K.SetRank.enters_none n) r.tried)
-    (g.met.L.Links.allowed d c.unlink_run.new.p r.pass) h
+    tried_hand (ordering_of (g.met.K.Rank.ordered _)) start (g.K.SetRank.key_rank a.key) passed a.left a.first a.node a.next s _ f _ _
+    (tried_of (ordering_of (g.met.K.Rank.ordered _)) _ _ _ _ _ _ g.K.SetRank.unlinking (g.met.K.SetRank.enters_none _) r.tried)
+    (g.met.L.Links.allowed _ _ r.pass) h
 
 pub mark_node-requires-clause-node : goal.mark_node-requires-clause-node
 mark_node-requires-clause-node g c =
     let (start, passed, s, f) = c.requires.present in
-    let d = c.args.links.now in
     let a = c.args in
-    let t = g.L.Links.seat d a.p.now in
-    (reads_node (ordering_of (g.met.K.Rank.ordered (g.L.Links.numbers d))) start (g.K.SetRank.key_rank a.key) passed a.left a.first a.node a.next s t f).node_held
+    (reads_node (ordering_of (g.met.K.Rank.ordered _)) start (g.K.SetRank.key_rank a.key) passed a.left a.first a.node a.next s _ f).node_held
 
 pub mark_node-requires-clause-next : goal.mark_node-requires-clause-next
 mark_node-requires-clause-next g c =
     let (start, passed, s, f) = c.requires.present in
-    let d = c.args.links.now in
     let a = c.args in
-    let t = g.L.Links.seat d a.p.now in
-    (reads_node (ordering_of (g.met.K.Rank.ordered (g.L.Links.numbers d))) start (g.K.SetRank.key_rank a.key) passed a.left a.first a.node a.next s t f).next_held
+    (reads_node (ordering_of (g.met.K.Rank.ordered _)) start (g.K.SetRank.key_rank a.key) passed a.left a.first a.node a.next s _ f).next_held
 
 pub mark_node-requires-clause-key : goal.mark_node-requires-clause-key
 mark_node-requires-clause-key g c =
     let (start, passed, s, f) = c.requires.present in
-    let d = c.args.links.now in
     let a = c.args in
-    let t = g.L.Links.seat d a.p.now in
-    let n = g.L.Links.numbers d in
+    let t = g.L.Links.seat _ a.p.now in
+    let n = g.L.Links.numbers _ in
     let ord = ordering_of (g.met.K.Rank.ordered n) in
-    let r = reads_node (ordering_of (g.met.K.Rank.ordered (g.L.Links.numbers d))) start (g.K.SetRank.key_rank a.key) passed a.left a.first a.node a.next s t f in
+    let r = reads_node (ordering_of (g.met.K.Rank.ordered _)) start (g.K.SetRank.key_rank a.key) passed a.left a.first a.node a.next s t f in
     subst (λ (i : ℕ). HasRank ord.reading.order (heap_of n t) i (g.K.SetRank.key_rank a.key)) (sym r.id_is) f.is_of.has_key
 
 pub mark_node-requires-clause-follows : goal.mark_node-requires-clause-follows
 mark_node-requires-clause-follows g c =
     let (start, passed, s, f) = c.requires.present in
-    let d = c.args.links.now in
     let a = c.args in
-    let t = g.L.Links.seat d a.p.now in
-    let ord = ordering_of (g.met.K.Rank.ordered (g.L.Links.numbers d)) in
-    let r = reads_node (ordering_of (g.met.K.Rank.ordered (g.L.Links.numbers d))) start (g.K.SetRank.key_rank a.key) passed a.left a.first a.node a.next s t f in
-    follows_at ord.reading t f.id _ _ _ (sym r.id_is) (sym r.next_is) f.follows
+    let ord = ordering_of (g.met.K.Rank.ordered _) in
+    let r = reads_node (ordering_of (g.met.K.Rank.ordered _)) start (g.K.SetRank.key_rank a.key) passed a.left a.first a.node a.next s _ f in
+    follows_at ord.reading _ f.id _ _ _ (sym r.id_is) (sym r.next_is) f.follows
 
 pub returns-then-not-mark_node-clause-removed : goal.returns-then-not-mark_node-clause-removed
 returns-then-not-mark_node-clause-removed g c = λ start passed s f.
     let at = (goal.at.returns-then-not-mark_node-clause-removed g c).After-mark_node in
-    let d = c.args.links.now in
     let a = c.args in
-    let t = g.L.Links.seat d a.p.now in
-    removes_missed (ordering_of (g.met.K.Rank.ordered (g.L.Links.numbers d))) start (g.K.SetRank.key_rank a.key) passed a.left a.first a.node a.next s t f
-    (g.K.SetRank.noted (Removed t.agent a.key true)) (g.L.Links.seat d c.mark_node.new.p) (g.L.Links.seat d c.let_all_go.new.p)
+    let t = g.L.Links.seat _ a.p.now in
+    removes_missed (ordering_of (g.met.K.Rank.ordered _)) start (g.K.SetRank.key_rank a.key) passed a.left a.first a.node a.next s t f
+    (g.K.SetRank.noted (Removed t.agent a.key true)) _ _
     (marks g at start passed s f false c.if-not-mark_node.true) (c.let_all_go.ensures.gone s.slots (hands g at start passed s f))
-    (g.met.L.Links.allowed d c.mark_node.new.p c.mark_node.ensures.pass)
+    (g.met.L.Links.allowed _ _ c.mark_node.ensures.pass)
 
 pub let_all_go-requires-clause-hands : goal.let_all_go-requires-clause-hands
 let_all_go-requires-clause-hands g c =
@@ -116,47 +100,42 @@ let_all_go-requires-clause-hands g c =
 pub unlink_run-requires-clause-held : goal.unlink_run-requires-clause-held
 unlink_run-requires-clause-held g c =
     let (start, passed, s, f) = c.requires.present in
-    let d = c.args.links.now in
     let a = c.args in
-    let t = g.L.Links.seat d a.p.now in
-    unlink_held (ordering_of (g.met.K.Rank.ordered (g.L.Links.numbers d))) start (g.K.SetRank.key_rank a.key) passed a.left a.first a.node a.next s t f
-    (g.L.Links.seat d c.mark_node.new.p) c.node_or.result.now c.mark_node.ensures.marked.slots c.node_or.ensures
+    unlink_held (ordering_of (g.met.K.Rank.ordered (g.L.Links.numbers _))) start (g.K.SetRank.key_rank a.key) passed a.left a.first a.node a.next s _ f
+    (g.L.Links.seat _ c.mark_node.new.p) c.node_or.result.now c.mark_node.ensures.marked.slots c.node_or.ensures
 
 pub unlink_run-requires-clause-left : goal.unlink_run-requires-clause-left
 unlink_run-requires-clause-left g c =
     let (start, passed, s, f) = c.requires.present in
-    let d = c.args.links.now in
     let a = c.args in
-    let t = g.L.Links.seat d a.p.now in
-    let n = g.L.Links.numbers d in
-    let u = g.L.Links.seat d c.mark_node.new.p in
+    let t = g.L.Links.seat _ a.p.now in
+    let n = g.L.Links.numbers _ in
+    let u = g.L.Links.seat _ c.mark_node.new.p in
     let ord = ordering_of (g.met.K.Rank.ordered n) in
     let m = marks g (goal.at.unlink_run-requires-clause-left g c).After-mark_node start passed s f true c.if-not-mark_node.false in
     subst (λ (r : ℕ). IsChainPlace ord.reading.order (heap_of n u) (place_at u.slots r a.left)) (sym c.requires.root.1)
-    (unlink_left (ordering_of (g.met.K.Rank.ordered (g.L.Links.numbers d))) start (g.K.SetRank.key_rank a.key) passed a.left a.first a.node a.next s t f (g.K.SetRank.noted (Removed t.agent a.key true)) u
-    c.node_or.result.now m (g.met.L.Links.allowed d c.mark_node.new.p c.mark_node.ensures.pass) c.node_or.ensures)
+    (unlink_left (ordering_of (g.met.K.Rank.ordered _)) start (g.K.SetRank.key_rank a.key) passed a.left a.first a.node a.next s t f (g.K.SetRank.noted (Removed t.agent a.key true)) u
+    c.node_or.result.now m (g.met.L.Links.allowed _ _ c.mark_node.ensures.pass) c.node_or.ensures)
 
 pub unlink_run-requires-clause-run : goal.unlink_run-requires-clause-run
 unlink_run-requires-clause-run g c =
     let (start, passed, s, f) = c.requires.present in
-    let d = c.args.links.now in
     let a = c.args in
-    let t = g.L.Links.seat d a.p.now in
+    let t = g.L.Links.seat _ a.p.now in
     let m = marks g (goal.at.unlink_run-requires-clause-run g c).After-mark_node start passed s f true c.if-not-mark_node.false in
-    unlink_run_at (ordering_of (g.met.K.Rank.ordered (g.L.Links.numbers d))) start (g.K.SetRank.key_rank a.key) passed a.left a.first a.node a.next s t f
-    (g.K.SetRank.noted (Removed t.agent a.key true)) (g.L.Links.seat d c.mark_node.new.p) c.node_or.result.now m
-    (g.met.L.Links.allowed d c.mark_node.new.p c.mark_node.ensures.pass) c.node_or.ensures
+    unlink_run_at (ordering_of (g.met.K.Rank.ordered _)) start (g.K.SetRank.key_rank a.key) passed a.left a.first a.node a.next s t f
+    (g.K.SetRank.noted (Removed t.agent a.key true)) _ c.node_or.result.now m
+    (g.met.L.Links.allowed _ _ c.mark_node.ensures.pass) c.node_or.ensures
 
 pub unlink_run-requires-clause-follows : goal.unlink_run-requires-clause-follows
 unlink_run-requires-clause-follows g c =
     let (start, passed, s, f) = c.requires.present in
-    let d = c.args.links.now in
     let a = c.args in
-    let t = g.L.Links.seat d a.p.now in
+    let t = g.L.Links.seat _ a.p.now in
     let m = marks g (goal.at.unlink_run-requires-clause-follows g c).After-mark_node start passed s f true c.if-not-mark_node.false in
-    unlink_follows (ordering_of (g.met.K.Rank.ordered (g.L.Links.numbers d))) start (g.K.SetRank.key_rank a.key) passed a.left a.first a.node a.next s t f
-    (g.K.SetRank.noted (Removed t.agent a.key true)) (g.L.Links.seat d c.mark_node.new.p) m
-    (g.met.L.Links.allowed d c.mark_node.new.p c.mark_node.ensures.pass)
+    unlink_follows (ordering_of (g.met.K.Rank.ordered _)) start (g.K.SetRank.key_rank a.key) passed a.left a.first a.node a.next s t f
+    (g.K.SetRank.noted (Removed t.agent a.key true)) _ m
+    (g.met.L.Links.allowed _ _ c.mark_node.ensures.pass)
 
 pub let_all_go-requires-2-clause-hands : goal.let_all_go-requires-2-clause-hands
 let_all_go-requires-2-clause-hands g c =
@@ -178,7 +157,7 @@ returns-clause-removed g c = λ start passed s f.
     let o = g.L.Links.journal c.let_all_go-2.new.p in
     let q = c.let_all_go-2.ensures in
     let m = marks g at.After-mark_node start passed s f true c.if-not-mark_node.false in
-    let tried = tries_at (ordering_of (g.met.K.Rank.ordered (g.L.Links.numbers d))) start (g.K.SetRank.key_rank a.key) passed a.left a.first a.node a.next s t f u v c.node_or.result.now a.root
+    let tried = tries_at (ordering_of (g.met.K.Rank.ordered _)) start (g.K.SetRank.key_rank a.key) passed a.left a.first a.node a.next s t f u v c.node_or.result.now a.root
     g.K.SetRank.unlinking _ c.requires.root.1 m.slots c.node_or.ensures c.unlink_run.ensures.tried in
     record {
       marked = u;

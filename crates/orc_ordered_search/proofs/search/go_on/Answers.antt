@@ -10,9 +10,8 @@ use Rattle.orc_ordered_search.proofs.search.go_on.Goals as goal
 
 pub read-rank-requires-clause-held : goal.read-rank-requires-clause-held
 read-rank-requires-clause-held g c =
-    let d = c.args.links.now in
-    let n = g.L.Links.numbers d in
-    let t = g.L.Links.seat d c.args.p.now in
+    let n = g.L.Links.numbers _ in
+    let t = g.L.Links.seat _ c.args.p.now in
     let a = c.args in
     let (start, wanted, s, least, w) = c.requires.passed in
     passed_holds (ordering_of (g.met.K.Rank.ordered n)) start wanted least a.passed a.left a.first c.in-Some.at s t
@@ -20,9 +19,8 @@ read-rank-requires-clause-held g c =
 
 pub read-rank-requires-clause-linked : goal.read-rank-requires-clause-linked
 read-rank-requires-clause-linked g c =
-    let d = c.args.links.now in
-    let n = g.L.Links.numbers d in
-    let t = g.L.Links.seat d c.args.p.now in
+    let n = g.L.Links.numbers _ in
+    let t = g.L.Links.seat _ c.args.p.now in
     let a = c.args in
     let (start, wanted, s, least, w) = c.requires.passed in
     passed_linked (ordering_of (g.met.K.Rank.ordered n)) start wanted least a.passed a.left a.first c.in-Some.at s t
@@ -30,22 +28,19 @@ read-rank-requires-clause-linked g c =
 
 pub returns-in-Some-clause-stepped : goal.returns-in-Some-clause-stepped
 returns-in-Some-clause-stepped g c = λ start wanted s least w.
-    let d = c.args.links.now in
-    let n = g.L.Links.numbers d in
-    let t = g.L.Links.seat d c.args.p.now in
-    let u = g.L.Links.seat d c.read-rank.new.p in
+    let n = g.L.Links.numbers _ in
+    let t = g.L.Links.seat _ c.args.p.now in
     let a = c.args in
     let e = c.read-rank.ensures in
     let here = subst (λ (o : Option Hold). Passed (reading_by n g.K.Rank.manner) start wanted least a.passed a.left a.first o s t) c.in-Some.is w in
     let r = passed_read (ordering_of (g.met.K.Rank.ordered n)) start wanted least a.passed a.left a.first c.in-Some.at (g.K.Rank.number c.read-rank.result)
-    (g.K.Rank.counted c.read-rank.result) s t u here e.nothing e.rank (g.met.L.Links.allowed d c.read-rank.new.p e.pass) in
+    (g.K.Rank.counted c.read-rank.result) s t _ here e.nothing e.rank (g.met.L.Links.allowed _ _ e.pass) in
     (r.0, r.1, e.fits)
 
 pub returns-in-None-clause-stepped : goal.returns-in-None-clause-stepped
 returns-in-None-clause-stepped g c = λ start wanted s least w.
-    let d = c.args.links.now in
-    let n = g.L.Links.numbers d in
-    let t = g.L.Links.seat d c.args.p.now in
+    let n = g.L.Links.numbers _ in
+    let t = g.L.Links.seat _ c.args.p.now in
     let a = c.args in
     passed_none (ordering_of (g.met.K.Rank.ordered n)) start wanted least a.passed a.left a.first s t
     (subst (λ (o : Option Hold). Passed (reading_by n g.K.Rank.manner) start wanted least a.passed a.left a.first o s t) c.in-None.is w)

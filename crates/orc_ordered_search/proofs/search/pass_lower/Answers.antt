@@ -25,10 +25,10 @@ passed g c = λ start s w.
     let l = c.loop-p in
     subst (λ (x : ℕ). Passed (reading_by (g.L.Links.numbers d) g.K.Rank.manner) start (g.K.Rank.number c.args.wanted) (g.K.Rank.number l.rank + 1) x (Some l.at) None (Some c.in-On.next) s
     (g.L.Links.seat d c.look_on.new.p)) (sym (c.count_one-passed.ensures ∙ ap (λ (b : Bool). count_on b l.passed) c.is_counted.ensures))
-    (moves_past (ordering_of (g.met.K.Rank.ordered (g.L.Links.numbers d))) start (g.K.Rank.number c.args.wanted) l.left l.at (g.K.Rank.number l.rank) (g.K.Rank.counted l.rank) l.passed
-    c.spare_slot-spare.result s (g.L.Links.seat d l.p)
-    (g.L.Links.seat d c.look_on.new.p) w (g.met.L.Links.allowed d c.look_on.new.p c.look_on.ensures.pass)
-    c.in-On.next c.in-On.ensures.looked (g.met.L.Links.obeys d l.p l.invariant.pass) (c.is_before.ensures.yes c.loop-p-test.true))
+    (moves_past (ordering_of (g.met.K.Rank.ordered _)) start (g.K.Rank.number c.args.wanted) l.left l.at (g.K.Rank.number l.rank) (g.K.Rank.counted l.rank) l.passed
+    c.spare_slot-spare.result s _
+    _ w (g.met.L.Links.allowed _ _ c.look_on.ensures.pass)
+    c.in-On.next c.in-On.ensures.looked (g.met.L.Links.obeys _ _ l.invariant.pass) (c.is_before.ensures.yes c.loop-p-test.true))
 
 -- and then the rank of the next node was read
 next_read : (g : Over) (c : After-read-rank g) → let d = c.args.links.now in let r = reading_by (g.L.Links.numbers d) g.K.Rank.manner in let a = c.args in
@@ -39,12 +39,11 @@ next_read : (g : Over) (c : After-read-rank g) → let d = c.args.links.now in l
     Walks r start (g.K.Rank.number a.wanted) (Some l.at) None c.in-On.next (g.K.Rank.number rank) (g.K.Rank.counted rank) c.count_one-passed.result s
     (g.L.Links.seat d c.read-rank.new.p) × (g.K.Rank.number l.rank + 1 ≤ g.K.Rank.number rank)
 next_read g c = λ start s past.
-    let d = c.args.links.now in
     let l = c.loop-p in
     let e = c.read-rank.ensures in
-    passed_read (ordering_of (g.met.K.Rank.ordered (g.L.Links.numbers d))) start (g.K.Rank.number c.args.wanted) (g.K.Rank.number l.rank + 1)
+    passed_read (ordering_of (g.met.K.Rank.ordered _)) start (g.K.Rank.number c.args.wanted) (g.K.Rank.number l.rank + 1)
     c.count_one-passed.result (Some l.at) None c.in-On.next (g.K.Rank.number c.read-rank.result) (g.K.Rank.counted c.read-rank.result) s
-    (g.L.Links.seat d c.look_on.new.p) (g.L.Links.seat d c.read-rank.new.p) past e.nothing e.rank (g.met.L.Links.allowed d c.read-rank.new.p e.pass)
+    _ _ past e.nothing e.rank (g.met.L.Links.allowed _ _ e.pass)
 
 -- the look found anything else
 by : (g : Over) (c : In-Stays g) → let d = c.args.links.now in let r = reading_by (g.L.Links.numbers d) g.K.Rank.manner in let a = c.args in let l = c.loop-p in
@@ -56,10 +55,10 @@ by g c = λ start s room w.
     let d = c.args.links.now in
     let l = c.loop-p in
     let (low, high, not_left, not_at) = l.invariant.spare in
-    let (kept, looks) = stays_by (ordering_of (g.met.K.Rank.ordered (g.L.Links.numbers d))) start (g.K.Rank.number c.args.wanted) l.left l.at (g.K.Rank.number l.rank) (g.K.Rank.counted l.rank) l.passed
-    c.spare_slot-spare.result s (g.L.Links.seat d l.p)
-    (g.L.Links.seat d c.look_on.new.p) w (g.met.L.Links.allowed d c.look_on.new.p c.look_on.ensures.pass)
-    c.in-Stays.left c.in-Stays.looked c.in-Stays.ensures.looked (g.met.L.Links.obeys d l.p l.invariant.pass) room low high not_left not_at in
+    let (kept, looks) = stays_by (ordering_of (g.met.K.Rank.ordered _)) start (g.K.Rank.number c.args.wanted) l.left l.at (g.K.Rank.number l.rank) (g.K.Rank.counted l.rank) l.passed
+    c.spare_slot-spare.result s _
+    _ w (g.met.L.Links.allowed _ _ c.look_on.ensures.pass)
+    c.in-Stays.left c.in-Stays.looked c.in-Stays.ensures.looked (g.met.L.Links.obeys _ _ l.invariant.pass) room low high not_left not_at in
     subst (λ (h : Hold). LooksBy (reading_by (g.L.Links.numbers d) g.K.Rank.manner) start (g.K.Rank.number c.args.wanted) (Some h) None l.at (g.K.Rank.number l.rank) (g.K.Rank.counted l.rank)
     l.passed s c.in-Stays.looked (g.L.Links.seat d c.look_on.new.p)) (sym kept) looks
 
@@ -76,19 +75,18 @@ loop-p-init g c =
 
 pub look_on-requires-clause-place : goal.look_on-requires-clause-place
 look_on-requires-clause-place g c =
-    let d = c.args.links.now in
     let l = c.loop-p in
     let (start, s, room, w) = c.requires.walks in
-    walk_holds (ordering_of (g.met.K.Rank.ordered (g.L.Links.numbers d))) start (g.K.Rank.number c.args.wanted) (Some l.left) None l.at (g.K.Rank.number l.rank) (g.K.Rank.counted l.rank) l.passed s
-    (g.L.Links.seat d l.p) (l.invariant.walks start s room w)
+    walk_holds (ordering_of (g.met.K.Rank.ordered _)) start (g.K.Rank.number c.args.wanted) (Some l.left) None l.at (g.K.Rank.number l.rank) (g.K.Rank.counted l.rank) l.passed s
+    _ (l.invariant.walks start s room w)
 
 pub look_on-requires-clause-from : goal.look_on-requires-clause-from
 look_on-requires-clause-from g c =
     let d = c.args.links.now in
     let l = c.loop-p in
     let (start, s, room, w) = c.requires.walks in
-    (left_not_fresh (ordering_of (g.met.K.Rank.ordered (g.L.Links.numbers d))) start (g.K.Rank.number c.args.wanted) l.left l.at (g.K.Rank.number l.rank) (g.K.Rank.counted l.rank) l.passed s
-    (g.L.Links.seat d l.p) (l.invariant.walks start s room w)
+    (left_not_fresh (ordering_of (g.met.K.Rank.ordered _)) start (g.K.Rank.number c.args.wanted) l.left l.at (g.K.Rank.number l.rank) (g.K.Rank.counted l.rank) l.passed s
+    _ (l.invariant.walks start s room w)
     (λ i h. g.met.L.Links.fresh_is d l.p i l.invariant.pass h)).0
 
 pub look_on-requires-clause-linked : goal.look_on-requires-clause-linked
@@ -96,44 +94,40 @@ look_on-requires-clause-linked g c =
     let d = c.args.links.now in
     let l = c.loop-p in
     let (start, s, room, w) = c.requires.walks in
-    (left_not_fresh (ordering_of (g.met.K.Rank.ordered (g.L.Links.numbers d))) start (g.K.Rank.number c.args.wanted) l.left l.at (g.K.Rank.number l.rank) (g.K.Rank.counted l.rank) l.passed s
-    (g.L.Links.seat d l.p) (l.invariant.walks start s room w)
+    (left_not_fresh (ordering_of (g.met.K.Rank.ordered _)) start (g.K.Rank.number c.args.wanted) l.left l.at (g.K.Rank.number l.rank) (g.K.Rank.counted l.rank) l.passed s
+    _ (l.invariant.walks start s room w)
     (λ i h. g.met.L.Links.fresh_is d l.p i l.invariant.pass h)).1
 
 pub look_on-requires-clause-outside : goal.look_on-requires-clause-outside
 look_on-requires-clause-outside g c =
-    let d = c.args.links.now in
     let l = c.loop-p in
     let (start, s, room, w) = c.requires.walks in
-    left_apart (ordering_of (g.met.K.Rank.ordered (g.L.Links.numbers d))) start (g.K.Rank.number c.args.wanted) l.left l.at (g.K.Rank.number l.rank) (g.K.Rank.counted l.rank) l.passed s (g.L.Links.seat d
+    left_apart (ordering_of (g.met.K.Rank.ordered _)) start (g.K.Rank.number c.args.wanted) l.left l.at (g.K.Rank.number l.rank) (g.K.Rank.counted l.rank) l.passed s (g.L.Links.seat _
     l.p) (l.invariant.walks start s room w)
 
 pub look_on-requires-clause-slot : goal.look_on-requires-clause-slot
 look_on-requires-clause-slot g c =
-    let d = c.args.links.now in
     let l = c.loop-p in
     let (start, s, room, w) = c.requires.walks in
     let (low, high, not_left, not_at) = l.invariant.spare in
-    walk_free (ordering_of (g.met.K.Rank.ordered (g.L.Links.numbers d))) start (g.K.Rank.number c.args.wanted) (Some l.left) None l.at (g.K.Rank.number l.rank) (g.K.Rank.counted l.rank) l.passed
-    c.spare_slot-spare.result s (g.L.Links.seat d l.p) room
+    walk_free (ordering_of (g.met.K.Rank.ordered _)) start (g.K.Rank.number c.args.wanted) (Some l.left) None l.at (g.K.Rank.number l.rank) (g.K.Rank.counted l.rank) l.passed
+    c.spare_slot-spare.result s _ room
     (l.invariant.walks start s room w) low high not_left (λ e. omega (arith, e, high)) not_at
 
 pub read-rank-requires-clause-held : goal.read-rank-requires-clause-held
 read-rank-requires-clause-held g c =
-    let d = c.args.links.now in
     let l = c.loop-p in
     let (start, s, room, w) = c.requires.walks in
-    passed_holds (ordering_of (g.met.K.Rank.ordered (g.L.Links.numbers d))) start (g.K.Rank.number c.args.wanted) (g.K.Rank.number l.rank + 1)
-    c.count_one-passed.result (Some l.at) None c.in-On.next s (g.L.Links.seat d c.look_on.new.p)
+    passed_holds (ordering_of (g.met.K.Rank.ordered _)) start (g.K.Rank.number c.args.wanted) (g.K.Rank.number l.rank + 1)
+    c.count_one-passed.result (Some l.at) None c.in-On.next s _
     (passed g (goal.at.read-rank-requires-clause-held g c).After-count_one-passed start s (l.invariant.walks start s room w))
 
 pub read-rank-requires-clause-linked : goal.read-rank-requires-clause-linked
 read-rank-requires-clause-linked g c =
-    let d = c.args.links.now in
     let l = c.loop-p in
     let (start, s, room, w) = c.requires.walks in
-    passed_linked (ordering_of (g.met.K.Rank.ordered (g.L.Links.numbers d))) start (g.K.Rank.number c.args.wanted) (g.K.Rank.number l.rank + 1)
-    c.count_one-passed.result (Some l.at) None c.in-On.next s (g.L.Links.seat d c.look_on.new.p)
+    passed_linked (ordering_of (g.met.K.Rank.ordered _)) start (g.K.Rank.number c.args.wanted) (g.K.Rank.number l.rank + 1)
+    c.count_one-passed.result (Some l.at) None c.in-On.next s _
     (passed g (goal.at.read-rank-requires-clause-linked g c).After-count_one-passed start s (l.invariant.walks start s room w))
 
 pub loop-p-smaller : goal.loop-p-smaller
@@ -168,20 +162,18 @@ step_by-requires-clause-looked g c =
 pub returns-in-Stays-clause-stepped : goal.returns-in-Stays-clause-stepped
 returns-in-Stays-clause-stepped g c = λ start s room w.
     let at = goal.at.returns-in-Stays-clause-stepped g c in
-    let d = c.args.links.now in
     let i = c.loop-p.invariant in
-    steps_up (reading_by (g.L.Links.numbers d) g.K.Rank.manner) g.K.Rank.number g.K.Rank.counted start (g.K.Rank.number c.args.wanted) (g.K.Rank.number c.args.rank + 1) (g.K.Rank.number c.loop-p.rank + 1) s c.step_by.result (g.L.Links.seat d
+    steps_up (reading_by _ g.K.Rank.manner) g.K.Rank.number g.K.Rank.counted start (g.K.Rank.number c.args.wanted) (g.K.Rank.number c.args.rank + 1) (g.K.Rank.number c.loop-p.rank + 1) s c.step_by.result (g.L.Links.seat _
     c.step_by.new.p)
     (c.step_by.ensures.stepped start s (by g at.In-Stays start s room (i.walks start s room w))) (omega (arith, i.up))
 
 pub release-requires-clause-held : goal.release-requires-clause-held
 release-requires-clause-held g c =
-    let d = c.args.links.now in
     let l = c.loop-p in
     let (start, s, room, w) = c.requires.walks in
-    moved_holds (ordering_of (g.met.K.Rank.ordered (g.L.Links.numbers d))) start (g.K.Rank.number c.args.wanted) l.left l.at (g.K.Rank.number l.rank) (g.K.Rank.counted l.rank) l.passed
-    c.spare_slot-spare.result s (g.L.Links.seat d l.p)
-    (g.L.Links.seat d c.look_on.new.p) (l.invariant.walks start s room w) (g.met.L.Links.allowed d c.look_on.new.p c.look_on.ensures.pass)
+    moved_holds (ordering_of (g.met.K.Rank.ordered _)) start (g.K.Rank.number c.args.wanted) l.left l.at (g.K.Rank.number l.rank) (g.K.Rank.counted l.rank) l.passed
+    c.spare_slot-spare.result s _
+    _ (l.invariant.walks start s room w) (g.met.L.Links.allowed _ _ c.look_on.ensures.pass)
     c.in-Moved.ensures.looked
 
 pub returns-in-Moved-clause-later : goal.returns-in-Moved-clause-later
@@ -194,11 +186,11 @@ returns-in-Moved-clause-stepped g c = λ start s room first.
     let l = c.loop-p in
     let w = l.invariant.walks start s room first in
     let f = c.release.ensures in
-    moves_off (ordering_of (g.met.K.Rank.ordered (g.L.Links.numbers d))) start (g.K.Rank.number c.args.wanted) l.left l.at (g.K.Rank.number l.rank) (g.K.Rank.counted l.rank) l.passed
-    c.spare_slot-spare.result s (g.L.Links.seat d l.p)
-    (g.L.Links.seat d c.look_on.new.p) w (g.met.L.Links.allowed d c.look_on.new.p c.look_on.ensures.pass)
-    c.in-Moved.ensures.looked (g.L.Links.seat d c.release.new.p) f.released
-    (λ i h. g.met.L.Links.fresh_is d c.look_on.new.p i c.look_on.ensures.pass h) (g.met.L.Links.allowed d c.release.new.p f.pass)
+    moves_off (ordering_of (g.met.K.Rank.ordered _)) start (g.K.Rank.number c.args.wanted) l.left l.at (g.K.Rank.number l.rank) (g.K.Rank.counted l.rank) l.passed
+    c.spare_slot-spare.result s _
+    _ w (g.met.L.Links.allowed _ _ c.look_on.ensures.pass)
+    c.in-Moved.ensures.looked _ f.released
+    (λ i h. g.met.L.Links.fresh_is d c.look_on.new.p i c.look_on.ensures.pass h) (g.met.L.Links.allowed _ _ f.pass)
 
 pub step-requires-clause-walks : goal.step-requires-clause-walks
 step-requires-clause-walks g c =
@@ -210,8 +202,7 @@ returns-clause-later g c = goes_on _ _ _ c.loop-p.invariant.later c.step.ensures
 
 pub returns-clause-stepped : goal.returns-clause-stepped
 returns-clause-stepped g c = λ start s room w.
-    let d = c.args.links.now in
     let i = c.loop-p.invariant in
-    steps_up (reading_by (g.L.Links.numbers d) g.K.Rank.manner) g.K.Rank.number g.K.Rank.counted start (g.K.Rank.number c.args.wanted) (g.K.Rank.number c.args.rank + 1) (g.K.Rank.number c.loop-p.rank + 1) s c.step.result (g.L.Links.seat d
+    steps_up (reading_by _ g.K.Rank.manner) g.K.Rank.number g.K.Rank.counted start (g.K.Rank.number c.args.wanted) (g.K.Rank.number c.args.rank + 1) (g.K.Rank.number c.loop-p.rank + 1) s c.step.result (g.L.Links.seat _
     c.step.new.p)
     (c.step.ensures.stepped start s room (i.walks start s room w)) (omega (arith, i.up))

@@ -16,26 +16,21 @@ passed : (g : Over) (c : In-Stable g) → let d = c.args.links.now in let n = g.
     (place : Place) (s : Seat g.row.K-Rule-Note.Denot) → HasRoom s.slots → BeginsPlain (reading_by n g.K.Rank.manner) (g.K.Rule.Discipline.may n) place (g.K.Rank.number a.wanted) a.left s (g.L.Links.seat d a.p.now)
     → Passed (reading_by n g.K.Rank.manner) place (g.K.Rank.number a.wanted) 0 0 a.left None c.in-Stable.next s (g.L.Links.seat d c.look.new.p)
 passed g c = λ place s room b.
-    let d = c.args.links.now in
-    let n = g.L.Links.numbers d in
     let a = c.args in
-    let t = g.L.Links.seat d a.p.now in
-    let u = g.L.Links.seat d c.look.new.p in
-    let holds = g.met.L.Links.obeys d a.p.now c.requires.pass in
+    let t = g.L.Links.seat _ a.p.now in
+    let holds = g.met.L.Links.obeys _ _ c.requires.pass in
     let k = c.spare_slot-slot.ensures in
     let e = c.in-Stable.ensures in
-    start_looks (ordering_of (g.met.K.Rank.ordered n)) place (g.K.Rank.number a.wanted) a.left s t u b.begins holds b.plain
-    (g.met.L.Links.allowed d c.look.new.p e.pass) c.spare_slot-slot.result _ c.in-Stable.next room k.range.0 k.range.1
+    start_looks (ordering_of (g.met.K.Rank.ordered _)) place (g.K.Rank.number a.wanted) a.left s t _ b.begins holds b.plain
+    (g.met.L.Links.allowed _ _ e.pass) c.spare_slot-slot.result _ c.in-Stable.next room k.range.0 k.range.1
     (λ e. k.left (e ∙ sym c.slot_of.ensures))
-    (looks_from _ place c.spare_slot-slot.result _ t u (c.place_of.ensures.place t.slots ∙ begin_place (reading_by n g.K.Rank.manner) place a.root (g.K.Rank.number a.wanted) a.left s t c.requires.root.1 b.begins) e.looked)
+    (looks_from _ place c.spare_slot-slot.result _ t _ (c.place_of.ensures.place t.slots ∙ begin_place (reading_by _ g.K.Rank.manner) place a.root (g.K.Rank.number a.wanted) a.left s t c.requires.root.1 b.begins) e.looked)
 
 pub look-requires-clause-place : goal.look-requires-clause-place
 look-requires-clause-place g c =
-    let d = c.args.links.now in
-    let n = g.L.Links.numbers d in
-    let t = g.L.Links.seat d c.args.p.now in
+    let t = g.L.Links.seat _ c.args.p.now in
     let (place, s, room, b) = c.requires.begins in
-    c.place_of.ensures.held n t.slots c.requires.root.0 (begin_held (reading_by n g.K.Rank.manner) place (g.K.Rank.number c.args.wanted) c.args.left s t b.begins)
+    c.place_of.ensures.held _ t.slots c.requires.root.0 (begin_held (reading_by _ g.K.Rank.manner) place (g.K.Rank.number c.args.wanted) c.args.left s t b.begins)
 
 pub go_on-requires-clause-passed : goal.go_on-requires-clause-passed
 go_on-requires-clause-passed g c =
@@ -49,13 +44,10 @@ returns-in-Stable-clause-stepped g c = λ place s room b.
 pub returns-in-Moved-clause-stepped : goal.returns-in-Moved-clause-stepped
 returns-in-Moved-clause-stepped g c = λ place s room b.
     let d = c.args.links.now in
-    let n = g.L.Links.numbers d in
     let t = g.L.Links.seat d c.args.p.now in
-    let u = g.L.Links.seat d c.look.new.p in
     let a = c.args in
-    let v = g.L.Links.seat d c.let_go.new.p in
     let e = c.in-Moved.ensures in
-    start_few (ordering_of (g.met.K.Rank.ordered n)) place (g.K.Rank.number a.wanted) c.spare_slot-slot.result a.left s t u v b.begins
-    (looks_from _ place c.spare_slot-slot.result _ t u (c.place_of.ensures.place t.slots ∙ begin_place (reading_by n g.K.Rank.manner) place a.root (g.K.Rank.number a.wanted) a.left s t c.requires.root.1 b.begins) e.looked)
-    (g.met.L.Links.allowed d c.look.new.p e.pass) c.let_go.ensures.let_go (λ i h. g.met.L.Links.fresh_is d c.look.new.p i e.pass h)
-    (g.met.L.Links.allowed d c.let_go.new.p c.let_go.ensures.pass)
+    start_few (ordering_of (g.met.K.Rank.ordered _)) place (g.K.Rank.number a.wanted) c.spare_slot-slot.result a.left s t _ _ b.begins
+    (looks_from _ place c.spare_slot-slot.result _ t _ (c.place_of.ensures.place t.slots ∙ begin_place (reading_by _ g.K.Rank.manner) place a.root (g.K.Rank.number a.wanted) a.left s t c.requires.root.1 b.begins) e.looked)
+    (g.met.L.Links.allowed _ _ e.pass) c.let_go.ensures.let_go (λ i h. g.met.L.Links.fresh_is d c.look.new.p i e.pass h)
+    (g.met.L.Links.allowed _ _ c.let_go.ensures.pass)

@@ -7,46 +7,35 @@ use Rattle.orc_ordered_search.proofs.search.step.Goals as goal
 
 pub look-looked-requires-clause-slot : goal.look-looked-requires-clause-slot
 look-looked-requires-clause-slot g c =
-    let d = c.args.links.now in
-    let n = g.L.Links.numbers d in
-    let t = g.L.Links.seat d c.args.p.now in
     let a = c.args in
     let (start, s, room, w) = c.requires.walks in
     let k = c.spare_slot-slot.ensures in
-    walk_free (ordering_of (g.met.K.Rank.ordered n)) start (g.K.Rank.number a.wanted) a.walk.left a.walk.first a.walk.at (g.K.Rank.number a.walk.rank) (g.K.Rank.counted a.walk.rank) a.walk.passed
-    c.spare_slot-slot.result s t
+    walk_free (ordering_of (g.met.K.Rank.ordered _)) start (g.K.Rank.number a.wanted) a.walk.left a.walk.first a.walk.at (g.K.Rank.number a.walk.rank) (g.K.Rank.counted a.walk.rank) a.walk.passed
+    c.spare_slot-slot.result s _
     room w k.range.0 k.range.1
     (λ e. k.left (e ∙ sym c.slot_of.ensures)) (λ e. k.first (e ∙ sym c.slot_of-2.ensures)) (λ e. k.at (e ∙ sym c.slot.ensures))
 
 pub step_by-requires-clause-looked : goal.step_by-requires-clause-looked
 step_by-requires-clause-looked g c =
-    let d = c.args.links.now in
-    let n = g.L.Links.numbers d in
-    let t = g.L.Links.seat d c.args.p.now in
     let a = c.args in
-    let u = g.L.Links.seat d c.look-looked.new.p in
     let (start, s, room, w) = c.requires.walks in
     let k = c.spare_slot-slot.ensures in
     let e = c.look-looked.ensures in (
       start,
       s,
-      walk_looked (ordering_of (g.met.K.Rank.ordered n)) start (g.K.Rank.number a.wanted) a.walk.left a.walk.first a.walk.at (g.K.Rank.number a.walk.rank) (g.K.Rank.counted a.walk.rank) a.walk.passed
-          c.spare_slot-slot.result c.look-looked.result s t u room w k.range.0 k.range.1
+      walk_looked (ordering_of (g.met.K.Rank.ordered _)) start (g.K.Rank.number a.wanted) a.walk.left a.walk.first a.walk.at (g.K.Rank.number a.walk.rank) (g.K.Rank.counted a.walk.rank) a.walk.passed
+          c.spare_slot-slot.result c.look-looked.result s _ _ room w k.range.0 k.range.1
           (λ e. k.left (e ∙ sym c.slot_of.ensures)) (λ e. k.first (e ∙ sym c.slot_of-2.ensures)) (λ e. k.at (e ∙ sym c.slot.ensures))
-          e.looked (g.met.L.Links.obeys d a.p.now c.requires.pass) (g.met.L.Links.allowed d c.look-looked.new.p e.pass),
+          e.looked (g.met.L.Links.obeys _ _ c.requires.pass) (g.met.L.Links.allowed _ _ e.pass),
     )
 
 pub returns-clause-stepped : goal.returns-clause-stepped
 returns-clause-stepped g c = λ start s room w.
-    let d = c.args.links.now in
-    let n = g.L.Links.numbers d in
-    let t = g.L.Links.seat d c.args.p.now in
     let a = c.args in
-    let u = g.L.Links.seat d c.look-looked.new.p in
     let k = c.spare_slot-slot.ensures in
     let e = c.look-looked.ensures in
-    c.step_by.ensures.stepped start s (walk_looked (ordering_of (g.met.K.Rank.ordered n)) start (g.K.Rank.number a.wanted) a.walk.left a.walk.first a.walk.at (g.K.Rank.number a.walk.rank)
+    c.step_by.ensures.stepped start s (walk_looked (ordering_of (g.met.K.Rank.ordered _)) start (g.K.Rank.number a.wanted) a.walk.left a.walk.first a.walk.at (g.K.Rank.number a.walk.rank)
     (g.K.Rank.counted a.walk.rank) a.walk.passed
-    c.spare_slot-slot.result c.look-looked.result s t u room w k.range.0 k.range.1
+    c.spare_slot-slot.result c.look-looked.result s _ _ room w k.range.0 k.range.1
     (λ e. k.left (e ∙ sym c.slot_of.ensures)) (λ e. k.first (e ∙ sym c.slot_of-2.ensures)) (λ e. k.at (e ∙ sym c.slot.ensures))
-    e.looked (g.met.L.Links.obeys d a.p.now c.requires.pass) (g.met.L.Links.allowed d c.look-looked.new.p e.pass))
+    e.looked (g.met.L.Links.obeys _ _ c.requires.pass) (g.met.L.Links.allowed _ _ e.pass))

@@ -11,9 +11,7 @@ pub go_on-requires-clause-passed : goal.go_on-requires-clause-passed
 go_on-requires-clause-passed g c =
     let d = c.args.links.now in
     let n = g.L.Links.numbers d in
-    let t = g.L.Links.seat d c.args.p.now in
     let a = c.args in
-    let u = g.L.Links.seat d c.let_go.new.p in
     let v = g.L.Links.seat d c.let_go-2.new.p in
     let e = c.let_go.ensures in
     let f = c.let_go-2.ensures in
@@ -29,18 +27,16 @@ go_on-requires-clause-passed g c =
       s,
       m,
       counted start s (passed_lower (ordering_of (g.met.K.Rank.ordered n)) start (g.K.Rank.number a.wanted) a.walk.left a.walk.first a.walk.at (g.K.Rank.number a.walk.rank) (g.K.Rank.counted a.walk.rank)
-          a.walk.passed a.next s t u v w c.requires.lower e.let_go f.let_go
+          a.walk.passed a.next s _ _ v w c.requires.lower e.let_go f.let_go
           (λ i h. g.met.L.Links.fresh_is d a.p.now i c.requires.pass h) (λ i h. g.met.L.Links.fresh_is d c.let_go.new.p i e.pass h)
-          (g.met.L.Links.allowed d c.let_go.new.p e.pass) (g.met.L.Links.allowed d c.let_go-2.new.p f.pass)),
+          (g.met.L.Links.allowed _ _ e.pass) (g.met.L.Links.allowed _ _ f.pass)),
     )
 
 pub returns-clause-stepped : goal.returns-clause-stepped
 returns-clause-stepped g c = λ start s w.
     let d = c.args.links.now in
     let n = g.L.Links.numbers d in
-    let t = g.L.Links.seat d c.args.p.now in
     let a = c.args in
-    let u = g.L.Links.seat d c.let_go.new.p in
     let v = g.L.Links.seat d c.let_go-2.new.p in
     let e = c.let_go.ensures in
     let f = c.let_go-2.ensures in
@@ -51,6 +47,6 @@ returns-clause-stepped g c = λ start s w.
     = λ start s k. subst (λ (x : ℕ). Passed (reading_by n g.K.Rank.manner) start (g.K.Rank.number a.wanted) m x (Some a.walk.at) None a.next s v) (sym (c.count_one-passed.ensures ∙ ap (λ (b : Bool). count_on b a.walk.passed) c.is_counted.ensures))
     k in
     c.go_on.ensures.stepped start (g.K.Rank.number a.wanted) s m (counted start s (passed_lower (ordering_of (g.met.K.Rank.ordered n)) start (g.K.Rank.number a.wanted) a.walk.left a.walk.first
-    a.walk.at (g.K.Rank.number a.walk.rank) (g.K.Rank.counted a.walk.rank) a.walk.passed a.next s t u v w c.requires.lower e.let_go f.let_go
+    a.walk.at (g.K.Rank.number a.walk.rank) (g.K.Rank.counted a.walk.rank) a.walk.passed a.next s _ _ v w c.requires.lower e.let_go f.let_go
     (λ i h. g.met.L.Links.fresh_is d a.p.now i c.requires.pass h) (λ i h. g.met.L.Links.fresh_is d c.let_go.new.p i e.pass h)
-    (g.met.L.Links.allowed d c.let_go.new.p e.pass) (g.met.L.Links.allowed d c.let_go-2.new.p f.pass)))
+    (g.met.L.Links.allowed _ _ e.pass) (g.met.L.Links.allowed _ _ f.pass)))

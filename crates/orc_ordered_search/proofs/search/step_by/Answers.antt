@@ -7,9 +7,8 @@ use Rattle.orc_ordered_search.proofs.search.step_by.Goals as goal
 
 pub step_from-requires-clause-looks : goal.step_from-requires-clause-looks
 step_from-requires-clause-looks g c =
-    let d = c.args.links.now in
-    let n = g.L.Links.numbers d in
-    let t = g.L.Links.seat d c.args.p.now in
+    let n = g.L.Links.numbers _ in
+    let t = g.L.Links.seat _ c.args.p.now in
     let a = c.args in
     let (start, s, w) = c.requires.looked in (
       start,
@@ -20,9 +19,8 @@ step_from-requires-clause-looks g c =
 
 pub returns-in-Stable-clause-stepped : goal.returns-in-Stable-clause-stepped
 returns-in-Stable-clause-stepped g c = λ start s w.
-    let d = c.args.links.now in
-    let n = g.L.Links.numbers d in
-    let t = g.L.Links.seat d c.args.p.now in
+    let n = g.L.Links.numbers _ in
+    let t = g.L.Links.seat _ c.args.p.now in
     let a = c.args in
     c.step_from.ensures.stepped start s
     (subst (λ (z : Looked). LooksBy (reading_by n g.K.Rank.manner) start (g.K.Rank.number a.wanted) a.walk.left a.walk.first a.walk.at (g.K.Rank.number a.walk.rank) (g.K.Rank.counted a.walk.rank)
@@ -30,9 +28,8 @@ returns-in-Stable-clause-stepped g c = λ start s w.
 
 pub stop-requires-clause-stops : goal.stop-requires-clause-stops
 stop-requires-clause-stops g c =
-    let d = c.args.links.now in
-    let n = g.L.Links.numbers d in
-    let t = g.L.Links.seat d c.args.p.now in
+    let n = g.L.Links.numbers _ in
+    let t = g.L.Links.seat _ c.args.p.now in
     let a = c.args in
     let (start, s, w) = c.requires.looked in (
       start,
@@ -43,9 +40,8 @@ stop-requires-clause-stops g c =
 
 pub returns-in-Moved-clause-stepped : goal.returns-in-Moved-clause-stepped
 returns-in-Moved-clause-stepped g c = λ start s w.
-    let d = c.args.links.now in
-    let n = g.L.Links.numbers d in
-    let t = g.L.Links.seat d c.args.p.now in
+    let n = g.L.Links.numbers _ in
+    let t = g.L.Links.seat _ c.args.p.now in
     let a = c.args in
     c.stop.ensures.moved start (g.K.Rank.number a.wanted) s
     (subst (λ (z : Looked). LooksBy (reading_by n g.K.Rank.manner) start (g.K.Rank.number a.wanted) a.walk.left a.walk.first a.walk.at (g.K.Rank.number a.walk.rank) (g.K.Rank.counted a.walk.rank)

@@ -14,19 +14,17 @@ returns-then-is_before-2-clause-stepped g c = λ start s w.
     let n = g.L.Links.numbers d in
     let t = g.L.Links.seat d c.args.p.now in
     let a = c.args in
-    let u = g.L.Links.seat d c.let_go.new.p in
     let e = c.let_go.ensures in
     let here = subst (λ (b : Bool). LooksOn (reading_by n g.K.Rank.manner) start (g.K.Rank.number a.wanted) a.walk.left a.walk.first a.walk.at (g.K.Rank.number a.walk.rank)
     (g.K.Rank.counted a.walk.rank) a.walk.passed b a.next s t) c.if-mark.false w in
     looks_above (ordering_of (g.met.K.Rank.ordered n)) start (g.K.Rank.number a.wanted) a.walk.left a.walk.first a.walk.at (g.K.Rank.number a.walk.rank) (g.K.Rank.counted a.walk.rank) a.walk.passed a.next
-    s t u here (c.is_before-2.ensures.yes c.if-is_before-2.true) e.let_go (λ i h. g.met.L.Links.fresh_is d a.p.now i c.requires.pass h)
-    (g.met.L.Links.allowed d c.let_go.new.p e.pass)
+    s t _ here (c.is_before-2.ensures.yes c.if-is_before-2.true) e.let_go (λ i h. g.met.L.Links.fresh_is d a.p.now i c.requires.pass h)
+    (g.met.L.Links.allowed _ _ e.pass)
 
 pub returns-clause-stepped : goal.returns-clause-stepped
 returns-clause-stepped g c = λ start s w.
-    let d = c.args.links.now in
-    let n = g.L.Links.numbers d in
-    let t = g.L.Links.seat d c.args.p.now in
+    let n = g.L.Links.numbers _ in
+    let t = g.L.Links.seat _ c.args.p.now in
     let a = c.args in
     let here = subst (λ (b : Bool). LooksOn (reading_by n g.K.Rank.manner) start (g.K.Rank.number a.wanted) a.walk.left a.walk.first a.walk.at (g.K.Rank.number a.walk.rank)
     (g.K.Rank.counted a.walk.rank) a.walk.passed b a.next s t) c.if-mark.false w in

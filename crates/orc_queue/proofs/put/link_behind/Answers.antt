@@ -26,10 +26,9 @@ help_tail-requires g c =
 
 pub returns-in-Put-clause-linked : goal.returns-in-Put-clause-linked
 returns-in-Put-clause-linked g c =
-    let d = c.args.links.now in
     let l = c.in-Put.ensures.linked in
     let e = c.help_tail.ensures in
-    let u = g.L.Links.seat d c.link_node.new.p in
-    let t = g.L.Links.seat d c.help_tail.new.p in
+    let u = g.L.Links.seat _ c.link_node.new.p in
+    let t = g.L.Links.seat _ c.help_tail.new.p in
     let helped = subst (λ (z : Slots). Helps (id_in z c.args.tail.now) (id_in u.slots c.args.node.now) u t) l.puts.piece.slots e.helped in
-    link_helped _ _ _ _ _ _ _ _ _ (g.met.L.Links.allowed d c.help_tail.new.p e.pass) l helped
+    link_helped _ _ _ _ _ _ _ _ _ (g.met.L.Links.allowed _ _ e.pass) l helped

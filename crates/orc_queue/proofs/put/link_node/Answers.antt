@@ -22,10 +22,9 @@ use Rattle.orc_queue.proofs.put.link_node.Goals as goal
 position : (g : Over) (c : After-value-at g) → let d = c.args.links.now in let s = g.L.Links.seat d c.args.p.now in
     c.value-at.result ≡ position_of (heap_of (g.L.Links.numbers d) s) (id_in s.slots c.args.tail.now)
 position g c =
-    let d = c.args.links.now in
     let e = c.value-at.ensures in
-    let known = pass_known g.L.Links g.met.L.Links.opens g.met.L.Links.allowed g.met.L.Links.obeys d in
-    read_position (g.L.Links.numbers d) (g.L.Links.seat d c.args.p.now) _ _ _ (known c.value-at.new.p c.requires.made e.pass) e.nothing
+    let known = pass_known g.L.Links g.met.L.Links.opens g.met.L.Links.allowed g.met.L.Links.obeys _ in
+    read_position _ _ _ _ _ (known c.value-at.new.p c.requires.made e.pass) e.nothing
     c.requires.named.linked e.value
 
 -- and put into the fresh node
@@ -34,8 +33,7 @@ filled : (g : Over) (c : After-fill g) → let d = c.args.links.now in let s = g
     → FillsNode (g.L.Links.numbers d) c.args.job c.value-at.result (id_in s.slots c.args.tail.now) c.args.node.now s (g.L.Links.seat d c.value-at.new.p)
     (g.L.Links.seat d c.fill.new.p)
 filled g c at_is =
-    let d = c.args.links.now in
-    let known = pass_known g.L.Links g.met.L.Links.opens g.met.L.Links.allowed g.met.L.Links.obeys d in
+    let known = pass_known g.L.Links g.met.L.Links.opens g.met.L.Links.allowed g.met.L.Links.obeys _ in
     record {
       before = known c.args.p.now c.requires.made c.requires.pass;
       after = known c.fill.new.p c.requires.made c.fill.ensures.pass;
@@ -66,24 +64,22 @@ pub returns-else-change-clause-linked : goal.returns-else-change-clause-linked
 returns-else-change-clause-linked g c =
     let at = goal.at.returns-else-change-clause-linked g c in
     let f = filled g at.After-fill (position g at.After-value-at) in
-    let d = c.args.links.now in
-    let b = g.L.Links.seat d c.fill.new.p in
-    let t = g.L.Links.seat d c.change.new.p in
+    let b = g.L.Links.seat _ c.fill.new.p in
+    let t = g.L.Links.seat _ c.change.new.p in
     let e = c.change.ensures in
     let missed = Swings-missed e.swung c.if-change.false in
-    link_missed f t (g.met.L.Links.allowed d c.change.new.p e.pass) e.swung.slots (missed_fresh e.swung c.if-change.false)
+    link_missed f t (g.met.L.Links.allowed _ _ e.pass) e.swung.slots (missed_fresh e.swung c.if-change.false)
     (subst (λ (i : ℕ). Misses (Next i) null b t) (tail_same f c.args.tail.now) missed)
 
 pub returns-then-change-clause-linked : goal.returns-then-change-clause-linked
 returns-then-change-clause-linked g c =
     let at = goal.at.returns-then-change-clause-linked g c in
     let f = filled g at.After-fill (position g at.After-value-at) in
-    let d = c.args.links.now in
-    let b = g.L.Links.seat d c.fill.new.p in
-    let t = g.L.Links.seat d c.change.new.p in
+    let b = g.L.Links.seat _ c.fill.new.p in
+    let t = g.L.Links.seat _ c.change.new.p in
     let e = c.change.ensures in
     let agent = c.agent-agent.result in
     let to = link_to (id_in b.slots c.args.node.now) in
     let moved = subst (λ (i : ℕ). Puts b (event_of b (Move (Next i) null to) (Some (Entry (Put agent c.args.job c.value-at.result))) ∷ []) t)
     (tail_same f c.args.tail.now) (Swings-moved e.swung c.if-change.true) in
-    link_made f t agent (g.met.L.Links.allowed d c.change.new.p e.pass) c.agent-agent.ensures e.swung.slots (Swings-fresh e.swung c.if-change.true) moved
+    link_made f t agent (g.met.L.Links.allowed _ _ e.pass) c.agent-agent.ensures e.swung.slots (Swings-fresh e.swung c.if-change.true) moved

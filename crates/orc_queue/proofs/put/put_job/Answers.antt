@@ -6,14 +6,13 @@ use Rattle.orc_queue.proofs.put.put_job.Goals as goal
 
 pub returns-then-turns-eq0-clause-answered : goal.returns-then-turns-eq0-clause-answered
 returns-then-turns-eq0-clause-answered g c =
-    let d = c.args.links.now in
-    let n = g.L.Links.numbers d in
-    let s = g.L.Links.seat d c.args.p.now in
+    let n = g.L.Links.numbers _ in
+    let s = g.L.Links.seat _ c.args.p.now in
     subst (λ (k : ℕ). PutTired n k s s) (sym c.if-turns-eq0.true) (put_none n s c.requires.idle)
 
 pub returns-in-Err-clause-answered : goal.returns-in-Err-clause-answered
 returns-in-Err-clause-answered g c =
-    put_lacking (g.L.Links.numbers c.args.links.now) c.args.turns _ _ c.requires.idle c.if-turns-eq0.false c.in-Err.ensures.none
+    put_lacking _ c.args.turns _ _ c.requires.idle c.if-turns-eq0.false c.in-Err.ensures.none
 
 pub returns-in-Put-clause-answered : goal.returns-in-Put-clause-answered
 returns-in-Put-clause-answered g c =

@@ -13,9 +13,8 @@ use Rattle.orc_queue.proofs.put.put_turn.Goals as goal
 found : (g : Over) (c : In-Some g) → let d = c.args.links.now in
     HoldsRoot (g.L.Links.numbers d) 1 2 (g.L.Links.seat d c.args.p.now) c.in-Some.tail (g.L.Links.seat d c.hold_root.new.p)
 found g c =
-    let d = c.args.links.now in
     let e = c.in-Some.ensures in
-    let known = pass_known g.L.Links g.met.L.Links.opens g.met.L.Links.allowed g.met.L.Links.obeys d in
+    let known = pass_known g.L.Links g.met.L.Links.opens g.met.L.Links.allowed g.met.L.Links.obeys _ in
     root_held _ _ _ 1 2 _ (omega arith) c.requires.slots.0 (known c.args.p.now c.requires.made c.requires.pass) (known c.hold_root.new.p c.requires.made e.pass)
     e.looked
 
@@ -35,10 +34,9 @@ put_behind-turn-requires g c =
 pub release-requires-clause-held : goal.release-requires-clause-held
 release-requires-clause-held g c =
     let f = found g (goal.at.release-requires-clause-held g c).In-Some in
-    let d = c.args.links.now in
-    let tail = id_in (g.L.Links.seat d c.hold_root.new.p).slots c.in-Some.tail in
+    let tail = id_in (g.L.Links.seat _ c.hold_root.new.p).slots c.in-Some.tail in
     let turn = c.put_behind-turn.result in
-    found_kept f.node (behind_piece (g.L.Links.numbers d) c.args.job tail c.args.node.now _ _ turn c.put_behind-turn.ensures.put).slots
+    found_kept f.node (behind_piece _ c.args.job tail c.args.node.now _ _ turn c.put_behind-turn.ensures.put).slots
 
 pub returns-in-Some-clause-put : goal.returns-in-Some-clause-put
 returns-in-Some-clause-put g c =
@@ -52,9 +50,8 @@ returns-in-Some-clause-put g c =
 
 pub returns-in-None-clause-put : goal.returns-in-None-clause-put
 returns-in-None-clause-put g c =
-    let d = c.args.links.now in
     let e = c.in-None.ensures in
     let r = e.looked.tells in
-    let known = pass_known g.L.Links g.met.L.Links.opens g.met.L.Links.allowed g.met.L.Links.obeys d in
-    turn_moved (g.L.Links.numbers d) c.args.job c.args.node.now _ _ r.0 r.1 (known c.args.p.now c.requires.made c.requires.pass)
-    (g.met.L.Links.allowed d c.hold_root.new.p e.pass) c.requires.node r.2 r.3 e.looked.fresh r.4
+    let known = pass_known g.L.Links g.met.L.Links.opens g.met.L.Links.allowed g.met.L.Links.obeys _ in
+    turn_moved _ c.args.job c.args.node.now _ _ r.0 r.1 (known c.args.p.now c.requires.made c.requires.pass)
+    (g.met.L.Links.allowed _ _ e.pass) c.requires.node r.2 r.3 e.looked.fresh r.4

@@ -18,8 +18,7 @@ pub returns-in_default : goal.returns-in_default
 returns-in_default g c =
     let i = c.loop.invariant in
     let e = c.put_turn.ensures in
-    let d = c.args.links.now in
-    let done = turns_done _ _ _ c.args.turns _ _ _ (g.L.Links.seat d c.put_turn.new.p) c.put_turn.result c.in_default.not-Over (omega (arith, c.loop-test.true))
+    let done = turns_done _ _ _ c.args.turns _ _ _ _ c.put_turn.result c.in_default.not-Over (omega (arith, c.loop-test.true))
     i.tires e.put in
     record { pass = e.pass; later = goes_on _ _ _ i.later e.later; put = done }
 

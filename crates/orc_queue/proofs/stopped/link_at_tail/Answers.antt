@@ -17,9 +17,8 @@ use Rattle.orc_queue.proofs.stopped.link_at_tail.Goals as goal
 found : (g : Over) (c : In-Some g) → let d = c.args.links.now in
     HoldsRoot (g.L.Links.numbers d) 1 2 (g.L.Links.seat d c.args.p.now) c.in-Some.tail (g.L.Links.seat d c.hold_root.new.p)
 found g c =
-    let d = c.args.links.now in
     let e = c.in-Some.ensures in
-    let known = pass_known g.L.Links g.met.L.Links.opens g.met.L.Links.allowed g.met.L.Links.obeys d in
+    let known = pass_known g.L.Links g.met.L.Links.opens g.met.L.Links.allowed g.met.L.Links.obeys _ in
     root_held _ _ _ 1 2 _ (omega arith) c.requires.slot (known c.args.p.now c.requires.made c.requires.pass) (known c.hold_root.new.p c.requires.made e.pass)
     e.looked
 
@@ -27,9 +26,8 @@ found g c =
 kept : (g : Over) (c : After-link_node-turn g) → let d = c.args.links.now in
     LinkKept c.args.job (g.L.Links.seat d c.hold_root.new.p) c.link_node-turn.result (g.L.Links.seat d c.link_node-turn.new.p)
 kept g c =
-    let d = c.args.links.now in
-    let tail = id_in (g.L.Links.seat d c.hold_root.new.p).slots c.in-Some.tail in
-    link_kept (g.L.Links.numbers d) c.args.job tail c.args.node.now _ _ c.link_node-turn.result c.link_node-turn.ensures.linked
+    let tail = id_in (g.L.Links.seat _ c.hold_root.new.p).slots c.in-Some.tail in
+    link_kept _ c.args.job tail c.args.node.now _ _ c.link_node-turn.result c.link_node-turn.ensures.linked
 
 pub link_node-turn-requires : goal.link_node-turn-requires
 link_node-turn-requires g c =
@@ -53,8 +51,7 @@ returns-in-Some-clause-stopped g c =
     let at = goal.at.returns-in-Some-clause-stopped g c in
     let f = found g at.In-Some in
     let k = (kept g at.After-link_node-turn).stops in
-    let d = c.args.links.now in
-    let q = puts_released _ _ (g.L.Links.seat d c.release.new.p) k.piece.own k.piece.puts c.release.ensures.released.puts in
+    let q = puts_released _ _ _ k.piece.own k.piece.puts c.release.ensures.released.puts in
     record {
       piece = record {
         own = _;
@@ -74,8 +71,8 @@ returns-in-Some-clause-fresh g c =
     let k = kept g at.After-link_node-turn in
     let d = c.args.links.now in
     let e = c.link_node-turn.ensures in
-    let all = g.met.L.Links.allowed d c.link_node-turn.new.p e.pass in
-    let linked = linked_puts (g.L.Links.numbers d) _ _ k.stops.piece.own k.stops.piece.puts all node.id node.linked in
+    let all = g.met.L.Links.allowed _ _ e.pass in
+    let linked = linked_puts _ _ _ k.stops.piece.own k.stops.piece.puts all node.id node.linked in
     let fresh = found_fresh node k.stops.piece.slots (λ i is. g.met.L.Links.fresh_is d c.link_node-turn.new.p i e.pass is) linked c.release.ensures.released in
     elim k.fresh [ inl is ↦ inl (fresh ∙ (is ∙ c.in-Some.ensures.looked.1.fresh)) | inr is ↦ inr (fresh ∙ is) ]
 
@@ -94,6 +91,5 @@ returns-in-Some-clause-missed g c = λ other.
 
 pub returns-in-None-clause-missed : goal.returns-in-None-clause-missed
 returns-in-None-clause-missed g c = λ other.
-    let d = c.args.links.now in
     let r = c.in-None.ensures.looked.tells in
-    moved_full (g.L.Links.numbers d) _ _ r.0 r.1 r.2 r.4 (g.met.L.Links.allowed d c.hold_root.new.p c.in-None.ensures.pass)
+    moved_full _ _ _ r.0 r.1 r.2 r.4 (g.met.L.Links.allowed _ _ c.in-None.ensures.pass)

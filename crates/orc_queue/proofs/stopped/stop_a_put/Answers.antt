@@ -31,16 +31,14 @@ returns-in-Put-clause-missed g c = λ is. cc
 
 pub returns-in-Full-clause-missed : goal.returns-in-Full-clause-missed
 returns-in-Full-clause-missed g c = λ is.
-    let d = c.args.links.now in
-    let known = pass_known g.L.Links g.met.L.Links.opens g.met.L.Links.allowed g.met.L.Links.obeys d c.args.p.now c.requires.made c.requires.pass in
+    let known = pass_known g.L.Links g.met.L.Links.opens g.met.L.Links.allowed g.met.L.Links.obeys _ _ c.requires.made c.requires.pass in
     let e = c.in-Full.ensures in
     inr (full_over _ _ _ _ _ _ e.stopped.piece.own c.in-Ok.ensures.given.puts e.stopped.piece.puts c.release.ensures.released.puts known
-    (g.met.L.Links.allowed d c.give.new.p c.in-Ok.ensures.pass) refl (λ alone. e.missed (λ at full. cc)))
+    (g.met.L.Links.allowed _ _ c.in-Ok.ensures.pass) refl (λ alone. e.missed (λ at full. cc)))
 
 pub returns-in-Over-clause-missed : goal.returns-in-Over-clause-missed
 returns-in-Over-clause-missed g c = λ is.
-    let d = c.args.links.now in
-    let known = pass_known g.L.Links g.met.L.Links.opens g.met.L.Links.allowed g.met.L.Links.obeys d c.args.p.now c.requires.made c.requires.pass in
+    let known = pass_known g.L.Links g.met.L.Links.opens g.met.L.Links.allowed g.met.L.Links.obeys _ _ c.requires.made c.requires.pass in
     let e = c.in-Over.ensures in
     inr (full_over _ _ _ _ _ _ e.stopped.piece.own c.in-Ok.ensures.given.puts e.stopped.piece.puts c.release.ensures.released.puts known
-    (g.met.L.Links.allowed d c.give.new.p c.in-Ok.ensures.pass) refl (λ alone. e.missed (λ at over. cc)))
+    (g.met.L.Links.allowed _ _ c.in-Ok.ensures.pass) refl (λ alone. e.missed (λ at over. cc)))

@@ -11,16 +11,14 @@ use Rattle.orc_heap.proofs.Pieces.{linked_not_fresh}
 
 pub change-done-requires : goal.change-done-requires
 change-done-requires g c =
-    let d = c.args.links.now in
-    let n = g.L.Links.numbers d in
-    let s = g.L.Links.seat d c.args.p.now in
-    let k = pass_known g.L.Links g.met.L.Links.opens g.met.L.Links.allowed g.met.L.Links.obeys d c.args.p.now c.requires.made c.requires.pass in
+    let s = g.L.Links.seat _ c.args.p.now in
+    let k = pass_known g.L.Links g.met.L.Links.opens g.met.L.Links.allowed g.met.L.Links.obeys _ _ c.requires.made c.requires.pass in
     record {
       pass = search rules;
       linked = search rules;
       links = search rules;
-      place = roots_there n s.seen 1 k (omega arith);
-      allowed = swing_allowed n s.agent (id_in s.slots c.args.tail.now) (id_in s.slots c.args.next.now) s.seen k.holds k.dummy.begun c.requires.successor;
+      place = roots_there _ s.seen 1 k (omega arith);
+      allowed = swing_allowed _ s.agent (id_in s.slots c.args.tail.now) (id_in s.slots c.args.next.now) s.seen k.holds k.dummy.begun c.requires.successor;
     }
 
 pub returns-clause-helped : goal.returns-clause-helped

@@ -11,16 +11,14 @@ use Rattle.orc_queue.proofs.swings.hold_root.Goals as goal
 
 pub look-requires-clause-place : goal.look-requires-clause-place
 look-requires-clause-place g c =
-    let d = c.args.links.now in
-    let known = pass_known g.L.Links g.met.L.Links.opens g.met.L.Links.allowed g.met.L.Links.obeys d in
+    let known = pass_known g.L.Links g.met.L.Links.opens g.met.L.Links.allowed g.met.L.Links.obeys _ in
     roots_there _ _ c.args.root (known c.args.p.now c.requires.made c.requires.pass) c.requires.root
 
 pub unreachable-requires : goal.unreachable-requires
 unreachable-requires g c =
-    let d = c.args.links.now in
     let e = c.in-Stable-default-None.ensures in
-    let known = pass_known g.L.Links g.met.L.Links.opens g.met.L.Links.allowed g.met.L.Links.obeys d in
-    root_not_null _ _ _ c.args.root _ c.requires.root (known c.args.p.now c.requires.made c.requires.pass) (g.met.L.Links.allowed d c.look.new.p e.pass)
+    let known = pass_known g.L.Links g.met.L.Links.opens g.met.L.Links.allowed g.met.L.Links.obeys _ in
+    root_not_null _ _ _ c.args.root _ c.requires.root (known c.args.p.now c.requires.made c.requires.pass) (g.met.L.Links.allowed _ _ e.pass)
     (Looks-null {place = Root c.args.root} e.looked c.in-Stable-default-None.field-1-is)
 
 pub returns-in-Stable-default-Some-clause-looked : goal.returns-in-Stable-default-Some-clause-looked

@@ -7,15 +7,13 @@ use Rattle.orc_queue.proofs.take.finds_end.Goals as goal
 
 pub same-requires-clause-allowed : goal.same-requires-clause-allowed
 same-requires-clause-allowed g c =
-    let d = c.args.links.now in
-    let s = g.L.Links.seat d c.args.p.now in
-    let known = pass_known g.L.Links g.met.L.Links.opens g.met.L.Links.allowed g.met.L.Links.obeys d c.args.p.now c.requires.made c.requires.pass in
+    let s = g.L.Links.seat _ c.args.p.now in
+    let known = pass_known g.L.Links g.met.L.Links.opens g.met.L.Links.allowed g.met.L.Links.obeys _ _ c.requires.made c.requires.pass in
     rw c.agent-agent.ensures
-    (empty_allowed (g.L.Links.numbers d) s.agent (id_in s.slots c.args.head.now) s.seen known.holds known.dummy.begun c.requires.named)
+    (empty_allowed _ s.agent (id_in s.slots c.args.head.now) s.seen known.holds known.dummy.begun c.requires.named)
 
 pub returns-clause-found : goal.returns-clause-found
 returns-clause-found g c =
-    let d = c.args.links.now in
     let e = c.same.ensures in
-    end_found (g.L.Links.numbers d) _ _ c.args.head c.agent-agent.result c.same.result c.agent-agent.ensures c.requires.named.linked
-    (g.met.L.Links.allowed d c.same.new.p e.pass) e.tested
+    end_found _ _ _ c.args.head c.agent-agent.result c.same.result c.agent-agent.ensures c.requires.named.linked
+    (g.met.L.Links.allowed _ _ e.pass) e.tested

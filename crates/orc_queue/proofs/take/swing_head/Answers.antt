@@ -17,12 +17,11 @@ read : (g : Over) (c : After-value-at g) → let d = c.args.links.now in let s =
     ReadsSuccessor (g.L.Links.numbers d) (id_in s.slots c.args.head.now) (id_in s.slots c.args.next.now) c.value-job.result c.value-at.result s
     (g.L.Links.seat d c.value-at.new.p)
 read g c =
-    let d = c.args.links.now in
     let job = c.value-job.ensures in
     let at = c.value-at.ensures in
-    let known = pass_known g.L.Links g.met.L.Links.opens g.met.L.Links.allowed g.met.L.Links.obeys d in
+    let known = pass_known g.L.Links g.met.L.Links.opens g.met.L.Links.allowed g.met.L.Links.obeys _ in
     successor_read _ _ c.args.next.now _ _ _ _ _ (known c.args.p.now c.requires.made c.requires.pass) (known c.value-at.new.p c.requires.made at.pass)
-    (g.met.L.Links.allowed d c.value-job.new.p job.pass) c.requires.successor job.nothing at.nothing job.value at.value
+    (g.met.L.Links.allowed _ _ job.pass) c.requires.successor job.nothing at.nothing job.value at.value
 
 pub overflow_sub-at : goal.overflow_sub-at
 overflow_sub-at g c = omega (arith, (read g (goal.at.overflow_sub-at g c).After-value-at).at_is)
@@ -51,13 +50,12 @@ returns-then-change-clause-took g c =
     let linked = subst (λ (i : ℕ). IsLinkedNode (heap_of n b) i) (sym (ap (λ (z : Slots). id_in z next.now) r.nothing.slots))
     (job_linked (heap_of n b) (id_in s.slots next.now) r.job _ r.holds) in
     head_swung n s b _ c.args.head next c.agent-agent.result c.value-job.result _ c.change.result c.agent-agent.ensures r.nothing
-    (g.met.L.Links.allowed d c.change.new.p e.pass) e.swung c.if-change.true
+    (g.met.L.Links.allowed _ _ e.pass) e.swung c.if-change.true
     (linked_not_fresh n b (id_in b.slots next.now) (λ i is. g.met.L.Links.fresh_is d c.value-at.new.p i c.value-at.ensures.pass is) linked)
 
 pub returns-else-change-clause-took : goal.returns-else-change-clause-took
 returns-else-change-clause-took g c =
     let r = read g (goal.at.returns-else-change-clause-took g c).After-value-at in
-    let d = c.args.links.now in
     let e = c.change.ensures in
-    head_missed (g.L.Links.numbers d) _ _ _ c.args.head c.args.next _ c.change.result r.nothing (g.met.L.Links.allowed d c.change.new.p e.pass) e.swung
+    head_missed _ _ _ _ c.args.head c.args.next _ c.change.result r.nothing (g.met.L.Links.allowed _ _ e.pass) e.swung
     c.if-change.false

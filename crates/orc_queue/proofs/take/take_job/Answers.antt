@@ -15,4 +15,4 @@ returns-in-Empty-clause-answered g c =
 
 pub returns-in-Over-clause-answered : goal.returns-in-Over-clause-answered
 returns-in-Over-clause-answered g c =
-    take_tired (g.L.Links.numbers c.args.links.now) c.args.turns _ _ c.requires.idle c.in-Over.ensures.took
+    take_tired _ c.args.turns _ _ c.requires.idle c.in-Over.ensures.took

@@ -8,8 +8,7 @@ use Rattle.orc_heap.proofs.Pieces.{goes_on}
 
 pub loop-init : goal.loop-init
 loop-init g c =
-    let d = c.args.links.now in
-    record { pass = c.requires.pass; later = ([], append-nil _); over = over_none (g.L.Links.numbers d) TailIsPast (g.L.Links.seat d c.args.p.now) }
+    record { pass = c.requires.pass; later = ([], append-nil _); over = over_none _ TailIsPast _ }
 
 pub loop-preserved : goal.loop-preserved
 loop-preserved g c =
@@ -21,7 +20,7 @@ pub returns-in_default : goal.returns-in_default
 returns-in_default g c =
     let i = c.loop.invariant in
     let e = c.take_turn.ensures in
-    let taken = turns_taken _ _ c.args.turns _ _ (g.L.Links.seat c.args.links.now c.take_turn.new.p) c.take_turn.result c.in_default.not-Over
+    let taken = turns_taken _ _ c.args.turns _ _ _ c.take_turn.result c.in_default.not-Over
     (omega (arith, c.loop-test.true)) i.over e.took in
     record { pass = e.pass; later = goes_on _ _ _ i.later e.later; took = taken }
 

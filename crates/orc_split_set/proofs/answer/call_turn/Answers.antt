@@ -20,8 +20,7 @@ call_from-requires-clause-begins g c =
 
 pub returns-in-Moved-clause-answered : goal.returns-in-Moved-clause-answered
 returns-in-Moved-clause-answered g c =
-    let d = c.args.links.now in
-    found_over (split_reading (g.L.Links.numbers d)) (g.L.Links.seat d c.args.p.now) (g.L.Links.seat d c.begin.new.p) c.in-Moved.ensures.begun
+    found_over (split_reading _) _ _ c.in-Moved.ensures.begun
 
 pub returns-in-From-clause-answered : goal.returns-in-From-clause-answered
 returns-in-From-clause-answered g c =
@@ -35,8 +34,7 @@ returns-in-From-clause-answered g c =
 
 pub returns-in-Moved-clause-few : goal.returns-in-Moved-clause-few
 returns-in-Moved-clause-few g c = λ asks has many r sees.
-    let d = c.args.links.now in
-    absurd (own_not_moved (g.L.Links.numbers d) (g.L.Links.seat d c.args.p.now) (g.L.Links.seat d c.begin.new.p) c.in-Moved.ensures.begun sees)
+    absurd (own_not_moved _ _ _ c.in-Moved.ensures.begun sees)
 
 pub returns-in-From-clause-few : goal.returns-in-From-clause-few
 returns-in-From-clause-few g c = λ asks has many r.

@@ -17,33 +17,28 @@ use Rattle.orc_split_set.proofs.answer.call_turns.Goals as goal
 
 pub loop-init : goal.loop-init
 loop-init g c =
-    let d = c.args.links.now in
-    record { pass = c.requires.pass; later = ([], append-nil _); tires = tires_none (split_reading (g.L.Links.numbers d)) (g.L.Links.seat d c.args.p.now) }
+    record { pass = c.requires.pass; later = ([], append-nil _); tires = tires_none (split_reading _) _ }
 
 pub call_turn-requires-clause-room : goal.call_turn-requires-clause-room
 call_turn-requires-clause-room g c = subst (λ (z : Slots). HasRoom z) (sym c.loop.invariant.tires.slots) c.requires.room
 
 pub loop-preserved : goal.loop-preserved
 loop-preserved g c =
-    let d = c.args.links.now in
-    let n = g.L.Links.numbers d in
     let i = c.loop.invariant in
     let e = c.in_default.ensures in
-    let t = g.L.Links.seat d c.loop.p in
     record {
       pass = e.pass;
       later = goes_on _ _ _ i.later e.later;
-      tires = tires_next (split_reading n) c.loop.counter (g.L.Links.seat d c.args.p.now) t (g.L.Links.seat d c.call_turn.new.p) i.tires
+      tires = tires_next (split_reading _) c.loop.counter _ _ _ i.tires
           e.answered;
     }
 
 pub returns-in-Some-clause-answered : goal.returns-in-Some-clause-answered
 returns-in-Some-clause-answered g c =
-    let d = c.args.links.now in
-    let n = g.L.Links.numbers d in
-    let s = g.L.Links.seat d c.args.p.now in
-    let t = g.L.Links.seat d c.loop.p in
-    let u = g.L.Links.seat d c.call_turn.new.p in
+    let n = g.L.Links.numbers _ in
+    let s = g.L.Links.seat _ c.args.p.now in
+    let t = g.L.Links.seat _ c.loop.p in
+    let u = g.L.Links.seat _ c.call_turn.new.p in
     let i = c.loop.invariant in
     let answer = c.in-Some.answer in
     let last = c.in-Some.ensures.answered in
@@ -76,9 +71,8 @@ returns-in-Some-clause-few g c = λ asks has many r.
 
 pub returns-clause-few : goal.returns-clause-few
 returns-clause-few g c = λ asks has many r.
-    let d = c.args.links.now in
-    let n = g.L.Links.numbers d in
-    let s = g.L.Links.seat d c.args.p.now in
-    let t = g.L.Links.seat d c.loop.p in
+    let n = g.L.Links.numbers _ in
+    let s = g.L.Links.seat _ c.args.p.now in
+    let t = g.L.Links.seat _ c.loop.p in
     let i = c.loop.invariant in
     few_none (6 + 4 * many - root_loads (bucket_now n c.args.key s)) s t (λ sees. own_no_turns n 0 c.loop.counter s t i.tires.own i.tires.over sees)

@@ -12,16 +12,15 @@ begin_near-requires-clause-room g c = subst (λ (z : Slots). HasRoom z) (sym c.i
 
 pub returns-in-Some-clause-begun : goal.returns-in-Some-clause-begun
 returns-in-Some-clause-begun g c =
-    let d = c.args.links.now in
-    let n = g.L.Links.numbers d in
-    let s = g.L.Links.seat d c.args.p.now in
-    let t = g.L.Links.seat d c.read_size.new.p in
-    let u = g.L.Links.seat d c.begin_near.new.p in
+    let n = g.L.Links.numbers _ in
+    let s = g.L.Links.seat _ c.args.p.now in
+    let t = g.L.Links.seat _ c.read_size.new.p in
+    let u = g.L.Links.seat _ c.begin_near.new.p in
     let r = c.in-Some.ensures.read in
     let e = c.begin_near.ensures in
-    let grows = seen_grows (g.L.Links.events d) g.L.Links.agent_of (g.met.L.Links.steps_add d) (g.L.Links.journal c.read_size.new.p)
-    (g.L.Links.journal c.begin_near.new.p) t u e.later (g.met.L.Links.seen_is d c.read_size.new.p c.in-Some.ensures.pass)
-    (g.met.L.Links.seen_is d c.begin_near.new.p e.pass) in
+    let grows = seen_grows _ g.L.Links.agent_of (g.met.L.Links.steps_add _) _
+    _ t u e.later (g.met.L.Links.seen_is _ _ c.in-Some.ensures.pass)
+    (g.met.L.Links.seen_is _ _ e.pass) in
     begins_key n c.args.key c.in-Some.size s u c.begin_near.result
     (λ sees. own_read n c.in-Some.size s t r (own_sooner s t u (puts_grow s t r.own r.quiet.puts) grows sees)) (e.begun s r.own r.quiet r.slots)
 
@@ -41,5 +40,4 @@ returns-in-Some-clause-few g c = λ has.
 
 pub returns-in-None-clause-few : goal.returns-in-None-clause-few
 returns-in-None-clause-few g c = λ has k.
-    let d = c.args.links.now in
-    absurd (own_not_moved (g.L.Links.numbers d) (g.L.Links.seat d c.args.p.now) (g.L.Links.seat d c.read_size.new.p) c.in-None.ensures.read k)
+    absurd (own_not_moved _ _ _ c.in-None.ensures.read k)

@@ -2,7 +2,7 @@
 use Rattle.std.proofs.Common.{ap, arith, refl, ℕ, ◌%◌, ◌∙◌, ◌≡◌}
 use Rattle.orc_heap.specs.declared.events.Place.TheVariants.{Root}
 use Rattle.orc_split_rule.specs.SplitOrder.{bucket_of}
-use Rattle.orc_split_set.specs.NewNodes.{node_values}
+use Rattle.orc_split_set.specs.NewNodes.{node_value}
 use Rattle.orc_split_set.proofs.Looking.{half_same, look_agent, none_new, root_few, start_shown}
 use Rattle.orc_ordered_search.proofs.Ranking.{looks_from}
 use Rattle.orc_split_set.proofs.Beginning.{root_at, root_moved, root_null}
@@ -11,88 +11,63 @@ use Rattle.orc_split_set.proofs.begin.begin_at.Goals as goal
 
 pub returns-in-Stable-default-Some-clause-begun : goal.returns-in-Stable-default-Some-clause-begun
 returns-in-Stable-default-Some-clause-begun g c = λ s own q same.
-    let d = c.args.links.now in
-    let n = g.L.Links.numbers d in
-    let t = g.L.Links.seat d c.args.p.now in
-    let u = g.L.Links.seat d c.look.new.p in
     let x = c.in-Stable-default-Some in
-    root_at n c.args.new s t own q same u c.value.result c.args.size c.from.result x.field-0 x.dummy (g.met.L.Links.obeys d c.args.p.now c.requires.pass)
-    (g.met.L.Links.allowed d c.look.new.p x.ensures.pass) c.requires.room c.requires.size.0 c.requires.size.1 c.requires.begins c.value.ensures
-    c.from.ensures (omega (arith, c.if-bucket-size.false)) (looks_some _ 2 x.field-0 x.field-1 x.dummy t u x.field-1-is x.ensures.looked)
+    root_at _ c.args.new s _ own q same _ c.value.result c.args.size c.from.result x.field-0 x.dummy (g.met.L.Links.obeys _ _ c.requires.pass)
+    (g.met.L.Links.allowed _ _ x.ensures.pass) c.requires.room c.requires.size.0 c.requires.size.1 c.requires.begins c.value.ensures
+    c.from.ensures (omega (arith, c.if-bucket-size.false)) (looks_some _ 2 x.field-0 x.field-1 x.dummy _ _ x.field-1-is x.ensures.looked)
 
 pub returns-in-Stable-default-None-clause-begun : goal.returns-in-Stable-default-None-clause-begun
 returns-in-Stable-default-None-clause-begun g c = λ s own q same.
-    let d = c.args.links.now in
-    let n = g.L.Links.numbers d in
-    let t = g.L.Links.seat d c.args.p.now in
-    let u = g.L.Links.seat d c.look.new.p in
     let x = c.in-Stable-default-None in
-    root_null n c.args.new s t own q same u _ x.field-0 (looks_none _ 2 x.field-0 x.field-1 t u x.field-1-is x.ensures.looked)
+    root_null _ c.args.new s _ own q same _ _ x.field-0 (looks_none _ 2 x.field-0 x.field-1 _ _ x.field-1-is x.ensures.looked)
 
 pub returns-in-Moved-clause-begun : goal.returns-in-Moved-clause-begun
 returns-in-Moved-clause-begun g c = λ s own q same.
-    let d = c.args.links.now in
-    let n = g.L.Links.numbers d in
-    let t = g.L.Links.seat d c.args.p.now in
-    let u = g.L.Links.seat d c.look.new.p in
-    root_moved n c.args.new s t own q same u _ c.in-Moved.ensures.looked (g.met.L.Links.allowed d c.look.new.p c.in-Moved.ensures.pass)
+    root_moved _ c.args.new s _ own q same _ _ c.in-Moved.ensures.looked (g.met.L.Links.allowed _ _ c.in-Moved.ensures.pass)
 
 pub returns-in-Stable-default-None-clause-held : goal.returns-in-Stable-default-None-clause-held
 returns-in-Stable-default-None-clause-held g c = λ none.
-    let d = c.args.links.now in
-    let t = g.L.Links.seat d c.args.p.now in
-    let u = g.L.Links.seat d c.look.new.p in
     let x = c.in-Stable-default-None in
-    (looks_none _ 2 x.field-0 x.field-1 t u x.field-1-is x.ensures.looked).tells.1
+    (looks_none _ 2 x.field-0 x.field-1 _ _ x.field-1-is x.ensures.looked).tells.1
 
 bucket_is : (value other size most : ℕ) → value ≡ other → most ≡ size → value % most ≡ bucket_of other size
 bucket_is value other size most one two = ap (λ (x : ℕ). x % most) one ∙ ap (λ (x : ℕ). other % x) two
 
 pub returns-then-bucket-size-clause-none : goal.returns-then-bucket-size-clause-none
 returns-then-bucket-size-clause-none g c = λ is has k.
-    let s = g.L.Links.seat c.args.links.now c.args.p.now in
-    let same = bucket_is c.value.result (node_values c.args.new) c.args.size c.from.result c.value.ensures c.from.ensures in
-    (half_same _ (node_values c.args.new) c.args.size c.requires.size.0 c.requires.size.1 (omega (arith, c.if-bucket-size.true, same)), none_new s s refl k)
+    let same = bucket_is c.value.result (node_value c.args.new) c.args.size c.from.result c.value.ensures c.from.ensures in
+    (half_same _ (node_value c.args.new) c.args.size c.requires.size.0 c.requires.size.1 (omega (arith, c.if-bucket-size.true, same)), none_new _ _ refl k)
 
 pub returns-in-Stable-default-Some-clause-agent : goal.returns-in-Stable-default-Some-clause-agent
 returns-in-Stable-default-Some-clause-agent g c =
-    let d = c.args.links.now in
-    look_agent _ (g.L.Links.seat d c.args.p.now) (g.L.Links.seat d c.look.new.p) _ c.in-Stable-default-Some.ensures.looked
+    look_agent _ _ _ _ c.in-Stable-default-Some.ensures.looked
 
 pub returns-in-Stable-default-None-clause-agent : goal.returns-in-Stable-default-None-clause-agent
 returns-in-Stable-default-None-clause-agent g c =
-    let d = c.args.links.now in
-    look_agent _ (g.L.Links.seat d c.args.p.now) (g.L.Links.seat d c.look.new.p) _ c.in-Stable-default-None.ensures.looked
+    look_agent _ _ _ _ c.in-Stable-default-None.ensures.looked
 
 pub returns-in-Moved-clause-agent : goal.returns-in-Moved-clause-agent
 returns-in-Moved-clause-agent g c =
-    let d = c.args.links.now in
-    look_agent _ (g.L.Links.seat d c.args.p.now) (g.L.Links.seat d c.look.new.p) _ c.in-Moved.ensures.looked
+    look_agent _ _ _ _ c.in-Moved.ensures.looked
 
 pub returns-in-Stable-default-Some-clause-few : goal.returns-in-Stable-default-Some-clause-few
 returns-in-Stable-default-Some-clause-few g c = λ begun is.
-    let d = c.args.links.now in
-    let same = bucket_is c.value.result (node_values c.args.new) c.args.size c.from.result c.value.ensures c.from.ensures in
-    root_few (bucket_of (node_values c.args.new) c.args.size) _ (g.L.Links.seat d c.args.p.now) (g.L.Links.seat d c.look.new.p) _
+    let same = bucket_is c.value.result (node_value c.args.new) c.args.size c.from.result c.value.ensures c.from.ensures in
+    root_few (bucket_of (node_value c.args.new) c.args.size) _ _ _ _
     (omega (arith, c.if-bucket-size.false, same, c.requires.size.1)) c.in-Stable-default-Some.ensures.looked
 
 pub returns-in-Moved-clause-few : goal.returns-in-Moved-clause-few
 returns-in-Moved-clause-few g c = λ begun is.
-    let d = c.args.links.now in
-    let same = bucket_is c.value.result (node_values c.args.new) c.args.size c.from.result c.value.ensures c.from.ensures in
-    root_few (bucket_of (node_values c.args.new) c.args.size) _ (g.L.Links.seat d c.args.p.now) (g.L.Links.seat d c.look.new.p) _
+    let same = bucket_is c.value.result (node_value c.args.new) c.args.size c.from.result c.value.ensures c.from.ensures in
+    root_few (bucket_of (node_value c.args.new) c.args.size) _ _ _ _
     (omega (arith, c.if-bucket-size.false, same, c.requires.size.1)) c.in-Moved.ensures.looked
 
 pub returns-in-Stable-default-None-clause-none : goal.returns-in-Stable-default-None-clause-none
 returns-in-Stable-default-None-clause-none g c = λ is has k.
-    let d = c.args.links.now in
-    let n = g.L.Links.numbers d in
-    let t = g.L.Links.seat d c.args.p.now in
-    let u = g.L.Links.seat d c.look.new.p in
     let x = c.in-Stable-default-None in
-    let b = bucket_of (node_values c.args.new) c.args.size in
+    let b = bucket_of (node_value c.args.new) c.args.size in
     let same : c.value.result % c.from.result ≡ b =
-    bucket_is c.value.result (node_values c.args.new) c.args.size c.from.result c.value.ensures c.from.ensures in
-    let looks = looks_from _ (Root b) 2 _ t u (ap Root same) (looks_none _ 2 x.field-0 x.field-1 t u x.field-1-is x.ensures.looked) in
-    absurd (start_shown n t u b x.field-0 (omega (arith, c.if-bucket-size.false, same, c.requires.size.1)) looks
-    (g.met.L.Links.allowed d c.look.new.p x.ensures.pass) has k)
+    bucket_is c.value.result (node_value c.args.new) c.args.size c.from.result c.value.ensures c.from.ensures in
+    let looks = looks_from _ (Root b) 2 _ _ _ (ap Root same) (looks_none _ 2 x.field-0 x.field-1 _ _ x.field-1-is x.ensures.looked) in
+    absurd (start_shown _ _ _ b x.field-0 (omega (arith, c.if-bucket-size.false, same, c.requires.size.1)) looks
+    (g.met.L.Links.allowed _ _ x.ensures.pass) has k)

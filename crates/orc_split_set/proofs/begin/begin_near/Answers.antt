@@ -8,7 +8,7 @@ use Rattle.orc_heap.specs.Slots.{Slots}
 use Rattle.orc_ordered_search.specs.Searches.{HasRoom}
 use Rattle.orc_split_rule.specs.SplitOrder.{bucket_of}
 use Rattle.orc_split_set.specs.Looks.{HasStart, root_loads}
-use Rattle.orc_split_set.specs.NewNodes.{node_values}
+use Rattle.orc_split_set.specs.NewNodes.{node_value}
 use Rattle.orc_split_set.proofs.Beginning.{begins_later, from_root, half_begins, half_by, half_size}
 use Rattle.orc_split_set.proofs.Crowding.{own_heap, own_later, own_sooner, puts_grow, seen_grows}
 use Rattle.orc_split_set.proofs.Looking.{few_heap, few_none, few_same}
@@ -36,22 +36,21 @@ begin_at-requires-clause-begins g c = c.loop-size.invariant.begins
 
 pub returns-in-Some-clause-begun : goal.returns-in-Some-clause-begun
 returns-in-Some-clause-begun g c = λ s own q slots.
-    let d = c.args.links.now in
-    let n = g.L.Links.numbers d in
+    let n = g.L.Links.numbers _ in
     let i = c.loop-size.invariant in
     let e = c.in-Some.ensures in
-    let s0 = g.L.Links.seat d c.args.p.now in
-    let t = g.L.Links.seat d c.loop-size.p in
-    let u = g.L.Links.seat d c.begin_at.new.p in
-    let is_t = g.met.L.Links.seen_is d c.loop-size.p i.pass in
-    let grew = seen_grows (g.L.Links.events d) g.L.Links.agent_of (g.met.L.Links.steps_add d) (g.L.Links.journal c.args.p.now)
-    (g.L.Links.journal c.loop-size.p) s0 t i.later (g.met.L.Links.seen_is d c.args.p.now c.requires.pass) is_t in
-    let grows = seen_grows (g.L.Links.events d) g.L.Links.agent_of (g.met.L.Links.steps_add d) (g.L.Links.journal c.loop-size.p)
-    (g.L.Links.journal c.begin_at.new.p) t u e.later is_t (g.met.L.Links.seen_is d c.begin_at.new.p e.pass) in
+    let s0 = g.L.Links.seat _ c.args.p.now in
+    let t = g.L.Links.seat _ c.loop-size.p in
+    let u = g.L.Links.seat _ c.begin_at.new.p in
+    let is_t = g.met.L.Links.seen_is _ _ i.pass in
+    let grew = seen_grows _ g.L.Links.agent_of (g.met.L.Links.steps_add _) _
+    _ s0 t i.later (g.met.L.Links.seen_is _ _ c.requires.pass) is_t in
+    let grows = seen_grows _ g.L.Links.agent_of (g.met.L.Links.steps_add _) _
+    _ t u e.later is_t (g.met.L.Links.seen_is _ _ e.pass) in
     let k = i.held s own q slots in
     let first = puts_grow s s0 own q.puts in
     let whole = goes_on _ _ _ grew grows in
-    let v = node_values c.args.new in
+    let v = node_value c.args.new in
     begins_later n c.args.new c.loop-size.size c.args.size i.by s u
     (λ sees has.
     let sees_t = own_sooner s t u (puts_grow s t k.own k.quiet.puts) grows sees in
@@ -76,7 +75,7 @@ returns-in-Some-clause-few g c = λ has sees.
     (g.L.Links.journal c.loop-size.p) s0 t i.later (g.met.L.Links.seen_is d c.args.p.now c.requires.pass) is_t in
     let grows = seen_grows (g.L.Links.events d) g.L.Links.agent_of (g.met.L.Links.steps_add d) (g.L.Links.journal c.loop-size.p)
     (g.L.Links.journal c.begin_at.new.p) t u e.later is_t (g.met.L.Links.seen_is d c.begin_at.new.p e.pass) in
-    let v = node_values c.args.new in
+    let v = node_value c.args.new in
     let (same, seen) = i.still has (own_sooner s0 t u grew grows sees) in
     few_same (root_loads (bucket_of v c.loop-size.size)) (root_loads (bucket_of v c.args.size)) s0 t u grew grows i.agent seen
     (ap (λ (x : ℕ). root_loads x) (sym same)) (e.few c.in-Some.begun refl) sees
@@ -99,14 +98,14 @@ loop-size-preserved g c =
     (g.L.Links.journal c.loop-size.p) s0 t i.later (g.met.L.Links.seen_is d c.args.p.now c.requires.pass) is_t in
     let grows = seen_grows (g.L.Links.events d) g.L.Links.agent_of (g.met.L.Links.steps_add d) (g.L.Links.journal c.loop-size.p)
     (g.L.Links.journal c.begin_at.new.p) t u e.later is_t (g.met.L.Links.seen_is d c.begin_at.new.p e.pass) in
-    let v = node_values c.args.new in
+    let v = node_value c.args.new in
     record {
       pass = e.pass;
       later = goes_on _ _ _ i.later e.later;
       size = half_size _ c.loop-size.size i.size.1 (omega (arith, two)) i.size.2 i.size.0;
       begins = half_begins c.args.new c.loop-size.size i.begins;
       by =
-          let half = half_by (node_values c.args.new) c.loop-size.size i.size.1 (omega (arith, two)) i.size.2 in
+          let half = half_by (node_value c.args.new) c.loop-size.size i.size.1 (omega (arith, two)) i.size.2 in
           omega (arith, half, i.by);
       room = subst (λ (z : Slots). HasRoom z) (sym (e.held refl)) i.room;
       agent = e.agent ∙ i.agent;
@@ -122,16 +121,15 @@ loop-size-preserved g c =
 
 pub returns-clause-begun : goal.returns-clause-begun
 returns-clause-begun g c = λ s own q same.
-    let d = c.args.links.now in
-    let n = g.L.Links.numbers d in
+    let n = g.L.Links.numbers _ in
     let i = c.loop-size.invariant in
-    let s0 = g.L.Links.seat d c.args.p.now in
-    let t = g.L.Links.seat d c.loop-size.p in
-    let grew = seen_grows (g.L.Links.events d) g.L.Links.agent_of (g.met.L.Links.steps_add d) (g.L.Links.journal c.args.p.now)
-    (g.L.Links.journal c.loop-size.p) s0 t i.later (g.met.L.Links.seen_is d c.args.p.now c.requires.pass) (g.met.L.Links.seen_is d c.loop-size.p i.pass) in
+    let s0 = g.L.Links.seat _ c.args.p.now in
+    let t = g.L.Links.seat _ c.loop-size.p in
+    let grew = seen_grows _ g.L.Links.agent_of (g.met.L.Links.steps_add _) _
+    _ s0 t i.later (g.met.L.Links.seen_is _ _ c.requires.pass) (g.met.L.Links.seen_is _ _ i.pass) in
     let k = i.held s own q same in
     let first = puts_grow s s0 own q.puts in
-    let v = node_values c.args.new in
+    let v = node_value c.args.new in
     let one : c.loop-size.size ≡ 1 = omega (arith, c.loop-size-test.false, size_some _ c.loop-size.size i.size) in
     from_root n c.args.new s t k.own k.quiet k.slots c.args.size
     (λ sees has.
@@ -142,7 +140,6 @@ returns-clause-begun g c = λ s own q same.
 
 pub returns-clause-few : goal.returns-clause-few
 returns-clause-few g c = λ has.
-    let d = c.args.links.now in
-    let v = node_values c.args.new in
-    few_none (root_loads (bucket_of v c.args.size)) (g.L.Links.seat d c.args.p.now) (g.L.Links.seat d c.loop-size.p)
+    let v = node_value c.args.new in
+    few_none (root_loads (bucket_of v c.args.size)) _ _
     (λ sees. (c.loop-size.invariant.still has sees).1)

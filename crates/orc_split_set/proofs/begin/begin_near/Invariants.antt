@@ -9,7 +9,7 @@ use Rattle.orc_split_rule.specs.declared.split.SplitNote.{SplitNote}
 use Rattle.orc_split_set.specs.Beginnings.{Held, MayBeginAt}
 use Rattle.orc_split_set.specs.Crowds.{SeesOwn}
 use Rattle.orc_split_set.specs.Looks.{HasStart}
-use Rattle.orc_split_set.specs.NewNodes.{node_values}
+use Rattle.orc_split_set.specs.NewNodes.{node_value}
 use Rattle.orc_split_set.specs.SplitSearches.{split_reading}
 use Rattle.orc_split_set.proofs.begin.begin_near.Given as goal
 
@@ -20,12 +20,12 @@ invariant-loop-size g l = record {
   later : IsPrefix (g.L.Links.journal l.fn.p) (g.L.Links.journal l.p);
   size : IsSize (greatest (g.L.Links.numbers l.links)) l.size;
   begins : MayBeginAt l.new l.size;
-  by : dummy_place (bucket_of (node_values l.new) l.size) ≤ dummy_place (bucket_of (node_values l.new) l.fn.size);
+  by : dummy_place (bucket_of (node_value l.new) l.size) ≤ dummy_place (bucket_of (node_value l.new) l.fn.size);
   room : HasRoom (g.L.Links.seat l.links l.p).slots;
   agent : (g.L.Links.seat l.links l.p).agent ≡ (g.L.Links.seat l.links l.fn.p).agent;
-  still : HasStart (heap_of (g.L.Links.numbers l.links) (g.L.Links.seat l.links l.fn.p)) (bucket_of (node_values l.new) l.fn.size)
+  still : HasStart (heap_of (g.L.Links.numbers l.links) (g.L.Links.seat l.links l.fn.p)) (bucket_of (node_value l.new) l.fn.size)
       → SeesOwn (g.L.Links.seat l.links l.fn.p) (g.L.Links.seat l.links l.p)
-      → (bucket_of (node_values l.new) l.fn.size ≡ bucket_of (node_values l.new) l.size)
+      → (bucket_of (node_value l.new) l.fn.size ≡ bucket_of (node_value l.new) l.size)
       × ((g.L.Links.seat l.links l.p).seen ≡ (g.L.Links.seat l.links l.fn.p).seen);
   held : (s : Seat SplitNote) (own : List (Event SplitNote)) → Quiet (split_reading (g.L.Links.numbers l.links)) s own (g.L.Links.seat l.links l.fn.p)
       → (g.L.Links.seat l.links l.fn.p).slots ≡ s.slots → Held (g.L.Links.numbers l.links) s (g.L.Links.seat l.links l.p);

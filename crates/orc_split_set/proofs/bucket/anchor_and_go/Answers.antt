@@ -15,14 +15,13 @@ release-requires-clause-held g c =
 
 pub returns-clause-anchored : goal.returns-clause-anchored
 returns-clause-anchored g c =
-    let d = c.args.links.now in
-    let t = g.L.Links.seat d c.anchor-anchored.new.p in
+    let t = g.L.Links.seat _ c.anchor-anchored.new.p in
     record {
       anchored = c.anchor-anchored.result;
       mid = t;
       anchors = c.anchor-anchored.ensures.anchored;
       result_is = c.rooted_of.ensures;
-      gone = release_goes c.args.dummy t (g.L.Links.seat d c.release.new.p) c.release.ensures.released;
+      gone = release_goes c.args.dummy t _ c.release.ensures.released;
     }
 
 pub returns-clause-worn : goal.returns-clause-worn
@@ -35,5 +34,5 @@ returns-clause-worn g c = λ why is.
     let worn : Within (length j) (length k) (g.L.Links.worn d s.agent why k) = subst
     (λ (r : Result Bool Spent). IfErr r (λ x. Within (length j) (length k) (g.L.Links.worn d s.agent x k)))
     (rooted_spent c.anchor-anchored.result why (sym c.rooted_of.ensures ∙ is)) e.worn in
-    within_wider (g.L.Links.worn d s.agent why) j j k (g.L.Links.journal c.release.new.p)
+    within_wider (g.L.Links.worn d s.agent why) j j k _
     (λ xs more from to h. g.met.L.Links.worn_stays d s.agent why xs more from to h) ([], append-nil j) c.release.ensures.later worn

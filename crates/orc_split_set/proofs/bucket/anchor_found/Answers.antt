@@ -9,36 +9,29 @@ use Rattle.orc_split_set.proofs.bucket.anchor_found.Goals as goal
 
 pub anchor-anchored-requires-clause-dummy : goal.anchor-anchored-requires-clause-dummy
 anchor-anchored-requires-clause-dummy g c =
-    let d = c.args.links.now in
     let a = c.args in
     let (start, passed, s, f) = c.requires.present in
-    found_dummy (g.L.Links.numbers d) a.bucket start passed a.left a.first a.dummy a.next s (g.L.Links.seat d a.p.now) f
+    found_dummy _ a.bucket start passed a.left a.first a.dummy a.next s _ f
 
 pub let_all_go-requires-clause-hands : goal.let_all_go-requires-clause-hands
 let_all_go-requires-clause-hands g c =
-    let d = c.args.links.now in
     let a = c.args in
     let (start, passed, s, f) = c.requires.present in
     let e = c.anchor-anchored.ensures in (
       s.slots,
-      found_hand (g.L.Links.numbers d) a.bucket start passed a.left a.first a.dummy a.next s (g.L.Links.seat d a.p.now) f
-          (g.L.Links.seat d c.anchor-anchored.new.p) e.anchored.tried (g.met.L.Links.allowed d c.anchor-anchored.new.p e.pass),
+      found_hand _ a.bucket start passed a.left a.first a.dummy a.next s _ f
+          _ e.anchored.tried (g.met.L.Links.allowed _ _ e.pass),
     )
 
 pub returns-clause-rooted : goal.returns-clause-rooted
 returns-clause-rooted g c = λ start passed s fresh f.
-    let d = c.args.links.now in
-    let n = g.L.Links.numbers d in
     let a = c.args in
-    let t = g.L.Links.seat d a.p.now in
-    let u = g.L.Links.seat d c.anchor-anchored.new.p in
-    let v = g.L.Links.seat d c.let_all_go.new.p in
     let e = c.anchor-anchored.ensures in
-    let hand = found_hand n a.bucket start passed a.left a.first a.dummy a.next s t f u e.anchored.tried
-    (g.met.L.Links.allowed d c.anchor-anchored.new.p e.pass) in
-    found_roots n a.bucket start passed a.left a.first a.dummy a.next s t f u v c.anchor-anchored.result c.requires.bucket.0 c.requires.bucket.1 fresh
-    e.anchored (c.let_all_go.ensures.gone s.slots hand) (g.met.L.Links.obeys d c.anchor-anchored.new.p e.pass)
-    (g.met.L.Links.allowed d c.let_all_go.new.p c.let_all_go.ensures.pass) _ c.rooted_of.ensures
+    let hand = found_hand _ a.bucket start passed a.left a.first a.dummy a.next s _ f _ e.anchored.tried
+    (g.met.L.Links.allowed _ _ e.pass) in
+    found_roots _ a.bucket start passed a.left a.first a.dummy a.next s _ f _ _ c.anchor-anchored.result c.requires.bucket.0 c.requires.bucket.1 fresh
+    e.anchored (c.let_all_go.ensures.gone s.slots hand) (g.met.L.Links.obeys _ _ e.pass)
+    (g.met.L.Links.allowed _ _ c.let_all_go.ensures.pass) _ c.rooted_of.ensures
 
 pub returns-clause-some : goal.returns-clause-some
 returns-clause-some g c = λ is. rooted_node c.anchor-anchored.result (sym c.rooted_of.ensures ∙ is)
@@ -53,5 +46,5 @@ returns-clause-worn g c = λ why is.
     let worn : Within (length j) (length k) (g.L.Links.worn d s.agent why k) = subst
     (λ (r : Result Bool Spent). IfErr r (λ x. Within (length j) (length k) (g.L.Links.worn d s.agent x k)))
     (rooted_spent c.anchor-anchored.result why (sym c.rooted_of.ensures ∙ is)) e.worn in
-    within_wider (g.L.Links.worn d s.agent why) j j k (g.L.Links.journal c.let_all_go.new.p)
+    within_wider (g.L.Links.worn d s.agent why) j j k _
     (λ xs more from to h. g.met.L.Links.worn_stays d s.agent why xs more from to h) ([], append-nil j) c.let_all_go.ensures.later worn

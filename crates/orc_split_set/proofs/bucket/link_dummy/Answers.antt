@@ -23,13 +23,12 @@ linked : (g : Over) (c : In-Ok-true g) → let d = c.args.links.now in let n = g
     (s : Seat SplitNote) (w : HasNewDummy n a.bucket a.left a.first a.right a.dummy s (g.L.Links.seat d a.p.now))
     → AddsNode (split_reading n) a.bucket 0 [] a.dummy w.id 1 (slots_with s.slots (Some a.dummy) w.id) s (Ok true) (g.L.Links.seat d c.add_node.new.p)
 linked g c = λ s w.
-    let d = c.args.links.now in
-    let n = g.L.Links.numbers d in
+    let n = g.L.Links.numbers _ in
     let a = c.args in
-    let u = g.L.Links.seat d c.add_node.new.p in
+    let u = g.L.Links.seat _ c.add_node.new.p in
     let slots = slots_with s.slots (Some a.dummy) w.id in
     let one = subst (λ (i : ℕ). AddsNode (split_reading n) a.bucket 0 [] a.dummy i 1 slots s (Ok c.in-Ok-true.field-0) u) w.id_is
-    (c.in-Ok-true.ensures.added (dummy_to_add n a.bucket a.left a.first a.right a.dummy s (g.L.Links.seat d a.p.now) w c.requires.bucket.0 c.requires.bucket.1)) in
+    (c.in-Ok-true.ensures.added (dummy_to_add n a.bucket a.left a.first a.right a.dummy s _ w c.requires.bucket.0 c.requires.bucket.1)) in
     subst (λ (b : Bool). AddsNode (split_reading n) a.bucket 0 [] a.dummy w.id 1 slots s (Ok b) u) c.in-Ok-true.field-0-test one
 
 -- the left place showed another link
@@ -37,13 +36,12 @@ missed : (g : Over) (c : In-Ok-false g) → let d = c.args.links.now in let n = 
     (s : Seat SplitNote) (w : HasNewDummy n a.bucket a.left a.first a.right a.dummy s (g.L.Links.seat d a.p.now))
     → AddsNode (split_reading n) a.bucket 0 [] a.dummy w.id 1 (slots_with s.slots (Some a.dummy) w.id) s (Ok false) (g.L.Links.seat d c.add_node.new.p)
 missed g c = λ s w.
-    let d = c.args.links.now in
-    let n = g.L.Links.numbers d in
+    let n = g.L.Links.numbers _ in
     let a = c.args in
-    let u = g.L.Links.seat d c.add_node.new.p in
+    let u = g.L.Links.seat _ c.add_node.new.p in
     let slots = slots_with s.slots (Some a.dummy) w.id in
     let one = subst (λ (i : ℕ). AddsNode (split_reading n) a.bucket 0 [] a.dummy i 1 slots s (Ok c.in-Ok-false.field-0) u) w.id_is
-    (c.in-Ok-false.ensures.added (dummy_to_add n a.bucket a.left a.first a.right a.dummy s (g.L.Links.seat d a.p.now) w c.requires.bucket.0 c.requires.bucket.1)) in
+    (c.in-Ok-false.ensures.added (dummy_to_add n a.bucket a.left a.first a.right a.dummy s _ w c.requires.bucket.0 c.requires.bucket.1)) in
     subst (λ (b : Bool). AddsNode (split_reading n) a.bucket 0 [] a.dummy w.id 1 slots s (Ok b) u) c.in-Ok-false.field-0-test one
 
 -- a row was worn
@@ -51,33 +49,31 @@ refused : (g : Over) (c : In-Err g) → let d = c.args.links.now in let n = g.L.
     (s : Seat SplitNote) (w : HasNewDummy n a.bucket a.left a.first a.right a.dummy s (g.L.Links.seat d a.p.now))
     → AddsNode (split_reading n) a.bucket 0 [] a.dummy w.id 1 (slots_with s.slots (Some a.dummy) w.id) s (Err c.in-Err.spent) (g.L.Links.seat d c.add_node.new.p)
 refused g c = λ s w.
-    let d = c.args.links.now in
-    let n = g.L.Links.numbers d in
+    let n = g.L.Links.numbers _ in
     let a = c.args in
-    let u = g.L.Links.seat d c.add_node.new.p in
+    let u = g.L.Links.seat _ c.add_node.new.p in
     let slots = slots_with s.slots (Some a.dummy) w.id in
     subst (λ (i : ℕ). AddsNode (split_reading n) a.bucket 0 [] a.dummy i 1 slots s (Err c.in-Err.spent) u) w.id_is
-    (c.in-Err.ensures.added (dummy_to_add n a.bucket a.left a.first a.right a.dummy s (g.L.Links.seat d a.p.now) w c.requires.bucket.0 c.requires.bucket.1))
+    (c.in-Err.ensures.added (dummy_to_add n a.bucket a.left a.first a.right a.dummy s _ w c.requires.bucket.0 c.requires.bucket.1))
 
 pub add_node-requires-clause-adds : goal.add_node-requires-clause-adds
 add_node-requires-clause-adds g c =
     let (s, w) = c.requires.to_link in
     let a = c.args in
-    dummy_to_add (g.L.Links.numbers a.links.now) a.bucket a.left a.first a.right a.dummy s (g.L.Links.seat a.links.now a.p.now) w c.requires.bucket.0
+    dummy_to_add _ a.bucket a.left a.first a.right a.dummy s _ w c.requires.bucket.0
     c.requires.bucket.1
 
 pub anchor_and_go-requires-clause-dummy : goal.anchor_and_go-requires-clause-dummy
 anchor_and_go-requires-clause-dummy g c =
     let (s, w) = c.requires.to_link in
     let added = linked g (goal.at.anchor_and_go-requires-clause-dummy g c).In-Ok-true s w in
-    let d = c.args.links.now in
-    let n = g.L.Links.numbers d in
+    let n = g.L.Links.numbers _ in
     let a = c.args in
-    let u = g.L.Links.seat d c.add_node.new.p in
-    let held = dummy_held n a.bucket a.left a.first a.right a.dummy s (g.L.Links.seat d a.p.now) u w added.slots_are in
-    let k = c.in-Ok-true.ensures.linked (dummy_to_add n a.bucket a.left a.first a.right a.dummy s (g.L.Links.seat d a.p.now) w c.requires.bucket.0
+    let u = g.L.Links.seat _ c.add_node.new.p in
+    let held = dummy_held n a.bucket a.left a.first a.right a.dummy s _ u w added.slots_are in
+    let k = c.in-Ok-true.ensures.linked (dummy_to_add n a.bucket a.left a.first a.right a.dummy s _ w c.requires.bucket.0
     c.requires.bucket.1) (ap (λ (b : Bool). Ok b) c.in-Ok-true.field-0-test) in
-    let stands = linked_stands n a.bucket w.adds.id _ _ _ _ (g.L.Links.seat d a.p.now) u k (g.met.L.Links.allowed d c.add_node.new.p c.in-Ok-true.ensures.pass) in
+    let stands = linked_stands n a.bucket w.adds.id _ _ _ _ _ u k (g.met.L.Links.allowed _ _ c.in-Ok-true.ensures.pass) in
     (held.0, subst (λ (i : ℕ). IsDummy (heap_of n u) i a.bucket) (w.id_is ∙ sym held.1) stands)
 
 pub release-requires-clause-held : goal.release-requires-clause-held
@@ -101,31 +97,22 @@ release-requires-in-Err-clause-held g c =
 pub returns-in-Ok-true-clause-rooted : goal.returns-in-Ok-true-clause-rooted
 returns-in-Ok-true-clause-rooted g c = λ s w.
     let added = linked g (goal.at.returns-in-Ok-true-clause-rooted g c).In-Ok-true s w in
-    let d = c.args.links.now in
-    let n = g.L.Links.numbers d in
-    let x = g.L.Links.seat d c.anchor_and_go.new.p in
     let k = c.anchor_and_go.ensures.anchored in
-    let all = g.met.L.Links.allowed d c.anchor_and_go.new.p c.anchor_and_go.ensures.pass in
-    added_roots n c.args.bucket c.args.dummy w.id s (g.L.Links.seat d c.add_node.new.p) x w.room w.slot_is added.slots_are added c.anchor_and_go.result
-    c.requires.bucket.0 c.requires.bucket.1 k (seen_holds (split_ordering n) k.mid x [] k.gone.puts all) all
+    let all = g.met.L.Links.allowed _ _ c.anchor_and_go.ensures.pass in
+    added_roots _ c.args.bucket c.args.dummy w.id s _ _ w.room w.slot_is added.slots_are added c.anchor_and_go.result
+    c.requires.bucket.0 c.requires.bucket.1 k (seen_holds (split_ordering _) k.mid _ [] k.gone.puts all) all
 
 pub returns-in-Ok-false-clause-rooted : goal.returns-in-Ok-false-clause-rooted
 returns-in-Ok-false-clause-rooted g c = λ s w.
     let added = missed g (goal.at.returns-in-Ok-false-clause-rooted g c).In-Ok-false s w in
-    let d = c.args.links.now in
-    let u = g.L.Links.seat d c.add_node.new.p in
-    let x = g.L.Links.seat d c.release.new.p in
-    missed_roots (g.L.Links.numbers d) c.args.bucket c.args.dummy w.id s u x w.room w.slot_is added.slots_are added
-    (release_goes c.args.dummy u x c.release.ensures.released)
+    missed_roots _ c.args.bucket c.args.dummy w.id s _ _ w.room w.slot_is added.slots_are added
+    (release_goes c.args.dummy _ _ c.release.ensures.released)
 
 pub returns-in-Err-clause-rooted : goal.returns-in-Err-clause-rooted
 returns-in-Err-clause-rooted g c = λ s w.
     let added = refused g (goal.at.returns-in-Err-clause-rooted g c).In-Err s w in
-    let d = c.args.links.now in
-    let u = g.L.Links.seat d c.add_node.new.p in
-    let x = g.L.Links.seat d c.release-in-Err.new.p in
-    refused_roots (g.L.Links.numbers d) c.args.bucket c.args.dummy w.id s u x w.room w.slot_is added.slots_are c.in-Err.spent added
-    (release_goes c.args.dummy u x c.release-in-Err.ensures.released)
+    refused_roots _ c.args.bucket c.args.dummy w.id s _ _ w.room w.slot_is added.slots_are c.in-Err.spent added
+    (release_goes c.args.dummy _ _ c.release-in-Err.ensures.released)
 
 pub returns-in-Ok-true-clause-worn : goal.returns-in-Ok-true-clause-worn
 returns-in-Ok-true-clause-worn g c = λ why is.
@@ -133,20 +120,17 @@ returns-in-Ok-true-clause-worn g c = λ why is.
     let added = linked g (goal.at.returns-in-Ok-true-clause-worn g c).In-Ok-true s w in
     let d = c.args.links.now in
     let t = g.L.Links.seat d c.args.p.now in
-    let j = g.L.Links.journal c.args.p.now in
     let k = g.L.Links.journal c.add_node.new.p in
     let m = g.L.Links.journal c.anchor_and_go.new.p in
     let there = subst (λ (x : ℕ). Within (length k) (length m) (g.L.Links.worn d x why m)) (added.made.puts.agent ∙ sym w.adds.puts.agent)
     (c.anchor_and_go.ensures.worn why is) in
-    within_wider (g.L.Links.worn d t.agent why) j k m m (λ xs more from to h. g.met.L.Links.worn_stays d t.agent why xs more from to h)
+    within_wider (g.L.Links.worn d t.agent why) _ k m m (λ xs more from to h. g.met.L.Links.worn_stays d t.agent why xs more from to h)
     c.in-Ok-true.ensures.later ([], append-nil m) there
 
 pub returns-in-Err-clause-worn : goal.returns-in-Err-clause-worn
 returns-in-Err-clause-worn g c = λ why is.
     let d = c.args.links.now in
     let t = g.L.Links.seat d c.args.p.now in
-    let j = g.L.Links.journal c.args.p.now in
-    let k = g.L.Links.journal c.add_node.new.p in
-    within_wider (g.L.Links.worn d t.agent why) j j k (g.L.Links.journal c.release-in-Err.new.p)
-    (λ xs more from to h. g.met.L.Links.worn_stays d t.agent why xs more from to h) ([], append-nil j) c.release-in-Err.ensures.later
+    within_wider (g.L.Links.worn d t.agent why) _ _ _ _
+    (λ xs more from to h. g.met.L.Links.worn_stays d t.agent why xs more from to h) ([], append-nil _) c.release-in-Err.ensures.later
     (c.in-Err.ensures.worn why (spent_row c.in-Err.spent why is))

@@ -13,8 +13,7 @@ use Rattle.orc_split_set.proofs.bucket.prepare.Goals as goal
 
 pub returns-then-turns-eq0-clause-prepared : goal.returns-then-turns-eq0-clause-prepared
 returns-then-turns-eq0-clause-prepared g c =
-    let d = c.args.links.now in
-    no_turns (g.L.Links.numbers d) c.args.key c.args.turns (g.L.Links.seat d c.args.p.now) c.if-turns-eq0.true c.requires.idle.fresh
+    no_turns _ c.args.key c.args.turns _ c.if-turns-eq0.true c.requires.idle.fresh
 
 pub root_bucket-requires-clause-bucket : goal.root_bucket-requires-clause-bucket
 root_bucket-requires-clause-bucket g c =
@@ -28,28 +27,24 @@ root_bucket-requires-clause-idle g c =
 
 pub returns-in-Some-clause-prepared : goal.returns-in-Some-clause-prepared
 returns-in-Some-clause-prepared g c =
-    let d = c.args.links.now in
-    let n = g.L.Links.numbers d in
-    let s = g.L.Links.seat d c.args.p.now in
-    let t = g.L.Links.seat d c.read_size.new.p in
-    let u = g.L.Links.seat d c.root_bucket.new.p in
+    let n = g.L.Links.numbers _ in
+    let t = g.L.Links.seat _ c.read_size.new.p in
+    let u = g.L.Links.seat _ c.root_bucket.new.p in
     let e = c.in-Some.ensures in
-    prepares_by n c.args.key c.args.turns c.in-Some.size s t u e.read (g.met.L.Links.allowed d c.read_size.new.p e.pass)
+    prepares_by n c.args.key c.args.turns c.in-Some.size _ t u e.read (g.met.L.Links.allowed _ _ e.pass)
     (λ zero. omega (arith, zero, c.if-turns-eq0.false)) c.root_bucket.result
     (subst (λ (x : ℕ). Roots n (c.args.key % x) t c.root_bucket.result u) c.from.ensures c.root_bucket.ensures.rooted)
 
 pub returns-in-None-clause-prepared : goal.returns-in-None-clause-prepared
 returns-in-None-clause-prepared g c =
-    let d = c.args.links.now in
-    prepares_moved (g.L.Links.numbers d) c.args.key c.args.turns (g.L.Links.seat d c.args.p.now) (g.L.Links.seat d c.read_size.new.p)
+    prepares_moved _ c.args.key c.args.turns _ _
     c.in-None.ensures.read c.requires.idle.fresh (λ zero. omega (arith, zero, c.if-turns-eq0.false))
 
 pub returns-in-Some-clause-lacking : goal.returns-in-Some-clause-lacking
 returns-in-Some-clause-lacking g c = λ told.
-    let d = c.args.links.now in
     let e = c.in-Some.ensures in
     let f = c.root_bucket.ensures in
-    part_of_next g.L.Links d c.args.p.now c.read_size.new.p c.root_bucket.new.p e.read.quiet.puts.agent e.later f.later (g.L.Links.lacking d) (f.lacking told)
+    part_of_next g.L.Links _ c.args.p.now c.read_size.new.p c.root_bucket.new.p e.read.quiet.puts.agent e.later f.later (g.L.Links.lacking _) (f.lacking told)
 
 pub returns-in-Some-clause-worn : goal.returns-in-Some-clause-worn
 returns-in-Some-clause-worn g c = λ why told.
@@ -61,37 +56,31 @@ returns-in-Some-clause-worn g c = λ why told.
 
 pub returns-in-Some-clause-idle : goal.returns-in-Some-clause-idle
 returns-in-Some-clause-idle g c =
-    let d = c.args.links.now in
-    prepares_idle (g.L.Links.numbers d) c.args.key c.args.turns (g.L.Links.seat d c.args.p.now) (g.L.Links.seat d c.root_bucket.new.p) c.root_bucket.result
+    prepares_idle _ c.args.key c.args.turns _ _ c.root_bucket.result
     (returns-in-Some-clause-prepared g c) c.requires.idle
 
 pub returns-in-None-clause-idle : goal.returns-in-None-clause-idle
 returns-in-None-clause-idle g c =
-    let d = c.args.links.now in
-    prepares_idle (g.L.Links.numbers d) c.args.key c.args.turns (g.L.Links.seat d c.args.p.now) (g.L.Links.seat d c.read_size.new.p) Moved
+    prepares_idle _ c.args.key c.args.turns _ _ Moved
     (returns-in-None-clause-prepared g c) c.requires.idle
 
 pub returns-then-turns-eq0-clause-few : goal.returns-then-turns-eq0-clause-few
 returns-then-turns-eq0-clause-few g c = λ gap others has.
-    let s = g.L.Links.seat c.args.links.now c.args.p.now in
-    none_before _ s gap
+    none_before _ _ gap
 
 pub returns-in-Some-clause-few : goal.returns-in-Some-clause-few
 returns-in-Some-clause-few g c = λ gap others has.
-    let d = c.args.links.now in
-    let n = g.L.Links.numbers d in
-    let s = g.L.Links.seat d c.args.p.now in
-    let t = g.L.Links.seat d c.read_size.new.p in
-    let u = g.L.Links.seat d c.root_bucket.new.p in
+    let n = g.L.Links.numbers _ in
+    let t = g.L.Links.seat _ c.read_size.new.p in
+    let u = g.L.Links.seat _ c.root_bucket.new.p in
     let r = c.in-Some.ensures.read in
     let e = c.root_bucket.ensures in
-    let grows = seen_grows (g.L.Links.events d) g.L.Links.agent_of (g.met.L.Links.steps_add d) (g.L.Links.journal c.read_size.new.p)
-    (g.L.Links.journal c.root_bucket.new.p) t u e.later (g.met.L.Links.seen_is d c.read_size.new.p c.in-Some.ensures.pass)
-    (g.met.L.Links.seen_is d c.root_bucket.new.p e.pass) in
-    prepares_few n c.args.key c.in-Some.size s t u gap others r (g.met.L.Links.allowed d c.read_size.new.p c.in-Some.ensures.pass)
+    let grows = seen_grows _ g.L.Links.agent_of (g.met.L.Links.steps_add _) _
+    _ t u e.later (g.met.L.Links.seen_is _ _ c.in-Some.ensures.pass)
+    (g.met.L.Links.seen_is _ _ e.pass) in
+    prepares_few n c.args.key c.in-Some.size _ t u gap others r (g.met.L.Links.allowed _ _ c.in-Some.ensures.pass)
     grows (subst (λ (x : ℕ). HasStart (heap_of n t) (c.args.key % x) → LoadsFew (root_loads (c.args.key % x)) t u) c.from.ensures e.few) has
 
 pub returns-in-None-clause-few : goal.returns-in-None-clause-few
 returns-in-None-clause-few g c = λ gap others has sees.
-    let d = c.args.links.now in
-    absurd (moved_after (g.L.Links.numbers d) (g.L.Links.seat d c.args.p.now) (g.L.Links.seat d c.read_size.new.p) gap others c.in-None.ensures.read sees)
+    absurd (moved_after _ _ _ gap others c.in-None.ensures.read sees)

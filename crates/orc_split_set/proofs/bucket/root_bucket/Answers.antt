@@ -12,8 +12,7 @@ use Rattle.orc_split_set.proofs.bucket.root_bucket.Goals as goal
 
 pub returns-then-bucket-eq0-clause-rooted : goal.returns-then-bucket-eq0-clause-rooted
 returns-then-bucket-eq0-clause-rooted g c =
-    let d = c.args.links.now in
-    no_roots (g.L.Links.numbers d) c.args.bucket (g.L.Links.seat d c.args.p.now) c.if-bucket-eq0.true c.requires.idle.fresh
+    no_roots _ c.args.bucket _ c.if-bucket-eq0.true c.requires.idle.fresh
 
 pub release-requires-clause-held : goal.release-requires-clause-held
 release-requires-clause-held g c =
@@ -26,46 +25,33 @@ release-requires-clause-held g c =
 
 pub returns-in-Stable-default-Some-clause-rooted : goal.returns-in-Stable-default-Some-clause-rooted
 returns-in-Stable-default-Some-clause-rooted g c =
-    let d = c.args.links.now in
-    let s = g.L.Links.seat d c.args.p.now in
-    let t = g.L.Links.seat d c.look.new.p in
-    let u = g.L.Links.seat d c.release.new.p in
     let x = c.in-Stable-default-Some in
-    kept_roots (g.L.Links.numbers d) c.args.bucket s t x.field-0 x.dummy c.requires.idle
-    (looks_some c.args.bucket 2 x.field-0 x.field-1 x.dummy s t x.field-1-is x.ensures.looked) u (omega (arith, c.if-bucket-eq0.false)) c.requires.bucket
-    (g.met.L.Links.obeys d c.args.p.now c.requires.pass) (g.met.L.Links.obeys d c.look.new.p x.ensures.pass)
-    (g.met.L.Links.allowed d c.look.new.p x.ensures.pass) (g.met.L.Links.allowed d c.release.new.p c.release.ensures.pass)
-    (release_goes x.dummy t u c.release.ensures.released)
+    kept_roots _ c.args.bucket _ _ x.field-0 x.dummy c.requires.idle
+    (looks_some c.args.bucket 2 x.field-0 x.field-1 x.dummy _ _ x.field-1-is x.ensures.looked) _ (omega (arith, c.if-bucket-eq0.false)) c.requires.bucket
+    (g.met.L.Links.obeys _ _ c.requires.pass) (g.met.L.Links.obeys _ _ x.ensures.pass)
+    (g.met.L.Links.allowed _ _ x.ensures.pass) (g.met.L.Links.allowed _ _ c.release.ensures.pass)
+    (release_goes x.dummy _ _ c.release.ensures.released)
 
 pub root_near-requires-clause-bucket : goal.root_near-requires-clause-bucket
 root_near-requires-clause-bucket g c = (omega (arith, c.if-bucket-eq0.false), c.requires.bucket)
 
 pub root_near-requires-clause-begun : goal.root_near-requires-clause-begun
 root_near-requires-clause-begun g c =
-    let d = c.args.links.now in
-    let s = g.L.Links.seat d c.args.p.now in
-    let t = g.L.Links.seat d c.look.new.p in
+    let s = g.L.Links.seat _ c.args.p.now in
     let x = c.in-Stable-default-None in
-    let k = null_held (g.L.Links.numbers d) s t c.args.bucket x.field-0 (looks_none c.args.bucket 2 x.field-0 x.field-1 s t x.field-1-is x.ensures.looked) in
+    let k = null_held _ s _ c.args.bucket x.field-0 (looks_none c.args.bucket 2 x.field-0 x.field-1 s _ x.field-1-is x.ensures.looked) in
     (s, k.own, k.quiet, k.slots, c.requires.idle)
 
 pub returns-in-Stable-default-None-clause-rooted : goal.returns-in-Stable-default-None-clause-rooted
 returns-in-Stable-default-None-clause-rooted g c =
-    let d = c.args.links.now in
-    let s = g.L.Links.seat d c.args.p.now in
-    let t = g.L.Links.seat d c.look.new.p in
     let x = c.in-Stable-default-None in
-    let k = null_held (g.L.Links.numbers d) s t c.args.bucket x.field-0 (looks_none c.args.bucket 2 x.field-0 x.field-1 s t x.field-1-is x.ensures.looked) in
-    c.root_near.ensures.rooted s k.own k.quiet k.slots c.requires.idle
+    let k = null_held _ _ _ c.args.bucket x.field-0 (looks_none c.args.bucket 2 x.field-0 x.field-1 _ _ x.field-1-is x.ensures.looked) in
+    c.root_near.ensures.rooted _ k.own k.quiet k.slots c.requires.idle
 
 pub returns-in-Moved-clause-rooted : goal.returns-in-Moved-clause-rooted
 returns-in-Moved-clause-rooted g c =
-    let d = c.args.links.now in
-    let n = g.L.Links.numbers d in
-    let s = g.L.Links.seat d c.args.p.now in
-    let t = g.L.Links.seat d c.look.new.p in
-    moved_roots n c.args.bucket s t
-    (size_moved n c.args.bucket s t c.in-Moved.ensures.looked (g.met.L.Links.allowed d c.look.new.p c.in-Moved.ensures.pass)) c.requires.idle.fresh
+    moved_roots _ c.args.bucket _ _
+    (size_moved _ c.args.bucket _ _ c.in-Moved.ensures.looked (g.met.L.Links.allowed _ _ c.in-Moved.ensures.pass)) c.requires.idle.fresh
 
 pub returns-in-Stable-default-None-clause-lacking : goal.returns-in-Stable-default-None-clause-lacking
 returns-in-Stable-default-None-clause-lacking g c = λ told.
@@ -88,20 +74,15 @@ returns-in-Stable-default-None-clause-worn g c = λ why told.
 
 pub returns-then-bucket-eq0-clause-few : goal.returns-then-bucket-eq0-clause-few
 returns-then-bucket-eq0-clause-few g c = λ has.
-    let s = g.L.Links.seat c.args.links.now c.args.p.now in
-    few_none (root_loads c.args.bucket) s s (λ sees. refl)
+    few_none (root_loads c.args.bucket) _ _ (λ sees. refl)
 
 pub returns-in-Stable-default-Some-clause-few : goal.returns-in-Stable-default-Some-clause-few
 returns-in-Stable-default-Some-clause-few g c = λ has.
-    let d = c.args.links.now in
-    let s = g.L.Links.seat d c.args.p.now in
-    let t = g.L.Links.seat d c.look.new.p in
-    let u = g.L.Links.seat d c.release.new.p in
     let looks = c.in-Stable-default-Some.ensures.looked in
-    let gone = (release_goes c.in-Stable-default-Some.dummy t u c.release.ensures.released).puts in
+    let gone = (release_goes c.in-Stable-default-Some.dummy _ _ c.release.ensures.released).puts in
     let low : 1 ≤ c.args.bucket = omega (arith, c.if-bucket-eq0.false) in
-    few_then (root_loads c.args.bucket) s t u (look_grows c.args.bucket s t _ looks) (look_agent c.args.bucket s t _ looks) gone
-    (root_few c.args.bucket c.args.bucket s t _ low looks)
+    few_then (root_loads c.args.bucket) _ _ _ (look_grows c.args.bucket _ _ _ looks) (look_agent c.args.bucket _ _ _ looks) gone
+    (root_few c.args.bucket c.args.bucket _ _ _ low looks)
 
 pub returns-in-Stable-default-None-clause-few : goal.returns-in-Stable-default-None-clause-few
 returns-in-Stable-default-None-clause-few g c = λ has sees.
@@ -120,8 +101,4 @@ returns-in-Stable-default-None-clause-few g c = λ has sees.
 
 pub returns-in-Moved-clause-few : goal.returns-in-Moved-clause-few
 returns-in-Moved-clause-few g c = λ has sees.
-    let d = c.args.links.now in
-    let n = g.L.Links.numbers d in
-    let s = g.L.Links.seat d c.args.p.now in
-    let t = g.L.Links.seat d c.look.new.p in
-    absurd (own_not_moved n s t (size_moved n c.args.bucket s t c.in-Moved.ensures.looked (g.met.L.Links.allowed d c.look.new.p c.in-Moved.ensures.pass)) sees)
+    absurd (own_not_moved _ _ _ (size_moved _ c.args.bucket _ _ c.in-Moved.ensures.looked (g.met.L.Links.allowed _ _ c.in-Moved.ensures.pass)) sees)

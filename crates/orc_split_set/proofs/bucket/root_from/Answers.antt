@@ -11,8 +11,7 @@ search_for-requires-clause-begins g c =
 
 pub returns-in-Over-clause-rooted : goal.returns-in-Over-clause-rooted
 returns-in-Over-clause-rooted g c = λ start s room fresh b.
-    let d = c.args.links.now in
-    moved_roots (g.L.Links.numbers d) c.args.bucket s (g.L.Links.seat d c.search_for.new.p) (c.in-Over.ensures.found start s room.room b).0 fresh
+    moved_roots _ c.args.bucket s _ (c.in-Over.ensures.found start s room.room b).0 fresh
 
 pub add_dummy-requires-clause-absent : goal.add_dummy-requires-clause-absent
 add_dummy-requires-clause-absent g c =
@@ -37,14 +36,13 @@ returns-in-Present-clause-lacking g c = λ told. absurd (c.anchor_found.ensures.
 
 pub returns-in-Absent-clause-lacking : goal.returns-in-Absent-clause-lacking
 returns-in-Absent-clause-lacking g c = λ told.
-    let d = c.args.links.now in
     let (start, s, room, fresh, b) = c.requires.begins in
     let e = c.in-Absent.ensures in
     let f = c.add_dummy.ensures in
     let q = (e.found start s room.room b).behind.quiet in
-    let p = puts_since s (g.L.Links.seat d c.args.p.now) _ _ b.begins.seen b.begins.agent q.puts in
-    part_of_later g.L.Links g.met.L.Links.steps_add g.met.L.Links.seen_is d c.args.p.now c.search_for.new.p c.add_dummy.new.p _ c.requires.pass e.pass
-    p q.some e.later f.later (g.L.Links.lacking d) (f.lacking told)
+    let p = puts_since s _ _ _ b.begins.seen b.begins.agent q.puts in
+    part_of_later g.L.Links g.met.L.Links.steps_add g.met.L.Links.seen_is _ _ c.search_for.new.p c.add_dummy.new.p _ c.requires.pass e.pass
+    p q.some e.later f.later (g.L.Links.lacking _) (f.lacking told)
 
 pub returns-in-Absent-clause-worn : goal.returns-in-Absent-clause-worn
 returns-in-Absent-clause-worn g c = λ why told.
@@ -53,8 +51,8 @@ returns-in-Absent-clause-worn g c = λ why told.
     let e = c.in-Absent.ensures in
     let f = c.add_dummy.ensures in
     let q = (e.found start s room.room b).behind.quiet in
-    let p = puts_since s (g.L.Links.seat d c.args.p.now) _ _ b.begins.seen b.begins.agent q.puts in
-    part_of_later g.L.Links g.met.L.Links.steps_add g.met.L.Links.seen_is d c.args.p.now c.search_for.new.p c.add_dummy.new.p _ c.requires.pass e.pass
+    let p = puts_since s _ _ _ b.begins.seen b.begins.agent q.puts in
+    part_of_later g.L.Links g.met.L.Links.steps_add g.met.L.Links.seen_is _ _ c.search_for.new.p c.add_dummy.new.p _ c.requires.pass e.pass
     p q.some e.later f.later (λ agent. g.L.Links.worn d agent why) (f.worn why told)
 
 pub returns-in-Present-clause-worn : goal.returns-in-Present-clause-worn
@@ -64,6 +62,6 @@ returns-in-Present-clause-worn g c = λ why told.
     let e = c.in-Present.ensures in
     let f = c.anchor_found.ensures in
     let q = (e.found start s room.room b).behind.quiet in
-    let p = puts_since s (g.L.Links.seat d c.args.p.now) _ _ b.begins.seen b.begins.agent q.puts in
-    part_of_later g.L.Links g.met.L.Links.steps_add g.met.L.Links.seen_is d c.args.p.now c.search_for.new.p c.anchor_found.new.p _ c.requires.pass
+    let p = puts_since s _ _ _ b.begins.seen b.begins.agent q.puts in
+    part_of_later g.L.Links g.met.L.Links.steps_add g.met.L.Links.seen_is _ _ c.search_for.new.p c.anchor_found.new.p _ c.requires.pass
     e.pass p q.some e.later f.later (λ agent. g.L.Links.worn d agent why) (f.worn why told)

@@ -26,8 +26,7 @@ root_from-requires-clause-begins g c =
 
 pub returns-in-Moved-clause-rooted : goal.returns-in-Moved-clause-rooted
 returns-in-Moved-clause-rooted g c = λ s own q same idle.
-    let d = c.args.links.now in
-    moved_roots (g.L.Links.numbers d) c.args.bucket s (g.L.Links.seat d c.begin_near.new.p) (c.in-Moved.ensures.begun s own q same) idle.fresh
+    moved_roots _ c.args.bucket s _ (c.in-Moved.ensures.begun s own q same) idle.fresh
 
 pub returns-in-From-clause-rooted : goal.returns-in-From-clause-rooted
 returns-in-From-clause-rooted g c = λ s own q same idle.
@@ -41,20 +40,18 @@ pub returns-in-From-clause-lacking : goal.returns-in-From-clause-lacking
 returns-in-From-clause-lacking g c = λ told.
     let d = c.args.links.now in
     let s0 = g.L.Links.seat d c.args.p.now in
-    let j = g.L.Links.journal c.args.p.now in
     let k = g.L.Links.journal c.begin_near.new.p in
     let m = g.L.Links.journal c.root_from.new.p in
     let (s, own, q, same, idle) = c.requires.begun in
     let b = c.in-From.ensures.begun s own q same in
     let f = c.root_from.ensures in
     let fact = subst (λ (x : ℕ). WithinPart g.L.Links.agent_of x k m (g.L.Links.lacking d x m)) (b.begins.begins.agent ∙ sym q.puts.agent) (f.lacking told) in
-    part_of_part g.L.Links.agent_of s0.agent (g.L.Links.lacking d s0.agent) j k m c.in-From.ensures.later f.later fact
+    part_of_part g.L.Links.agent_of s0.agent (g.L.Links.lacking d s0.agent) _ k m c.in-From.ensures.later f.later fact
 
 pub returns-in-From-clause-worn : goal.returns-in-From-clause-worn
 returns-in-From-clause-worn g c = λ why told.
     let d = c.args.links.now in
     let s0 = g.L.Links.seat d c.args.p.now in
-    let j = g.L.Links.journal c.args.p.now in
     let k = g.L.Links.journal c.begin_near.new.p in
     let m = g.L.Links.journal c.root_from.new.p in
     let (s, own, q, same, idle) = c.requires.begun in
@@ -62,4 +59,4 @@ returns-in-From-clause-worn g c = λ why told.
     let f = c.root_from.ensures in
     let fact = subst (λ (x : ℕ). WithinPart g.L.Links.agent_of x k m (g.L.Links.worn d x why m)) (b.begins.begins.agent ∙ sym q.puts.agent)
     (f.worn why told) in
-    part_of_part g.L.Links.agent_of s0.agent (g.L.Links.worn d s0.agent why) j k m c.in-From.ensures.later f.later fact
+    part_of_part g.L.Links.agent_of s0.agent (g.L.Links.worn d s0.agent why) _ k m c.in-From.ensures.later f.later fact

@@ -13,39 +13,36 @@ use Rattle.orc_split_set.proofs.grow.double.Goals as goal
 
 pub swing_size-requires-clause-old : goal.swing_size-requires-clause-old
 swing_size-requires-clause-old g c =
-    let d = c.args.links.now in
-    let n = g.L.Links.numbers d in
+    let n = g.L.Links.numbers _ in
     let a = c.args in
-    let s = g.L.Links.seat d a.p.now in
-    let u = g.L.Links.seat d c.give.new.p in
+    let s = g.L.Links.seat _ a.p.now in
+    let u = g.L.Links.seat _ c.give.new.p in
     let e = c.in-Ok.ensures in
     let x : Option SlotNode = Some (record { row = c.in-Ok.new.row; id = e.given.id }) in
     let h = held_beside s.slots a.old.now x c.requires.old.0 c.requires.one.empty in
     let to_is : target_at u.slots a.old.now ≡ target_at s.slots a.old.now = ap (λ (z : Slots). target_at z a.old.now) e.given.slots ∙ h.1 in (
       subst (λ (z : Slots). HoldsIfAny z a.old.now) (sym e.given.slots) h.0,
       subst (λ (o : Option ℕ). StandsFor (heap_of n u) o a.size) (sym to_is)
-          (stands_puts n s u _ (target_at s.slots a.old.now) a.size e.given.puts (g.met.L.Links.allowed d c.give.new.p e.pass) c.requires.old.1),
+          (stands_puts n s u _ (target_at s.slots a.old.now) a.size e.given.puts (g.met.L.Links.allowed _ _ e.pass) c.requires.old.1),
     )
 
 pub swing_size-requires-clause-new : goal.swing_size-requires-clause-new
 swing_size-requires-clause-new g c =
-    let d = c.args.links.now in
-    let n = g.L.Links.numbers d in
+    let n = g.L.Links.numbers _ in
     let a = c.args in
-    let s = g.L.Links.seat d a.p.now in
-    let u = g.L.Links.seat d c.give.new.p in
+    let s = g.L.Links.seat _ a.p.now in
+    let u = g.L.Links.seat _ c.give.new.p in
     let twice : c.from.result * 2 ≡ 2 * a.size = omega (arith, c.from.ensures) in
     let given = subst (λ (v : ℕ). Gives n 1 v 2 s c.in-Ok.new u) twice c.in-Ok.ensures.given in
     (given.id, size_node n (2 * a.size) s u c.in-Ok.new given c.requires.one)
 
 pub returns-in-Ok-clause-doubled : goal.returns-in-Ok-clause-doubled
 returns-in-Ok-clause-doubled g c =
-    let d = c.args.links.now in
-    let n = g.L.Links.numbers d in
+    let n = g.L.Links.numbers _ in
     let a = c.args in
-    let s = g.L.Links.seat d a.p.now in
-    let u = g.L.Links.seat d c.give.new.p in
-    let v = g.L.Links.seat d c.swing_size.new.p in
+    let s = g.L.Links.seat _ a.p.now in
+    let u = g.L.Links.seat _ c.give.new.p in
+    let v = g.L.Links.seat _ c.swing_size.new.p in
     let e = c.in-Ok.ensures in
     let x : Option SlotNode = Some (record { row = c.in-Ok.new.row; id = e.given.id }) in
     let twice : c.from.result * 2 ≡ 2 * a.size = omega (arith, c.from.ensures) in
@@ -53,7 +50,7 @@ returns-in-Ok-clause-doubled g c =
     let to_is : target_at u.slots a.old.now ≡ target_at s.slots a.old.now = ap (λ (z : Slots). target_at z a.old.now) e.given.slots
     ∙ (held_beside s.slots a.old.now x c.requires.old.0 c.requires.one.empty).1 in
     doubles n (2 * a.size) s u c.in-Ok.new given c.requires.one v c.swing_size.result (target_at s.slots a.old.now)
-    (g.met.L.Links.allowed d c.give.new.p e.pass)
+    (g.met.L.Links.allowed _ _ e.pass)
     (subst (λ (o : Option ℕ). SwingsSize n o c.in-Ok.new u c.swing_size.result v) to_is c.swing_size.ensures.swung)
 
 pub returns-in-Ok-clause-lacking : goal.returns-in-Ok-clause-lacking
@@ -63,25 +60,20 @@ pub returns-in-Ok-clause-worn : goal.returns-in-Ok-clause-worn
 returns-in-Ok-clause-worn g c = λ why is.
     let d = c.args.links.now in
     let s = g.L.Links.seat d c.args.p.now in
-    let j = g.L.Links.journal c.args.p.now in
     let k = g.L.Links.journal c.give.new.p in
     let m = g.L.Links.journal c.swing_size.new.p in
     let e = c.in-Ok.ensures in
     let there = subst (λ (x : ℕ). Within (length k) (length m) (g.L.Links.worn d x why m)) e.given.puts.agent (c.swing_size.ensures.worn why is) in
-    within_wider (g.L.Links.worn d s.agent why) j k m m (λ xs more from to h. g.met.L.Links.worn_stays d s.agent why xs more from to h) e.later
+    within_wider (g.L.Links.worn d s.agent why) _ k m m (λ xs more from to h. g.met.L.Links.worn_stays d s.agent why xs more from to h) e.later
     ([], append-nil m) there
 
 pub returns-in-Err-clause-doubled : goal.returns-in-Err-clause-doubled
 returns-in-Err-clause-doubled g c =
-    let d = c.args.links.now in
-    let n = g.L.Links.numbers d in
-    let s = g.L.Links.seat d c.args.p.now in
-    doubles_none n (ShowsSize n (target_at s.slots c.args.old.now) s) s (g.L.Links.seat d c.give.new.p) c.in-Err.ensures.none c.requires.fresh
+    let s = g.L.Links.seat _ c.args.p.now in
+    doubles_none _ (ShowsSize _ (target_at s.slots c.args.old.now) s) s _ c.in-Err.ensures.none c.requires.fresh
 
 pub returns-in-Err-clause-lacking : goal.returns-in-Err-clause-lacking
 returns-in-Err-clause-lacking g c = λ is.
-    let d = c.args.links.now in
-    let s = g.L.Links.seat d c.args.p.now in
-    let k = g.L.Links.journal c.give.new.p in
+    let s = g.L.Links.seat _ c.args.p.now in
     let e = c.in-Err.ensures in
-    part_fact g.L.Links.agent_of s.agent (g.L.Links.journal c.args.p.now) k (g.L.Links.lacking d s.agent k) e.later e.lacking
+    part_fact g.L.Links.agent_of s.agent _ _ (g.L.Links.lacking _ s.agent _) e.later e.lacking

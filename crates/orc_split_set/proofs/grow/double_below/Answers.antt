@@ -6,7 +6,6 @@ use Rattle.orc_split_set.proofs.grow.double_below.Goals as goal
 
 pub returns-clause-doubled : goal.returns-clause-doubled
 returns-clause-doubled g c =
-    let d = c.args.links.now in
-    let s = g.L.Links.seat d c.args.p.now in
-    doubles_many (g.L.Links.numbers d) s (target_at s.slots c.args.old.now) c.args.size c.requires.fresh c.requires.old.1
+    let s = g.L.Links.seat _ c.args.p.now in
+    doubles_many _ s (target_at s.slots c.args.old.now) c.args.size c.requires.fresh c.requires.old.1
     (omega (arith, c.requires.most.0, c.if-size-most.false))

@@ -22,23 +22,19 @@ value-size-requires-clause-held g c =
 
 pub overflow_cast-size : goal.overflow_cast-size
 overflow_cast-size g c =
-    let d = c.args.links.now in
-    let t = g.L.Links.seat d c.args.p.now in
-    let u = g.L.Links.seat d c.value-size.new.p in
     let k = c.requires.node in
-    let is = holds_size (g.L.Links.numbers d) c.args.node c.value-size.result t u k c.value-size.ensures.nothing (g.met.L.Links.allowed d c.value-size.new.p c.value-size.ensures.pass)
+    let is = holds_size _ c.args.node c.value-size.result _ _ k c.value-size.ensures.nothing (g.met.L.Links.allowed _ _ c.value-size.ensures.pass)
     c.value-size.ensures.value in
     record { fits = omega (arith, is.0, k.is_size.0, c.requires.most.0, c.ranges.most.fits) }
 
 pub double_below-doubled-requires-clause-old : goal.double_below-doubled-requires-clause-old
 double_below-doubled-requires-clause-old g c =
-    let d = c.args.links.now in
-    let n = g.L.Links.numbers d in
-    let t = g.L.Links.seat d c.args.p.now in
-    let u = g.L.Links.seat d c.value-size.new.p in
+    let n = g.L.Links.numbers _ in
+    let t = g.L.Links.seat _ c.args.p.now in
+    let u = g.L.Links.seat _ c.value-size.new.p in
     let k = c.requires.node in
     let o = c.value-size.ensures.nothing in
-    let all = g.met.L.Links.allowed d c.value-size.new.p c.value-size.ensures.pass in
+    let all = g.met.L.Links.allowed _ _ c.value-size.ensures.pass in
     let is = holds_size n c.args.node c.value-size.result t u k o all c.value-size.ensures.value in
     let node = values_puts n t u _ k.id k.size 2 o.puts all k.node in (
       subst (λ (z : Slots). HoldsIfAny z (Some c.args.node)) (sym o.slots) (holds_of t.slots c.args.node k.id k.held).0,
@@ -53,19 +49,17 @@ double_below-doubled-requires-clause-fresh g c = c.value-size.ensures.nothing.fr
 
 pub let_go-requires-clause-held : goal.let_go-requires-clause-held
 let_go-requires-clause-held g c =
-    let d = c.args.links.now in
-    let t = g.L.Links.seat d c.args.p.now in
+    let t = g.L.Links.seat _ c.args.p.now in
     let k = c.requires.node in
     subst (λ (z : Slots). HoldsIfAny z (Some c.args.node)) (sym (c.double_below-doubled.ensures.doubled.call.slots ∙ c.value-size.ensures.nothing.slots))
     (holds_of t.slots c.args.node k.id k.held).0
 
 pub returns-clause-doubled : goal.returns-clause-doubled
 returns-clause-doubled g c =
-    let d = c.args.links.now in
-    let n = g.L.Links.numbers d in
-    let t = g.L.Links.seat d c.args.p.now in
-    let u = g.L.Links.seat d c.value-size.new.p in
-    let v = g.L.Links.seat d c.double_below-doubled.new.p in
+    let n = g.L.Links.numbers _ in
+    let t = g.L.Links.seat _ c.args.p.now in
+    let u = g.L.Links.seat _ c.value-size.new.p in
+    let v = g.L.Links.seat _ c.double_below-doubled.new.p in
     let o = c.value-size.ensures.nothing in
     let target = Some (id_in t.slots c.args.node) in
     let same : target_at u.slots (Some c.args.node) ≡ target = ap (λ (z : Slots). Some (id_in z c.args.node)) o.slots in
@@ -81,23 +75,21 @@ pub returns-clause-lacking : goal.returns-clause-lacking
 returns-clause-lacking g c = λ is.
     let d = c.args.links.now in
     let s = g.L.Links.seat d c.args.p.now in
-    let j = g.L.Links.journal c.args.p.now in
     let k = g.L.Links.journal c.value-size.new.p in
     let m = g.L.Links.journal c.double_below-doubled.new.p in
     let o = c.value-size.ensures in
     let there = subst (λ (x : ℕ). Within (length k) (length m) (g.L.Links.lacking d x m)) o.nothing.puts.agent (c.double_below-doubled.ensures.lacking is) in
-    within_wider (g.L.Links.lacking d s.agent) j k m (g.L.Links.journal c.let_go.new.p)
+    within_wider (g.L.Links.lacking d s.agent) _ k m _
     (λ xs more from to h. g.met.L.Links.lacking_stays d s.agent xs more from to h) o.later c.let_go.ensures.later there
 
 pub returns-clause-worn : goal.returns-clause-worn
 returns-clause-worn g c = λ why is.
     let d = c.args.links.now in
     let s = g.L.Links.seat d c.args.p.now in
-    let j = g.L.Links.journal c.args.p.now in
     let k = g.L.Links.journal c.value-size.new.p in
     let m = g.L.Links.journal c.double_below-doubled.new.p in
     let o = c.value-size.ensures in
     let there = subst (λ (x : ℕ). Within (length k) (length m) (g.L.Links.worn d x why m)) o.nothing.puts.agent
     (c.double_below-doubled.ensures.worn why is) in
-    within_wider (g.L.Links.worn d s.agent why) j k m (g.L.Links.journal c.let_go.new.p)
+    within_wider (g.L.Links.worn d s.agent why) _ k m _
     (λ xs more from to h. g.met.L.Links.worn_stays d s.agent why xs more from to h) o.later c.let_go.ensures.later there

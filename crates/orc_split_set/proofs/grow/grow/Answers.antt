@@ -55,16 +55,14 @@ kept g c =
 pub double_held-requires-clause-node : goal.double_held-requires-clause-node
 double_held-requires-clause-node g c =
     let k = sized g (goal.at.double_held-requires-clause-node g c).In-Stable-default-Some in
-    let d = c.args.links.now in
-    let s = g.L.Links.seat d c.args.p.now in
-    let t = g.L.Links.seat d c.look.new.p in
+    let s = g.L.Links.seat _ c.args.p.now in
+    let t = g.L.Links.seat _ c.look.new.p in
     let held = hand_held s.slots t.slots [] c.in-Stable-default-Some.node k.id k.hands in
     record { id = k.id; size = k.size; held = held; node = k.node; is_size = k.is_size }
 
 pub double_held-requires-clause-one : goal.double_held-requires-clause-one
 double_held-requires-clause-one g c =
-    let d = c.args.links.now in
-    free_beside (g.L.Links.numbers d) c.in-Stable-default-Some.node (g.L.Links.seat d c.args.p.now) (g.L.Links.seat d c.look.new.p)
+    free_beside _ c.in-Stable-default-Some.node _ _
     (sized g (goal.at.double_held-requires-clause-one g c).In-Stable-default-Some) c.requires.idle
 
 pub double_held-requires-clause-fresh : goal.double_held-requires-clause-fresh
@@ -80,25 +78,23 @@ returns-in-Stable-default-Some-clause-doubled g c =
     let x = c.in-Stable-default-Some in
     let target = Some (id_in t.slots x.node) in
     let same : target ≡ Some k.id = ap (λ (i : ℕ). Some i) (holds_of t.slots x.node k.id (hand_held s.slots t.slots [] x.node k.id k.hands)).1 in
-    doubles_held n (ShowsSize n target t) x.node s t (g.L.Links.seat d c.double_held.new.p) c.double_held.result k
+    doubles_held n (ShowsSize n target t) x.node s t _ c.double_held.result k
     (λ sees. subst (λ (o : Option ℕ). ShowsSize n o t) (sym same)
-    (still_shows n s t k.own (record { to = Some k.id; mark = k.mark }) k.quiet (g.met.L.Links.obeys d c.look.new.p x.ensures.pass) k.shows sees))
+    (still_shows n s t k.own (record { to = Some k.id; mark = k.mark }) k.quiet (g.met.L.Links.obeys _ _ x.ensures.pass) k.shows sees))
     c.double_held.ensures.doubled
 
 pub returns-in-Stable-default-Some-clause-idle : goal.returns-in-Stable-default-Some-clause-idle
 returns-in-Stable-default-Some-clause-idle g c =
-    let d = c.args.links.now in
-    doubles_idle (g.L.Links.numbers d) _ (g.L.Links.seat d c.args.p.now) (g.L.Links.seat d c.double_held.new.p) c.double_held.result
+    doubles_idle _ _ _ _ c.double_held.result
     (returns-in-Stable-default-Some-clause-doubled g c) c.requires.idle
 
 pub returns-in-Stable-default-Some-clause-lacking : goal.returns-in-Stable-default-Some-clause-lacking
 returns-in-Stable-default-Some-clause-lacking g c = λ is.
     let q = (sized g (goal.at.returns-in-Stable-default-Some-clause-lacking g c).In-Stable-default-Some).quiet in
-    let d = c.args.links.now in
     let e = c.in-Stable-default-Some.ensures in
     let f = c.double_held.ensures in
-    part_of_later g.L.Links g.met.L.Links.steps_add g.met.L.Links.seen_is d c.args.p.now c.look.new.p c.double_held.new.p _ c.requires.pass e.pass
-    q.puts q.some e.later f.later (g.L.Links.lacking d) (f.lacking is)
+    part_of_later g.L.Links g.met.L.Links.steps_add g.met.L.Links.seen_is _ _ c.look.new.p c.double_held.new.p _ c.requires.pass e.pass
+    q.puts q.some e.later f.later (g.L.Links.lacking _) (f.lacking is)
 
 pub returns-in-Stable-default-Some-clause-worn : goal.returns-in-Stable-default-Some-clause-worn
 returns-in-Stable-default-Some-clause-worn g c = λ why is.
@@ -106,13 +102,13 @@ returns-in-Stable-default-Some-clause-worn g c = λ why is.
     let d = c.args.links.now in
     let e = c.in-Stable-default-Some.ensures in
     let f = c.double_held.ensures in
-    part_of_later g.L.Links g.met.L.Links.steps_add g.met.L.Links.seen_is d c.args.p.now c.look.new.p c.double_held.new.p _ c.requires.pass e.pass
+    part_of_later g.L.Links g.met.L.Links.steps_add g.met.L.Links.seen_is _ _ c.look.new.p c.double_held.new.p _ c.requires.pass e.pass
     q.puts q.some e.later f.later (λ agent. g.L.Links.worn d agent why) (f.worn why is)
 
 pub double_below-requires-clause-one : goal.double_below-requires-clause-one
 double_below-requires-clause-one g c =
     let k = kept g (goal.at.double_below-requires-clause-one g c).In-Stable-default-None in
-    subst (λ (z : Slots). IsFree z 1) (sym k.slots) (idle_room (g.L.Links.seat c.args.links.now c.args.p.now) c.requires.idle).one
+    subst (λ (z : Slots). IsFree z 1) (sym k.slots) (idle_room _ c.requires.idle).one
 
 pub double_below-requires-clause-fresh : goal.double_below-requires-clause-fresh
 double_below-requires-clause-fresh g c = c.in-Stable-default-None.ensures.looked.fresh ∙ c.requires.idle.fresh
@@ -126,24 +122,22 @@ returns-in-Stable-default-None-clause-doubled g c =
     let t = g.L.Links.seat d c.look.new.p in
     let x = c.in-Stable-default-None in
     let k = kept g at in
-    doubles_after n (ShowsSize n None t) s t (g.L.Links.seat d c.double_below.new.p) k.own c.double_below.result k.quiet k.slots
-    (λ sees. null_shows n s t x.field-0 (unset g at) (g.met.L.Links.obeys d c.look.new.p x.ensures.pass)
-    (g.met.L.Links.allowed d c.look.new.p x.ensures.pass) sees) c.double_below.ensures.doubled
+    doubles_after n (ShowsSize n None t) s t _ k.own c.double_below.result k.quiet k.slots
+    (λ sees. null_shows n s t x.field-0 (unset g at) (g.met.L.Links.obeys _ _ x.ensures.pass)
+    (g.met.L.Links.allowed _ _ x.ensures.pass) sees) c.double_below.ensures.doubled
 
 pub returns-in-Stable-default-None-clause-idle : goal.returns-in-Stable-default-None-clause-idle
 returns-in-Stable-default-None-clause-idle g c =
-    let d = c.args.links.now in
-    doubles_idle (g.L.Links.numbers d) _ (g.L.Links.seat d c.args.p.now) (g.L.Links.seat d c.double_below.new.p) c.double_below.result
+    doubles_idle _ _ _ _ c.double_below.result
     (returns-in-Stable-default-None-clause-doubled g c) c.requires.idle
 
 pub returns-in-Stable-default-None-clause-lacking : goal.returns-in-Stable-default-None-clause-lacking
 returns-in-Stable-default-None-clause-lacking g c = λ is.
     let q = (kept g (goal.at.returns-in-Stable-default-None-clause-lacking g c).In-Stable-default-None).quiet in
-    let d = c.args.links.now in
     let e = c.in-Stable-default-None.ensures in
     let f = c.double_below.ensures in
-    part_of_later g.L.Links g.met.L.Links.steps_add g.met.L.Links.seen_is d c.args.p.now c.look.new.p c.double_below.new.p _ c.requires.pass e.pass
-    q.puts q.some e.later f.later (g.L.Links.lacking d) (f.lacking is)
+    part_of_later g.L.Links g.met.L.Links.steps_add g.met.L.Links.seen_is _ _ c.look.new.p c.double_below.new.p _ c.requires.pass e.pass
+    q.puts q.some e.later f.later (g.L.Links.lacking _) (f.lacking is)
 
 pub returns-in-Stable-default-None-clause-worn : goal.returns-in-Stable-default-None-clause-worn
 returns-in-Stable-default-None-clause-worn g c = λ why is.
@@ -151,20 +145,15 @@ returns-in-Stable-default-None-clause-worn g c = λ why is.
     let d = c.args.links.now in
     let e = c.in-Stable-default-None.ensures in
     let f = c.double_below.ensures in
-    part_of_later g.L.Links g.met.L.Links.steps_add g.met.L.Links.seen_is d c.args.p.now c.look.new.p c.double_below.new.p _ c.requires.pass e.pass
+    part_of_later g.L.Links g.met.L.Links.steps_add g.met.L.Links.seen_is _ _ c.look.new.p c.double_below.new.p _ c.requires.pass e.pass
     q.puts q.some e.later f.later (λ agent. g.L.Links.worn d agent why) (f.worn why is)
 
 pub returns-in-Moved-clause-doubled : goal.returns-in-Moved-clause-doubled
 returns-in-Moved-clause-doubled g c =
-    let d = c.args.links.now in
-    let n = g.L.Links.numbers d in
-    let s = g.L.Links.seat d c.args.p.now in
-    let t = g.L.Links.seat d c.look.new.p in
-    doubles_moved n s t (size_moved n c.args.most s t c.in-Moved.ensures.looked (g.met.L.Links.allowed d c.look.new.p c.in-Moved.ensures.pass))
+    doubles_moved _ _ _ (size_moved _ c.args.most _ _ c.in-Moved.ensures.looked (g.met.L.Links.allowed _ _ c.in-Moved.ensures.pass))
     c.requires.idle.fresh
 
 pub returns-in-Moved-clause-idle : goal.returns-in-Moved-clause-idle
 returns-in-Moved-clause-idle g c =
-    let d = c.args.links.now in
-    doubles_idle (g.L.Links.numbers d) _ (g.L.Links.seat d c.args.p.now) (g.L.Links.seat d c.look.new.p) Moved (returns-in-Moved-clause-doubled g c)
+    doubles_idle _ _ _ _ Moved (returns-in-Moved-clause-doubled g c)
     c.requires.idle

@@ -5,7 +5,6 @@ use Rattle.orc_split_set.proofs.grow.grow_after.Goals as goal
 
 pub returns-clause-grown : goal.returns-clause-grown
 returns-clause-grown g c =
-    let d = c.args.links.now in
-    grows_none (g.L.Links.numbers d) c.args.turn (g.L.Links.seat d c.args.p.now) (λ crowded.
+    grows_none _ c.args.turn _ (λ crowded.
     let bad : true ≡ false = sym (c.is_crowded.ensures.1 crowded) ∙ c.if-is_crowded.false in
     cc) c.requires.idle.fresh

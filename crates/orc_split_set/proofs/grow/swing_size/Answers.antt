@@ -26,35 +26,31 @@ swing-swung-requires-clause-links g c =
 
 pub swing-swung-requires-clause-allowed : goal.swing-swung-requires-clause-allowed
 swing-swung-requires-clause-allowed g c =
-    let d = c.args.links.now in
-    let s = g.L.Links.seat d c.args.p.now in
+    let s = g.L.Links.seat _ c.args.p.now in
     let (id, k) = c.requires.new in
-    size_allowed (g.L.Links.numbers d) s c.args.most c.args.size id c.args.new _ (target_at s.slots c.args.old.now) c.requires.most.0 c.requires.most.1
-    c.requires.most.2 (g.met.L.Links.obeys d c.args.p.now c.requires.pass) k (c.link_to.ensures.link s.slots) c.requires.old.1
+    size_allowed _ s c.args.most c.args.size id c.args.new _ (target_at s.slots c.args.old.now) c.requires.most.0 c.requires.most.1
+    c.requires.most.2 (g.met.L.Links.obeys _ _ c.requires.pass) k (c.link_to.ensures.link s.slots) c.requires.old.1
 
 pub release-requires-clause-held : goal.release-requires-clause-held
 release-requires-clause-held g c =
-    let d = c.args.links.now in
-    let s = g.L.Links.seat d c.args.p.now in
+    let s = g.L.Links.seat _ c.args.p.now in
     let f = c.swing-swung.ensures in
     let (id, k) = c.requires.new in
-    subst (λ (z : Slots). Holds z c.args.new) (sym (swing_slots s (g.L.Links.seat d c.swing-swung.new.p) _ _ _ _ c.swing-swung.result f.swung f.none))
+    subst (λ (z : Slots). Holds z c.args.new) (sym (swing_slots s _ _ _ _ _ c.swing-swung.result f.swung f.none))
     (holds_of s.slots c.args.new id k.held).0
 
 pub returns-clause-swung : goal.returns-clause-swung
 returns-clause-swung g c =
-    let d = c.args.links.now in
-    let n = g.L.Links.numbers d in
-    let s = g.L.Links.seat d c.args.p.now in
-    let t = g.L.Links.seat d c.swing-swung.new.p in
-    let u = g.L.Links.seat d c.release.new.p in
+    let n = g.L.Links.numbers _ in
+    let s = g.L.Links.seat _ c.args.p.now in
+    let u = g.L.Links.seat _ c.release.new.p in
     let f = c.swing-swung.ensures in
     let (id, k) = c.requires.new in
     let old = target_at s.slots c.args.old.now in
     subst (λ (r : Rooted). SwingsSize n old c.args.new s r u) (sym c.grown_of.ensures)
-    (swings_size n (2 * c.args.size) c.args.new id s t u k (release_goes c.args.new t u c.release.ensures.released) _ _ _ old c.swing-swung.result
+    (swings_size n (2 * c.args.size) c.args.new id s _ u k (release_goes c.args.new _ u c.release.ensures.released) _ _ _ old c.swing-swung.result
     (ap (λ (i : ℕ). link_to i) (holds_of s.slots c.args.new id k.held).1) (ap Root c.requires.most.0) (c.link_to.ensures.link s.slots)
-    (g.met.L.Links.allowed d c.swing-swung.new.p f.pass) f.swung f.none)
+    (g.met.L.Links.allowed _ _ f.pass) f.swung f.none)
 
 pub returns-clause-some : goal.returns-clause-some
 returns-clause-some g c = λ is. grown_node c.swing-swung.result (sym c.grown_of.ensures ∙ is)
@@ -71,5 +67,5 @@ returns-clause-worn g c = λ why is.
     let worn : Within (length j) (length k) (g.L.Links.worn d s.agent why k) = subst
     (λ (r : Result Bool Spent). IfErr r (λ x. Within (length j) (length k) (g.L.Links.worn d s.agent x k)))
     (grown_spent c.swing-swung.result why (sym c.grown_of.ensures ∙ is)) since in
-    within_wider (g.L.Links.worn d s.agent why) j j k (g.L.Links.journal c.release.new.p)
+    within_wider (g.L.Links.worn d s.agent why) j j k _
     (λ xs more from to h. g.met.L.Links.worn_stays d s.agent why xs more from to h) ([], append-nil j) c.release.ensures.later worn

@@ -30,14 +30,13 @@ sought g c = λ start slots s room k b. record {
   room = room;
   keeps = k;
   finds = c.search_for-found.ensures.found start s
-      (has_room (split_reading (g.L.Links.numbers c.args.links.now)) c.args.key 1 c.args.node slots s room k) b;
+      (has_room (split_reading _) c.args.key 1 c.args.node slots s room k) b;
 }
 
 pub search_for-found-requires-clause-begins : goal.search_for-found-requires-clause-begins
 search_for-found-requires-clause-begins g c =
-    let n = g.L.Links.numbers c.args.links.now in
     let (start, slots, s, room, k, b) = c.requires.begins in
-    (start, s, has_room (split_reading n) c.args.key 1 c.args.node slots s room k, b)
+    (start, s, has_room (split_reading _) c.args.key 1 c.args.node slots s room k, b)
 
 pub insert_found-requires-clause-root : goal.insert_found-requires-clause-root
 insert_found-requires-clause-root g c = (c.requires.roots, refl)
@@ -53,29 +52,24 @@ returns-clause-inserted g c = λ start slots s room k b.
 
 pub returns-clause-lacking : goal.returns-clause-lacking
 returns-clause-lacking g c = λ told.
-    let d = c.args.links.now in
-    let n = g.L.Links.numbers d in
     let (start, slots, s, room, k, b) = c.requires.begins in
-    let t = g.L.Links.seat d c.search_for-found.new.p in
     let e = c.search_for-found.ensures in
     let f = c.insert_found.ensures in
     let a = sought g (goal.at.returns-clause-lacking g c).After-search_for-found start slots s room k b in
-    let (own, q) = found_quiet (split_reading n) start (key_place c.args.key) s c.search_for-found.result t a.finds in
-    part_of_later g.L.Links g.met.L.Links.steps_add g.met.L.Links.seen_is d c.args.p.now c.search_for-found.new.p c.insert_found.new.p own c.requires.pass e.pass
-    (puts_since s (g.L.Links.seat d c.args.p.now) t own b.begins.seen b.begins.agent q.puts) q.some e.later f.later (g.L.Links.lacking d) (f.lacking told)
+    let (own, q) = found_quiet (split_reading _) start (key_place c.args.key) s c.search_for-found.result _ a.finds in
+    part_of_later g.L.Links g.met.L.Links.steps_add g.met.L.Links.seen_is _ _ c.search_for-found.new.p c.insert_found.new.p own c.requires.pass e.pass
+    (puts_since s _ _ own b.begins.seen b.begins.agent q.puts) q.some e.later f.later (g.L.Links.lacking _) (f.lacking told)
 
 pub returns-clause-worn : goal.returns-clause-worn
 returns-clause-worn g c = λ why told.
     let d = c.args.links.now in
-    let n = g.L.Links.numbers d in
     let (start, slots, s, room, k, b) = c.requires.begins in
-    let t = g.L.Links.seat d c.search_for-found.new.p in
     let e = c.search_for-found.ensures in
     let f = c.insert_found.ensures in
     let a = sought g (goal.at.returns-clause-worn g c).After-search_for-found start slots s room k b in
-    let (own, q) = found_quiet (split_reading n) start (key_place c.args.key) s c.search_for-found.result t a.finds in
-    part_of_later g.L.Links g.met.L.Links.steps_add g.met.L.Links.seen_is d c.args.p.now c.search_for-found.new.p c.insert_found.new.p own c.requires.pass e.pass
-    (puts_since s (g.L.Links.seat d c.args.p.now) t own b.begins.seen b.begins.agent q.puts) q.some e.later f.later (λ agent. g.L.Links.worn d agent why)
+    let (own, q) = found_quiet (split_reading _) start (key_place c.args.key) s c.search_for-found.result _ a.finds in
+    part_of_later g.L.Links g.met.L.Links.steps_add g.met.L.Links.seen_is _ _ c.search_for-found.new.p c.insert_found.new.p own c.requires.pass e.pass
+    (puts_since s _ _ own b.begins.seen b.begins.agent q.puts) q.some e.later f.later (λ agent. g.L.Links.worn d agent why)
     (f.worn why told)
 
 pub returns-clause-counted : goal.returns-clause-counted

@@ -11,21 +11,15 @@ insert_turns-turn-requires-clause-room g c = idle_room (g.L.Links.seat c.args.li
 
 pub let_go-requires-clause-held : goal.let_go-requires-clause-held
 let_go-requires-clause-held g c =
-    let d = c.args.links.now in
-    let s = g.L.Links.seat d c.args.p.now in
-    let t = g.L.Links.seat d c.insert_turns-turn.new.p in
+    let s = g.L.Links.seat _ c.args.p.now in
     let kept = c.insert_turns-turn.result.1 in
-    ends_held kept s t (ends_of (split_reading (g.L.Links.numbers d)) c.args.key 1 (λ answer. Added s.agent c.args.key answer) c.args.turns kept s t
+    ends_held kept s _ (ends_of (split_reading _) c.args.key 1 (λ answer. Added s.agent c.args.key answer) c.args.turns kept s _
     c.insert_turns-turn.result.0 c.insert_turns-turn.ensures.inserted) (idle_room s c.requires.idle)
 
 pub returns-clause-inserted : goal.returns-clause-inserted
 returns-clause-inserted g c =
-    let d = c.args.links.now in
-    let n = g.L.Links.numbers d in
-    let s = g.L.Links.seat d c.args.p.now in
-    let t = g.L.Links.seat d c.insert_turns-turn.new.p in
-    let u = g.L.Links.seat d c.let_go.new.p in
-    turns_answer (split_reading n) c.args.turns c.insert_turns-turn.result.1 s t u (idle_room s c.requires.idle) c.let_go.ensures.let_go c.args.key 1
+    let s = g.L.Links.seat _ c.args.p.now in
+    turns_answer (split_reading _) c.args.turns c.insert_turns-turn.result.1 s _ _ (idle_room s c.requires.idle) c.let_go.ensures.let_go c.args.key 1
     (λ answer. Added s.agent c.args.key answer) c.insert_turns-turn.result.0 c.insert_turns-turn.ensures.inserted
 
 pub returns-clause-lacking : goal.returns-clause-lacking
@@ -33,8 +27,8 @@ returns-clause-lacking g c = λ is.
     let d = c.args.links.now in
     let s = g.L.Links.seat d c.args.p.now in
     let e = c.insert_turns-turn.ensures in
-    part_goes_on g.L.Links.agent_of s.agent (g.L.Links.lacking d s.agent) (g.L.Links.journal c.args.p.now) (g.L.Links.journal c.insert_turns-turn.new.p)
-    (g.L.Links.journal c.let_go.new.p) (λ xs more from to h. g.met.L.Links.lacking_stays d s.agent xs more from to h)
+    part_goes_on g.L.Links.agent_of s.agent (g.L.Links.lacking d s.agent) _ _
+    _ (λ xs more from to h. g.met.L.Links.lacking_stays d s.agent xs more from to h)
     e.later c.let_go.ensures.later (e.lacking is)
 
 pub returns-clause-worn : goal.returns-clause-worn
@@ -42,8 +36,8 @@ returns-clause-worn g c = λ why is.
     let d = c.args.links.now in
     let s = g.L.Links.seat d c.args.p.now in
     let e = c.insert_turns-turn.ensures in
-    part_goes_on g.L.Links.agent_of s.agent (g.L.Links.worn d s.agent why) (g.L.Links.journal c.args.p.now) (g.L.Links.journal c.insert_turns-turn.new.p)
-    (g.L.Links.journal c.let_go.new.p) (λ xs more from to h. g.met.L.Links.worn_stays d s.agent why xs more from to h)
+    part_goes_on g.L.Links.agent_of s.agent (g.L.Links.worn d s.agent why) _ _
+    _ (λ xs more from to h. g.met.L.Links.worn_stays d s.agent why xs more from to h)
     e.later c.let_go.ensures.later (e.worn why is)
 
 pub returns-clause-counted : goal.returns-clause-counted

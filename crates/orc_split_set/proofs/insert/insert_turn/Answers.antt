@@ -15,9 +15,8 @@ use Rattle.orc_split_set.proofs.insert.insert_turn.Goals as goal
 
 pub begin-requires-clause-room : goal.begin-requires-clause-room
 begin-requires-clause-room g c =
-    let d = c.args.links.now in
     let (slots, room, k) = c.requires.keeps in
-    has_room (split_reading (g.L.Links.numbers d)) c.args.key 1 c.args.node slots (g.L.Links.seat d c.args.p.now) room k
+    has_room (split_reading _) c.args.key 1 c.args.node slots _ room k
 
 pub insert_from-requires-clause-begins : goal.insert_from-requires-clause-begins
 insert_from-requires-clause-begins g c =
@@ -34,13 +33,9 @@ insert_from-requires-clause-begins g c =
 
 pub returns-in-Moved-clause-inserted : goal.returns-in-Moved-clause-inserted
 returns-in-Moved-clause-inserted g c = λ slots room k.
-    let d = c.args.links.now in
-    let n = g.L.Links.numbers d in
-    let s = g.L.Links.seat d c.args.p.now in
-    let t = g.L.Links.seat d c.begin.new.p in
     let e = c.in-Moved.ensures in
-    keeps_on (split_ordering n) c.args.key 1 c.args.node slots s t k (found_over (split_reading n) s t e.begun)
-    (g.met.L.Links.obeys d c.args.p.now c.requires.pass) (g.met.L.Links.allowed d c.begin.new.p e.pass)
+    keeps_on (split_ordering _) c.args.key 1 c.args.node slots _ _ k (found_over (split_reading _) _ _ e.begun)
+    (g.met.L.Links.obeys _ _ c.requires.pass) (g.met.L.Links.allowed _ _ e.pass)
 
 pub returns-in-From-clause-inserted : goal.returns-in-From-clause-inserted
 returns-in-From-clause-inserted g c = λ slots room k.
@@ -58,10 +53,9 @@ returns-in-From-clause-inserted g c = λ slots room k.
 
 pub returns-in-From-clause-lacking : goal.returns-in-From-clause-lacking
 returns-in-From-clause-lacking g c = λ told.
-    let d = c.args.links.now in
     let x = c.in-From.ensures in
     let f = c.insert_from.ensures in
-    part_of_next g.L.Links d c.args.p.now c.begin.new.p c.insert_from.new.p x.begun.begins.begins.agent x.later f.later (g.L.Links.lacking d) (f.lacking told)
+    part_of_next g.L.Links _ c.args.p.now c.begin.new.p c.insert_from.new.p x.begun.begins.begins.agent x.later f.later (g.L.Links.lacking _) (f.lacking told)
 
 pub returns-in-From-clause-worn : goal.returns-in-From-clause-worn
 returns-in-From-clause-worn g c = λ why told.

@@ -12,26 +12,23 @@ use Rattle.orc_split_set.proofs.insert.insert_turns.Goals as goal
 
 pub loop-init : goal.loop-init
 loop-init g c =
-    let d = c.args.links.now in
     record {
       pass = c.requires.pass;
       later = ([], append-nil _);
-      on = inserts_none (split_reading (g.L.Links.numbers d)) c.args.key 1 (g.L.Links.seat d c.args.p.now)
+      on = inserts_none (split_reading _) c.args.key 1 _
           c.requires.fresh;
     }
 
 pub insert_turn-turn-requires-clause-keeps : goal.insert_turn-turn-requires-clause-keeps
 insert_turn-turn-requires-clause-keeps g c =
-    let d = c.args.links.now in
-    ((g.L.Links.seat d c.args.p.now).slots, c.requires.room, c.loop.invariant.on.keeps)
+    ((g.L.Links.seat _ c.args.p.now).slots, c.requires.room, c.loop.invariant.on.keeps)
 
 pub loop-preserved : goal.loop-preserved
 loop-preserved g c =
-    let d = c.args.links.now in
-    let n = g.L.Links.numbers d in
-    let s = g.L.Links.seat d c.args.p.now in
-    let t = g.L.Links.seat d c.loop.p in
-    let u = g.L.Links.seat d c.insert_turn-turn.new.p in
+    let n = g.L.Links.numbers _ in
+    let s = g.L.Links.seat _ c.args.p.now in
+    let t = g.L.Links.seat _ c.loop.p in
+    let u = g.L.Links.seat _ c.insert_turn-turn.new.p in
     let i = c.loop.invariant in
     let e = c.insert_turn-turn.ensures in
     let kept = c.insert_turn-turn.result.1 in
@@ -41,11 +38,10 @@ loop-preserved g c =
 
 pub returns-in_default-clause-inserted : goal.returns-in_default-clause-inserted
 returns-in_default-clause-inserted g c =
-    let d = c.args.links.now in
-    let n = g.L.Links.numbers d in
-    let s = g.L.Links.seat d c.args.p.now in
-    let t = g.L.Links.seat d c.loop.p in
-    let u = g.L.Links.seat d c.insert_turn-turn.new.p in
+    let n = g.L.Links.numbers _ in
+    let s = g.L.Links.seat _ c.args.p.now in
+    let t = g.L.Links.seat _ c.loop.p in
+    let u = g.L.Links.seat _ c.insert_turn-turn.new.p in
     let i = c.loop.invariant in
     let e = c.insert_turn-turn.ensures in
     let kept = c.insert_turn-turn.result.1 in
@@ -58,10 +54,9 @@ returns-in_default-clause-inserted g c =
 
 pub returns-in_default-clause-lacking : goal.returns-in_default-clause-lacking
 returns-in_default-clause-lacking g c = λ is.
-    let d = c.args.links.now in
     let i = c.loop.invariant in
     let e = c.insert_turn-turn.ensures in
-    part_of_next g.L.Links d c.args.p.now c.loop.p c.insert_turn-turn.new.p i.on.over.made.puts.agent i.later e.later (g.L.Links.lacking d) (e.lacking is)
+    part_of_next g.L.Links _ c.args.p.now c.loop.p c.insert_turn-turn.new.p i.on.over.made.puts.agent i.later e.later (g.L.Links.lacking _) (e.lacking is)
 
 pub returns-in_default-clause-worn : goal.returns-in_default-clause-worn
 returns-in_default-clause-worn g c = λ why is.

@@ -4,16 +4,10 @@ use Rattle.orc_split_set.proofs.search.search_for.Goals as goal
 
 pub search_chain-requires-clause-begins : goal.search_chain-requires-clause-begins
 search_chain-requires-clause-begins g c =
-    let d = c.args.links.now in
-    let n = g.L.Links.numbers d in
-    let t = g.L.Links.seat d c.args.p.now in
     let (place, s, room, b) = c.requires.begins in
-    (place, s, room, rw c.place.ensures (begins_plain n place _ c.args.left s t (g.met.L.Links.obeys d c.args.p.now c.requires.pass) b))
+    (place, s, room, rw c.place.ensures (begins_plain _ place _ c.args.left s _ (g.met.L.Links.obeys _ _ c.requires.pass) b))
 
 pub returns-clause-found : goal.returns-clause-found
 returns-clause-found g c = λ place s room b.
-    let d = c.args.links.now in
-    let n = g.L.Links.numbers d in
-    let t = g.L.Links.seat d c.args.p.now in
     rw c.place.ensures at c.search_chain.ensures.found place s room
-    (begins_plain n place _ c.args.left s t (g.met.L.Links.obeys d c.args.p.now c.requires.pass) b)
+    (begins_plain _ place _ c.args.left s _ (g.met.L.Links.obeys _ _ c.requires.pass) b)

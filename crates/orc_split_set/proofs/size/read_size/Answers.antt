@@ -8,53 +8,37 @@ use Rattle.orc_split_set.proofs.size.read_size.Goals as goal
 pub overflow_cast-result : goal.overflow_cast-result
 overflow_cast-result g c =
     let d = c.args.links.now in
-    let n = g.L.Links.numbers d in
-    let s = g.L.Links.seat d c.args.p.now in
-    let t = g.L.Links.seat d c.look.new.p in
-    let u = g.L.Links.seat d c.value-size.new.p in
-    let v = g.L.Links.seat d c.release.new.p in
     let x = c.in-Stable-default-Some in
     let some = subst (λ (k : ℕ). 1 ≤ k) c.requires.most.0 c.requires.most.1 in
-    let looks = looks_from (Root c.args.most) (Root _) 2 _ s t (ap Root c.requires.most.0)
-    (looks_some c.args.most 2 x.field-0 x.field-1 x.node s t x.field-1-is x.ensures.looked) in
-    let k = size_given n _ x.node c.value-size.result s t u v (g.met.L.Links.obeys d c.args.p.now c.requires.pass)
-    (g.met.L.Links.allowed d c.look.new.p x.ensures.pass) (g.met.L.Links.allowed d c.value-size.new.p c.value-size.ensures.pass)
-    (g.met.L.Links.allowed d c.release.new.p c.release.ensures.pass) c.requires.room some looks c.value-size.ensures.nothing c.value-size.ensures.value
+    let looks = looks_from (Root c.args.most) (Root _) 2 _ _ _ (ap Root c.requires.most.0)
+    (looks_some c.args.most 2 x.field-0 x.field-1 x.node _ _ x.field-1-is x.ensures.looked) in
+    let k = size_given _ _ x.node c.value-size.result _ _ _ _ (g.met.L.Links.obeys _ _ c.requires.pass)
+    (g.met.L.Links.allowed _ _ x.ensures.pass) (g.met.L.Links.allowed _ _ c.value-size.ensures.pass)
+    (g.met.L.Links.allowed _ _ c.release.ensures.pass) c.requires.room some looks c.value-size.ensures.nothing c.value-size.ensures.value
     c.release.ensures.released (λ i h. g.met.L.Links.fresh_is d c.value-size.new.p i c.value-size.ensures.pass h) in
     record { fits = omega (arith, k.is_size.0, c.requires.most.0, c.ranges.most.fits) }
 
 pub returns-in-Stable-default-Some-clause-read : goal.returns-in-Stable-default-Some-clause-read
 returns-in-Stable-default-Some-clause-read g c =
     let d = c.args.links.now in
-    let n = g.L.Links.numbers d in
-    let s = g.L.Links.seat d c.args.p.now in
-    let t = g.L.Links.seat d c.look.new.p in
-    let u = g.L.Links.seat d c.value-size.new.p in
-    let v = g.L.Links.seat d c.release.new.p in
     let x = c.in-Stable-default-Some in
     let some = subst (λ (k : ℕ). 1 ≤ k) c.requires.most.0 c.requires.most.1 in
-    let looks = looks_from (Root c.args.most) (Root _) 2 _ s t (ap Root c.requires.most.0)
-    (looks_some c.args.most 2 x.field-0 x.field-1 x.node s t x.field-1-is x.ensures.looked) in
-    size_given n _ x.node c.value-size.result s t u v (g.met.L.Links.obeys d c.args.p.now c.requires.pass)
-    (g.met.L.Links.allowed d c.look.new.p x.ensures.pass) (g.met.L.Links.allowed d c.value-size.new.p c.value-size.ensures.pass)
-    (g.met.L.Links.allowed d c.release.new.p c.release.ensures.pass) c.requires.room some looks c.value-size.ensures.nothing c.value-size.ensures.value
+    let looks = looks_from (Root c.args.most) (Root _) 2 _ _ _ (ap Root c.requires.most.0)
+    (looks_some c.args.most 2 x.field-0 x.field-1 x.node _ _ x.field-1-is x.ensures.looked) in
+    size_given _ _ x.node c.value-size.result _ _ _ _ (g.met.L.Links.obeys _ _ c.requires.pass)
+    (g.met.L.Links.allowed _ _ x.ensures.pass) (g.met.L.Links.allowed _ _ c.value-size.ensures.pass)
+    (g.met.L.Links.allowed _ _ c.release.ensures.pass) c.requires.room some looks c.value-size.ensures.nothing c.value-size.ensures.value
     c.release.ensures.released (λ i h. g.met.L.Links.fresh_is d c.value-size.new.p i c.value-size.ensures.pass h)
 
 pub returns-in-Moved-clause-read : goal.returns-in-Moved-clause-read
 returns-in-Moved-clause-read g c =
-    let d = c.args.links.now in
-    let n = g.L.Links.numbers d in
-    size_moved n c.args.most (g.L.Links.seat d c.args.p.now) (g.L.Links.seat d c.look.new.p) c.in-Moved.ensures.looked
-    (g.met.L.Links.allowed d c.look.new.p c.in-Moved.ensures.pass)
+    size_moved _ c.args.most _ _ c.in-Moved.ensures.looked
+    (g.met.L.Links.allowed _ _ c.in-Moved.ensures.pass)
 
 pub returns-in-Stable-default-None-clause-read : goal.returns-in-Stable-default-None-clause-read
 returns-in-Stable-default-None-clause-read g c =
-    let d = c.args.links.now in
-    let n = g.L.Links.numbers d in
-    let s = g.L.Links.seat d c.args.p.now in
-    let t = g.L.Links.seat d c.look.new.p in
     let x = c.in-Stable-default-None in
     let some = subst (λ (k : ℕ). 1 ≤ k) c.requires.most.0 c.requires.most.1 in
-    let looks = looks_from (Root c.args.most) (Root _) 2 _ s t (ap Root c.requires.most.0)
-    (looks_none c.args.most 2 x.field-0 x.field-1 s t x.field-1-is x.ensures.looked) in
-    size_one n _ s t some (g.met.L.Links.obeys d c.args.p.now c.requires.pass) (g.met.L.Links.allowed d c.look.new.p x.ensures.pass) looks
+    let looks = looks_from (Root c.args.most) (Root _) 2 _ _ _ (ap Root c.requires.most.0)
+    (looks_none c.args.most 2 x.field-0 x.field-1 _ _ x.field-1-is x.ensures.looked) in
+    size_one _ _ _ _ some (g.met.L.Links.obeys _ _ c.requires.pass) (g.met.L.Links.allowed _ _ x.ensures.pass) looks

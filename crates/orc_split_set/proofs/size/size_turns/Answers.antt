@@ -12,36 +12,27 @@ use Rattle.orc_split_set.proofs.size.size_turns.Goals as goal
 
 pub loop-init : goal.loop-init
 loop-init g c =
-    let d = c.args.links.now in
-    record { pass = c.requires.pass; later = ([], append-nil _); tires = tires_none (split_reading (g.L.Links.numbers d)) (g.L.Links.seat d c.args.p.now) }
+    record { pass = c.requires.pass; later = ([], append-nil _); tires = tires_none (split_reading _) _ }
 
 pub read_size-requires-clause-room : goal.read_size-requires-clause-room
 read_size-requires-clause-room g c = subst (λ (z : Slots). HasRoom z) (sym c.loop.invariant.tires.slots) c.requires.room
 
 pub loop-preserved : goal.loop-preserved
 loop-preserved g c =
-    let d = c.args.links.now in
-    let r = split_reading (g.L.Links.numbers d) in
+    let r = split_reading _ in
     let i = c.loop.invariant in
     let e = c.in_default.ensures in
-    let t = g.L.Links.seat d c.loop.p in
-    let u = g.L.Links.seat d c.read_size.new.p in
     record {
       pass = e.pass;
       later = goes_on _ _ _ i.later e.later;
-      tires = tires_next r c.loop.counter (g.L.Links.seat d c.args.p.now) t u i.tires (found_over r t u e.read);
+      tires = tires_next r c.loop.counter _ _ _ i.tires (found_over r _ _ e.read);
     }
 
 pub returns-in-Some-clause-read : goal.returns-in-Some-clause-read
 returns-in-Some-clause-read g c =
-    let d = c.args.links.now in
-    let n = g.L.Links.numbers d in
-    let s = g.L.Links.seat d c.args.p.now in
-    let t = g.L.Links.seat d c.loop.p in
-    let u = g.L.Links.seat d c.read_size.new.p in
-    let all = g.met.L.Links.allowed d c.loop.p c.loop.invariant.pass in
+    let all = g.met.L.Links.allowed _ _ c.loop.invariant.pass in
     let some = subst (λ (k : ℕ). 1 ≤ k) c.requires.most.0 c.requires.most.1 in
-    ((λ zero. omega (arith, zero, c.loop-test.true)), size_found n c.loop.counter c.in-Some.size s t u some all c.loop.invariant.tires c.in-Some.ensures.read)
+    ((λ zero. omega (arith, zero, c.loop-test.true)), size_found _ c.loop.counter c.in-Some.size _ _ _ some all c.loop.invariant.tires c.in-Some.ensures.read)
 
 pub returns-clause-read : goal.returns-clause-read
 returns-clause-read g c =

@@ -35,30 +35,28 @@ give-requires-clause-no_other g c =
 
 pub add_node-linked-requires-clause-adds : goal.add_node-linked-requires-clause-adds
 add_node-linked-requires-clause-adds g c =
-    let d = c.args.links.now in
-    let n = g.L.Links.numbers d in
+    let n = g.L.Links.numbers _ in
     let a = c.args in
-    let t = g.L.Links.seat d a.p.now in
-    let u = g.L.Links.seat d c.give.new.p in
+    let t = g.L.Links.seat _ a.p.now in
+    let u = g.L.Links.seat _ c.give.new.p in
     let (start, s, room, fresh, f) = c.requires.absent in
     let e = c.in-Ok.ensures in
     let given = subst (λ (v : ℕ). Gives n 1 v 0 t c.in-Ok.dummy u) c.from.ensures e.given in
-    let h = has_dummy n a.bucket start a.passed a.left a.first a.right s t u f room c.in-Ok.dummy given (g.met.L.Links.allowed d c.give.new.p e.pass) in
+    let h = has_dummy n a.bucket start a.passed a.left a.first a.right s t u f room c.in-Ok.dummy given (g.met.L.Links.allowed _ _ e.pass) in
     dummy_to_add n a.bucket a.left a.first a.right c.in-Ok.dummy s u h c.requires.bucket.0 c.requires.bucket.1
 
 pub release-requires-clause-held : goal.release-requires-clause-held
 release-requires-clause-held g c =
-    let d = c.args.links.now in
-    let n = g.L.Links.numbers d in
+    let n = g.L.Links.numbers _ in
     let a = c.args in
-    let t = g.L.Links.seat d a.p.now in
-    let u = g.L.Links.seat d c.give.new.p in
-    let v = g.L.Links.seat d c.add_node-linked.new.p in
+    let t = g.L.Links.seat _ a.p.now in
+    let u = g.L.Links.seat _ c.give.new.p in
+    let v = g.L.Links.seat _ c.add_node-linked.new.p in
     let (start, s, room, fresh, f) = c.requires.absent in
     let e = c.in-Ok.ensures in
     let dummy = c.in-Ok.dummy in
     let given = subst (λ (x : ℕ). Gives n 1 x 0 t dummy u) c.from.ensures e.given in
-    let h = has_dummy n a.bucket start a.passed a.left a.first a.right s t u f room dummy given (g.met.L.Links.allowed d c.give.new.p e.pass) in
+    let h = has_dummy n a.bucket start a.passed a.left a.first a.right s t u f room dummy given (g.met.L.Links.allowed _ _ e.pass) in
     let slots = slots_with s.slots (Some dummy) h.id in
     let added = subst (λ (i : ℕ). AddsNode (split_reading n) a.bucket 0 [] dummy i 1 slots s c.add_node-linked.result v) h.id_is
     (c.add_node-linked.ensures.added (dummy_to_add n a.bucket a.left a.first a.right dummy s u h c.requires.bucket.0 c.requires.bucket.1)) in
@@ -66,29 +64,28 @@ release-requires-clause-held g c =
 
 pub returns-in-Ok-clause-stopped : goal.returns-in-Ok-clause-stopped
 returns-in-Ok-clause-stopped g c = λ start s room fresh f.
-    let d = c.args.links.now in
-    let n = g.L.Links.numbers d in
+    let n = g.L.Links.numbers _ in
     let a = c.args in
-    let t = g.L.Links.seat d a.p.now in
-    let u = g.L.Links.seat d c.give.new.p in
-    let v = g.L.Links.seat d c.add_node-linked.new.p in
-    let w = g.L.Links.seat d c.release.new.p in
+    let t = g.L.Links.seat _ a.p.now in
+    let u = g.L.Links.seat _ c.give.new.p in
+    let v = g.L.Links.seat _ c.add_node-linked.new.p in
+    let w = g.L.Links.seat _ c.release.new.p in
     let e = c.in-Ok.ensures in
     let dummy = c.in-Ok.dummy in
     let given = subst (λ (x : ℕ). Gives n 1 x 0 t dummy u) c.from.ensures e.given in
-    let h = has_dummy n a.bucket start a.passed a.left a.first a.right s t u f room dummy given (g.met.L.Links.allowed d c.give.new.p e.pass) in
+    let h = has_dummy n a.bucket start a.passed a.left a.first a.right s t u f room dummy given (g.met.L.Links.allowed _ _ e.pass) in
     let slots = slots_with s.slots (Some dummy) h.id in
     let k = c.add_node-linked.ensures in
     let to_add = dummy_to_add n a.bucket a.left a.first a.right dummy s u h c.requires.bucket.0 c.requires.bucket.1 in
-    let all = g.met.L.Links.allowed d c.add_node-linked.new.p k.pass in
+    let all = g.met.L.Links.allowed _ _ k.pass in
     let added = subst (λ (i : ℕ). AddsNode (split_reading n) a.bucket 0 [] dummy i 1 slots s c.add_node-linked.result v) h.id_is
     (k.added to_add) in
-    let grows = seen_grows (g.L.Links.events d) g.L.Links.agent_of (g.met.L.Links.steps_add d) (g.L.Links.journal c.give.new.p)
-    (g.L.Links.journal c.add_node-linked.new.p) u v k.later (g.met.L.Links.seen_is d c.give.new.p e.pass)
-    (g.met.L.Links.seen_is d c.add_node-linked.new.p k.pass) in
+    let grows = seen_grows _ g.L.Links.agent_of (g.met.L.Links.steps_add _) _
+    _ u v k.later (g.met.L.Links.seen_is _ _ e.pass)
+    (g.met.L.Links.seen_is _ _ k.pass) in
     subst (λ (x : InsertTurn). StopsUnnamed n a.bucket s x w) (sym c.turn_of.ensures)
     (turn_stops n a.bucket a.passed a.left a.first a.right dummy s u v w h c.add_node-linked.result added (release_goes dummy v w c.release.ensures.released)
-    grows (g.met.L.Links.allowed d c.release.new.p c.release.ensures.pass)
+    grows (g.met.L.Links.allowed _ _ c.release.ensures.pass)
     (λ is. subst (λ (i : ℕ). IsDummy (heap_of n v) i a.bucket) h.id_is (linked_stands n a.bucket h.adds.id _ _ _ _ u v (k.linked to_add is) all))
     (λ is. linked_unnamed n a.bucket h.adds.id _ _ _ _ u v (k.linked to_add is) all c.requires.bucket.0 c.requires.bucket.1))
 
@@ -99,52 +96,40 @@ pub returns-in-Ok-clause-worn : goal.returns-in-Ok-clause-worn
 returns-in-Ok-clause-worn g c = λ why is.
     let d = c.args.links.now in
     let t = g.L.Links.seat d c.args.p.now in
-    let j = g.L.Links.journal c.args.p.now in
     let k = g.L.Links.journal c.give.new.p in
     let m = g.L.Links.journal c.add_node-linked.new.p in
     let e = c.in-Ok.ensures in
     let w = c.add_node-linked.ensures.worn why (turn_spent c.args.passed c.add_node-linked.result why (sym c.turn_of.ensures ∙ is)) in
     let there = subst (λ (x : ℕ). Within (length k) (length m) (g.L.Links.worn d x why m)) e.given.puts.agent w in
-    within_wider (g.L.Links.worn d t.agent why) j k m (g.L.Links.journal c.release.new.p)
+    within_wider (g.L.Links.worn d t.agent why) _ k m _
     (λ xs more from to h. g.met.L.Links.worn_stays d t.agent why xs more from to h) e.later c.release.ensures.later there
 
 pub let_all_go-requires-clause-hands : goal.let_all_go-requires-clause-hands
 let_all_go-requires-clause-hands g c =
-    let d = c.args.links.now in
-    let n = g.L.Links.numbers d in
     let a = c.args in
-    let t = g.L.Links.seat d a.p.now in
-    let u = g.L.Links.seat d c.give.new.p in
     let (start, s, room, fresh, f) = c.requires.absent in
     let e = c.in-Err.ensures in (
       s.slots,
-      absent_hand_on (split_ordering n) start (dummy_place a.bucket) a.passed a.bucket 0 a.left a.first a.right s t u f room.one e.none
-          (g.met.L.Links.allowed d c.give.new.p e.pass),
+      absent_hand_on (split_ordering _) start (dummy_place a.bucket) a.passed a.bucket 0 a.left a.first a.right s _ _ f room.one e.none
+          (g.met.L.Links.allowed _ _ e.pass),
     )
 
 pub returns-in-Err-clause-stopped : goal.returns-in-Err-clause-stopped
 returns-in-Err-clause-stopped g c = λ start s room fresh f.
-    let d = c.args.links.now in
-    let n = g.L.Links.numbers d in
-    let x = split_ordering n in
+    let x = split_ordering _ in
     let a = c.args in
-    let t = g.L.Links.seat d a.p.now in
-    let u = g.L.Links.seat d c.give.new.p in
-    let y = g.L.Links.seat d c.let_all_go.new.p in
     let e = c.in-Err.ensures in
-    let hand = absent_hand_on x start (dummy_place a.bucket) a.passed a.bucket 0 a.left a.first a.right s t u f room.one e.none
-    (g.met.L.Links.allowed d c.give.new.p e.pass) in
-    let lacks = lacks_node x start (dummy_place a.bucket) a.passed a.bucket 0 a.left a.first a.right s t u f room.one y e.none
+    let hand = absent_hand_on x start (dummy_place a.bucket) a.passed a.bucket 0 a.left a.first a.right s _ _ f room.one e.none
+    (g.met.L.Links.allowed _ _ e.pass) in
+    let lacks = lacks_node x start (dummy_place a.bucket) a.passed a.bucket 0 a.left a.first a.right s _ _ f room.one _ e.none
     (c.let_all_go.ensures.gone s.slots hand) fresh in
-    lacking_stops n a.bucket s y (lacking_roots n a.bucket s y lacks.0 lacks.1)
+    lacking_stops _ a.bucket s _ (lacking_roots _ a.bucket s _ lacks.0 lacks.1)
 
 pub returns-in-Err-clause-lacking : goal.returns-in-Err-clause-lacking
 returns-in-Err-clause-lacking g c = λ is.
     let d = c.args.links.now in
     let t = g.L.Links.seat d c.args.p.now in
-    let j = g.L.Links.journal c.args.p.now in
-    let k = g.L.Links.journal c.give.new.p in
     let e = c.in-Err.ensures in
-    within_wider (g.L.Links.lacking d t.agent) j j k (g.L.Links.journal c.let_all_go.new.p)
-    (λ xs more from to h. g.met.L.Links.lacking_stays d t.agent xs more from to h) ([], append-nil j) c.let_all_go.ensures.later
-    (part_fact g.L.Links.agent_of t.agent j k (g.L.Links.lacking d t.agent k) e.later e.lacking)
+    within_wider (g.L.Links.lacking d t.agent) _ _ _ _
+    (λ xs more from to h. g.met.L.Links.lacking_stays d t.agent xs more from to h) ([], append-nil _) c.let_all_go.ensures.later
+    (part_fact g.L.Links.agent_of t.agent _ _ (g.L.Links.lacking d t.agent _) e.later e.lacking)

@@ -27,7 +27,7 @@ returns g c =
     let l = e.learned in
     let one = c.requires.usable.0 in
     let two = c.requires.usable.1 in
-    let all = g.met.L.Links.allowed d c.learn.new.into e.passes.0 in
+    let all = g.met.L.Links.allowed _ _ e.passes.0 in
     let first : IsPrefix s1.seen t1.seen ⊎ (t1.seen ≡ s1.seen) = elim l.longer_list.of_both [
       | inl b ↦ inl (subst (λ z. IsPrefix s1.seen z) (sym b.1) b.0)
       | inr b ↦ inr b.1

@@ -40,22 +40,19 @@ pub settle-requires : goal.settle-requires
 settle-requires g c =
     let d = c.args.self.now.links in
     let done = c.publish_parts-answer.ensures in
-    let any = any_answered (g.L.Links.numbers d) 3 c.args.turns c.args.left c.args.right (g.L.Links.seat d c.args.p.now)
-    (g.L.Links.seat d c.publish_parts-answer.new.p) c.publish_parts-answer.result done.answered in
+    let any = any_answered _ 3 c.args.turns c.args.left c.args.right _
+    _ c.publish_parts-answer.result done.answered in
     record { pass = done.pass; idle = idle_after c.requires.usable.idle any.1 }
 
 pub returns : goal.returns
 returns g c =
     let d = c.args.self.now.links in
-    let left = c.args.left in
-    let right = c.args.right in
-    let turns = c.args.turns in
     let r = c.publish_parts-answer.result in
     let done = c.publish_parts-answer.ensures in
     let settle = c.settle.ensures in
     let usable = c.requires.usable in
-    let ends = publish_ends (g.L.Links.numbers d) 3 turns left right (g.L.Links.seat d c.args.p.now) _ _ settle.nothing
-    (g.met.L.Links.allowed d c.settle.new.p settle.pass) r done.answered in
+    let ends = publish_ends _ 3 _ _ _ _ _ _ settle.nothing
+    (g.met.L.Links.allowed _ _ settle.pass) r done.answered in
     let seen = call_seen PairsMay g.L.Links d c.args.p.now c.settle.new.p (g.met.L.Links.seen_is d) (g.met.L.Links.allowed d)
     (g.met.L.Links.agents_below d c.settle.new.p settle.pass).1 (g.met.L.Links.steps_add d) usable.pass settle.pass
     (goes_on _ _ _ done.later settle.later) in
@@ -64,11 +61,11 @@ returns g c =
       usable = record { pass = settle.pass; idle = idle_after usable.idle ends.after; staging = staging_after ends.after usable.staging };
       agent = ends.after.answered.piece.puts.agent;
       later = goes_on _ _ _ done.later settle.later;
-      published = publish_ok seen 3 turns left right r ends.answers;
-      none = publish_err seen 3 turns left right r ends.answers;
+      published = publish_ok seen 3 _ _ _ r ends.answers;
+      none = publish_err seen 3 _ _ _ r ends.answers;
       no_turns = done.no_turns;
       no_event = λ zero. no_event _ _ (Puts-trans _ _ _ [] [] (done.nothing zero).puts settle.nothing.puts);
-      again = publish_again seen 3 turns left right r ends.answers;
+      again = publish_again seen 3 _ _ _ r ends.answers;
       no_node = λ is. part_goes_on g.L.Links.agent_of agent (g.L.Links.lacking d agent) _ _ _ (g.met.L.Links.lacking_stays d agent) done.later settle.later
           (done.no_node is);
       spent = λ why is. part_goes_on g.L.Links.agent_of agent (g.L.Links.worn d agent why) _ _ _ (g.met.L.Links.worn_stays d agent why) done.later

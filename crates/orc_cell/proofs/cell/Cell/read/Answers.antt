@@ -27,20 +27,19 @@ settle-requires g c =
     let d = c.args.self.now.links in
     let done = c.read_turns-answer.ensures in
     let idle = c.requires.usable.idle in
-    let any = read_answers (g.L.Links.numbers d) c.args.turns (g.L.Links.seat d c.args.p.now) (g.L.Links.seat d c.read_turns-answer.new.p)
-    c.read_turns-answer.result done.read idle.fresh (g.met.L.Links.allowed d c.read_turns-answer.new.p done.pass) in
+    let any = read_answers _ c.args.turns _ _
+    c.read_turns-answer.result done.read idle.fresh (g.met.L.Links.allowed _ _ done.pass) in
     record { pass = done.pass; idle = idle_after idle any.1 }
 
 pub returns : goal.returns
 returns g c =
     let d = c.args.self.now.links in
-    let turns = c.args.turns in
     let r = c.read_turns-answer.result in
     let done = c.read_turns-answer.ensures in
     let settle = c.settle.ensures in
     let usable = c.requires.usable in
-    let ends = read_ends (g.L.Links.numbers d) turns (g.L.Links.seat d c.args.p.now) _ _ settle.nothing
-    (g.met.L.Links.allowed d c.settle.new.p settle.pass) usable.idle.fresh r done.read in
+    let ends = read_ends _ _ _ _ _ settle.nothing
+    (g.met.L.Links.allowed _ _ settle.pass) usable.idle.fresh r done.read in
     let seen = call_seen PairsMay g.L.Links d c.args.p.now c.settle.new.p (g.met.L.Links.seen_is d) (g.met.L.Links.allowed d)
     (g.met.L.Links.agents_below d c.settle.new.p settle.pass).1 (g.met.L.Links.steps_add d) usable.pass settle.pass
     (goes_on _ _ _ done.later settle.later) in
@@ -48,11 +47,11 @@ returns g c =
       usable = record { pass = settle.pass; idle = idle_after usable.idle ends.after; staging = staging_after ends.after usable.staging };
       agent = ends.after.answered.piece.puts.agent;
       later = goes_on _ _ _ done.later settle.later;
-      seen = read_ok seen turns r ends.answers;
-      none = read_err seen turns r ends.answers;
+      seen = read_ok seen _ r ends.answers;
+      none = read_err seen _ r ends.answers;
       no_turns = done.no_turns;
       no_event = λ zero. no_event _ _ (Puts-trans _ _ _ [] [] (done.nothing zero).puts settle.nothing.puts);
-      again = read_again seen turns r ends.answers;
+      again = read_again seen _ r ends.answers;
       gives = gave_at_most ends.after.answered.piece;
       settled = λ alone. settle.settled
           (settling_alone g.L.Links d c.args.p.now c.read_turns-answer.new.p c.settle.new.p done.later settle.later ends.before alone);

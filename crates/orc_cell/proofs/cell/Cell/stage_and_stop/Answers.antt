@@ -2,7 +2,7 @@
 use Rattle.std.proofs.Common.{[], ◌∙◌}
 use Rattle.orc_heap.proofs.InJournal.{call_seen}
 use Rattle.orc_pairs_rule.specs.PairsDiscipline.{PairsMay}
-use Rattle.orc_cell.specs.Answers.{Answers}
+use Rattle.orc_cell.specs.Answers.{AnswersPiece}
 use Rattle.orc_cell.proofs.Journals.{call_adds, gave_at_most}
 use Rattle.orc_cell.proofs.Pieces.{finds_none}
 use Rattle.orc_cell.proofs.Settled.{idle_after, staging_after}
@@ -23,13 +23,11 @@ returns-in-Ok-clause-gives g c = gave_at_most c.in-Ok.ensures.staged.piece
 pub returns-in-Err-clause-usable : goal.returns-in-Err-clause-usable
 returns-in-Err-clause-usable g c =
     let d = c.args.self.now.links in
-    let n = g.L.Links.numbers d in
-    let s = g.L.Links.seat d c.args.p.now in
     let t = g.L.Links.seat d c.stage.new.p in
     let e = c.in-Err.ensures in
     let usable = c.requires.usable in
-    let answers : Answers n 0 s [] t = record {
-      answered = found_answered n s t [] (finds_none s t e.none) (g.met.L.Links.allowed d c.stage.new.p e.pass);
+    let answers : AnswersPiece _ 0 _ [] t = record {
+      answered = found_answered _ _ t [] (finds_none _ t e.none) (g.met.L.Links.allowed _ _ e.pass);
       fresh = e.none.fresh ∙ usable.idle.fresh;
     } in
     λ is. record { pass = e.pass; idle = idle_after usable.idle answers; staging = staging_after answers usable.staging }

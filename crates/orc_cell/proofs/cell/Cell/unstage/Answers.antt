@@ -18,17 +18,16 @@ returns-clause-usable g c =
     record {
       pass = settle.pass;
       idle = record { slots = o.slots ∙ (u.slots ∙ staged.alone); fresh = o.fresh ∙ u.fresh };
-      staging = unstaged_null (g.L.Links.numbers d) c.staging_roots-roots.result.0 c.args.part (g.L.Links.seat d c.args.p.now) _ _ first u o
-          (g.met.L.Links.allowed d c.settle.new.p settle.pass) staged.second;
+      staging = unstaged_null _ c.staging_roots-roots.result.0 c.args.part _ _ _ first u o
+          (g.met.L.Links.allowed _ _ settle.pass) staged.second;
     }
 
 pub returns-clause-none : goal.returns-clause-none
 returns-clause-none g c =
     let d = c.args.self.now.links in
-    let p = c.settle.new.p in
     let grows = goes_on _ _ _ c.unstage.ensures.later c.settle.ensures.later in
-    let seen = call_seen PairsMay g.L.Links d c.args.p.now p (g.met.L.Links.seen_is d) (g.met.L.Links.allowed d)
-    (g.met.L.Links.agents_below d p c.settle.ensures.pass).1 (g.met.L.Links.steps_add d) c.requires.staged.pass c.settle.ensures.pass grows in
+    let seen = call_seen PairsMay g.L.Links d c.args.p.now _ (g.met.L.Links.seen_is d) (g.met.L.Links.allowed d)
+    (g.met.L.Links.agents_below d _ c.settle.ensures.pass).1 (g.met.L.Links.steps_add d) c.requires.staged.pass c.settle.ensures.pass grows in
     call_adds seen 0 [] (piece_settled c.unstage.ensures.unstaged.piece c.settle.ensures.nothing)
 
 pub returns-clause-gives : goal.returns-clause-gives

@@ -5,8 +5,7 @@ use Rattle.orc_list.proofs.key.KeyRank.read.Goals as goal
 
 pub returns-clause-rank : goal.returns-clause-rank
 returns-clause-rank g c =
-    let d = c.args.links.now in
-    key_read (g.L.Links.numbers d) _ c.value.result (g.L.Links.seat d c.value.new.p) c.value.ensures.value
+    key_read _ _ c.value.result _ c.value.ensures.value
 
 pub returns-clause-fits : goal.returns-clause-fits
 returns-clause-fits g c = omega (arith, c.value.type_inv)

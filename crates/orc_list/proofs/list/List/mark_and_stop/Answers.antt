@@ -39,16 +39,14 @@ returns g c =
     let key = c.args.key in
     let s = g.L.Links.seat d c.args.p.now in
     let u = g.L.Links.seat d c.stop_a_remove.new.p in
-    let j = g.L.Links.journal c.args.p.now in
-    let m = g.L.Links.journal c.stop_a_remove.new.p in
     let r = c.stop_a_remove.result in
     let done = c.stop_a_remove.ensures in
     let k = done.stopped in
-    let is_s = g.met.L.Links.seen_is d c.args.p.now c.requires.pass in
-    let is_u = g.met.L.Links.seen_is d c.stop_a_remove.new.p done.pass in
-    let all = g.met.L.Links.allowed d c.stop_a_remove.new.p done.pass in
+    let is_s = g.met.L.Links.seen_is _ _ c.requires.pass in
+    let is_u = g.met.L.Links.seen_is _ _ done.pass in
+    let all = g.met.L.Links.allowed _ _ done.pass in
     let below = (g.met.L.Links.agents_below d c.stop_a_remove.new.p done.pass).1 in
-    let adds = call_adds (list_ordering n) (g.L.Links.agents d) g.L.Links.agent_of (g.L.Links.events d) (g.met.L.Links.steps_add d) s u j m done.later is_s is_u all below in
+    let adds = call_adds (list_ordering n) (g.L.Links.agents d) g.L.Links.agent_of _ (g.met.L.Links.steps_add d) s u _ _ done.later is_s is_u all below in
     let own = sym (made_is s u k.own k.puts) in
     record {
       pass = done.pass;
@@ -60,5 +58,5 @@ returns g c =
       marked = λ is. subst (λ (z : List (Event ChainNote)). MarksAlone key z) own (marked_moves n key s u r is k);
       unmoved = λ is. subst (λ (z : List (Event ChainNote)). (1 ≤ length z) × (moves_in z ≡ 0)) own (k.some, unmarked_moves n key s u r is k);
       absent = λ is alone. subst (λ (z : List (Event ChainNote)). SeesAbsent n key z u) own (k.absent is (part_alone (list_ordering n) (g.L.Links.agents d) g.L.Links.agent_of
-          (g.L.Links.events d) (g.met.L.Links.steps_add d) s u j m done.later is_s is_u all below k.own k.puts alone));
+          _ (g.met.L.Links.steps_add d) s u _ _ done.later is_s is_u all below k.own k.puts alone));
     }

@@ -48,9 +48,9 @@ returns g c =
     let m = g.L.Links.journal c.settle.new.p in
     let since = goes_on j j0 k before.later done.later in
     let grows = goes_on j k m since settle.later in
-    let is_s = g.met.L.Links.seen_is d c.args.p.now c.requires.usable.0 in
-    let is_u = g.met.L.Links.seen_is d c.settle.new.p settle.pass in
-    let all = g.met.L.Links.allowed d c.settle.new.p settle.pass in
+    let is_s = g.met.L.Links.seen_is _ _ c.requires.usable.0 in
+    let is_u = g.met.L.Links.seen_is _ _ settle.pass in
+    let all = g.met.L.Links.allowed _ _ settle.pass in
     let below = (g.met.L.Links.agents_below d c.settle.new.p settle.pass).1 in
     let agents = g.L.Links.agents d in
     let by = g.L.Links.agent_of in
@@ -60,16 +60,16 @@ returns g c =
     let used = turns_used x agents by events adds s u j m grows is_s is_u all below 1 turns entry answer did in
     let again = if_err answer _ used in
     let some : (value : Bool) → answer ≡ Ok value → turns ≢ 0 = λ value is zero. (let bad = subst (λ (x : Result Bool AgainFault). IsErr x) is (did.no_turns zero).0 in cc) in
-    let grew = seen_grows events by adds j0 k t0 t done.later (g.met.L.Links.seen_is d c.prepare-rooted.new.p before.pass)
-    (g.met.L.Links.seen_is d c.call_turns-answer.new.p done.pass) in
+    let grew = seen_grows events by adds j0 k t0 t done.later (g.met.L.Links.seen_is _ _ before.pass)
+    (g.met.L.Links.seen_is _ _ done.pass) in
     let grew_u = seen_grows events by adds j0 m t0 u (goes_on j0 k m done.later settle.later)
-    (g.met.L.Links.seen_is d c.prepare-rooted.new.p before.pass) is_u in
+    (g.met.L.Links.seen_is _ _ before.pass) is_u in
     record {
       few = λ asks ne alone has many r. looks_call n by events adds c.args.key turns s t0 t u did.own j m c.prepare-rooted.result before.prepared
           ne before.few (done.few asks)
           grew (keeps.1 ∙ same) settle.nothing did.made.puts grows is_s is_u grew_u alone has many r;
       rooted = if_ok answer _ (λ value is. roots_call n by events adds c.args.key turns s t0 u inner.own did.own j m c.prepare-rooted.result before.prepared (some value is)
-          inner.made.puts did.made.puts grows is_s is_u (g.met.L.Links.obeys d c.prepare-rooted.new.p before.pass) all
+          inner.made.puts did.made.puts grows is_s is_u (g.met.L.Links.obeys _ _ before.pass) all
           (WithinPart by s.agent j m (g.L.Links.lacking d s.agent m)) (λ why. WithinPart by s.agent j m (g.L.Links.worn d s.agent why m))
           (λ told. within_goes_on by s.agent (g.L.Links.lacking d s.agent) (g.met.L.Links.lacking_stays d s.agent) j j0 m before.later
           (goes_on j0 k m done.later settle.later) (before.lacking told))

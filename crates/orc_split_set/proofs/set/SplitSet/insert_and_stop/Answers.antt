@@ -17,10 +17,8 @@ use Rattle.orc_split_set.proofs.set.SplitSet.insert_and_stop.Goals as goal
 pub returns : goal.returns
 returns g c =
     let d = c.args.self.now.links in
-    let n = g.L.Links.numbers d in
-    let r = split_reading n in
+    let r = split_reading _ in
     let s = g.L.Links.seat d c.args.p.now in
-    let t = g.L.Links.seat d c.insert_key-turn.new.p in
     let u = g.L.Links.seat d c.settle.new.p in
     let turn = c.insert_key-turn.result in
     let answer = c.answer_of.result in
@@ -30,31 +28,26 @@ returns g c =
     let settle = c.settle.ensures in
     let entry : Bool → SetEntry = λ answer. Added s.agent c.args.key answer in
     let did = subst (λ (x : Result Bool ListRefused). Did r (x ≡ Err Again) 1 turns entry s x u) (sym is_answer)
-    (insert_did r s t u settle.nothing entry turns (answer_by turn) done.inserted) in
-    let keeps = insert_keeps r entry turns s t (answer_by turn) done.inserted c.requires.usable.1 in
-    let j = g.L.Links.journal c.args.p.now in
-    let k = g.L.Links.journal c.insert_key-turn.new.p in
-    let m = g.L.Links.journal c.settle.new.p in
-    let grows = goes_on j k m done.later settle.later in
-    let is_s = g.met.L.Links.seen_is d c.args.p.now c.requires.usable.0 in
-    let is_u = g.met.L.Links.seen_is d c.settle.new.p settle.pass in
-    let all = g.met.L.Links.allowed d c.settle.new.p settle.pass in
+    (insert_did r s _ u settle.nothing entry turns (answer_by turn) done.inserted) in
+    let keeps = insert_keeps r entry turns s _ (answer_by turn) done.inserted c.requires.usable.1 in
+    let grows = goes_on _ _ _ done.later settle.later in
+    let is_s = g.met.L.Links.seen_is _ _ c.requires.usable.0 in
+    let is_u = g.met.L.Links.seen_is _ _ settle.pass in
+    let all = g.met.L.Links.allowed _ _ settle.pass in
     let below = (g.met.L.Links.agents_below d c.settle.new.p settle.pass).1 in
     let agents = g.L.Links.agents d in
-    let by = g.L.Links.agent_of in
-    let events = g.L.Links.events d in
     let adds = g.met.L.Links.steps_add d in
-    let x = split_ordering n in
+    let x = split_ordering _ in
     record {
-      usable = (settle.pass, idle_settled t u keeps.0 settle.nothing);
+      usable = (settle.pass, idle_settled _ u keeps.0 settle.nothing);
       agent = did.made.puts.agent;
       later = grows;
-      added = did_enter x agents by events adds s u j m grows is_s is_u all below 1 turns entry answer did;
-      none = did_not_enter x agents by events adds s u j m grows is_s is_u all below 1 turns entry answer did;
-      again = turns_used x agents by events adds s u j m grows is_s is_u all below 1 turns entry answer did;
-      no_node = λ is. within_goes_on by s.agent (g.L.Links.lacking d s.agent) (g.met.L.Links.lacking_stays d s.agent) j k m done.later settle.later
+      added = did_enter x agents _ _ adds s u _ _ grows is_s is_u all below 1 turns entry answer did;
+      none = did_not_enter x agents _ _ adds s u _ _ grows is_s is_u all below 1 turns entry answer did;
+      again = turns_used x agents _ _ adds s u _ _ grows is_s is_u all below 1 turns entry answer did;
+      no_node = λ is. within_goes_on _ s.agent (g.L.Links.lacking d s.agent) (g.met.L.Links.lacking_stays d s.agent) _ _ _ done.later settle.later
           (done.lacking (turn_lacks turn (sym is_answer ∙ is)));
-      spent = λ why is. within_goes_on by s.agent (g.L.Links.worn d s.agent why) (g.met.L.Links.worn_stays d s.agent why) j k m done.later settle.later
+      spent = λ why is. within_goes_on _ s.agent (g.L.Links.worn d s.agent why) (g.met.L.Links.worn_stays d s.agent why) _ _ _ done.later settle.later
           (done.worn why (turn_worn turn why (sym is_answer ∙ is)));
       gives = did_give r 1 turns entry s u answer did;
     }

@@ -30,8 +30,7 @@ grow_after-grown-requires-clause-idle g c =
     let d = c.args.self.now.links in
     let call = c.prepare-rooted.ensures.prepared.call in
     let t0 = g.L.Links.seat d c.prepare-rooted.new.p in
-    let t = g.L.Links.seat d c.insert_key-turn.new.p in
-    (insert_keeps (split_reading (g.L.Links.numbers d)) (λ answer. Added t0.agent c.args.key answer) c.args.turns t0 t (answer_by c.insert_key-turn.result)
+    (insert_keeps (split_reading _) (λ answer. Added t0.agent c.args.key answer) c.args.turns t0 _ (answer_by c.insert_key-turn.result)
     c.insert_key-turn.ensures.inserted (record { slots = call.slots ∙ c.requires.usable.1.slots; fresh = call.fresh })).0
 
 pub returns : goal.returns
@@ -43,7 +42,6 @@ returns g c =
     let t0 = g.L.Links.seat d c.prepare-rooted.new.p in
     let t = g.L.Links.seat d c.insert_key-turn.new.p in
     let u = g.L.Links.seat d c.settle.new.p in
-    let v = g.L.Links.seat d c.grow_after-grown.new.p in
     let turn = c.insert_key-turn.result in
     let answer = c.answer_of.result in
     let is_answer : answer ≡ answer_by turn = c.answer_of.ensures in
@@ -57,7 +55,7 @@ returns g c =
     let same = call.made.puts.agent in
     let inserted = subst (λ (x : ℕ). InsertAnswers r (λ answer. Added x c.args.key answer) turns t0 (answer_by turn) t) same done.inserted in
     let grown = c.grow_after-grown.ensures in
-    let inner = insert_after n entry turns turn c.grow_after-grown.result t0 t v u inserted grown.grown settle.nothing in
+    let inner = insert_after n entry turns turn c.grow_after-grown.result t0 t _ u inserted grown.grown settle.nothing in
     let did = subst (λ (x : Result Bool ListRefused). Did r (x ≡ Err Again) 3 turns entry s x u) (sym is_answer)
     (did_after r before.prepared.own turns before.prepared.none s t0 call 2 3 entry u (answer_by turn) (omega arith) inner) in
     let keeps = insert_keeps r entry turns t0 t (answer_by turn) inserted idle in
@@ -70,9 +68,9 @@ returns g c =
     let since_grown = goes_on j k k1 since grown.later in
     let rest = goes_on k k1 m grown.later settle.later in
     let grows = goes_on j k m since rest in
-    let is_s = g.met.L.Links.seen_is d c.args.p.now c.requires.usable.0 in
-    let is_u = g.met.L.Links.seen_is d c.settle.new.p settle.pass in
-    let all = g.met.L.Links.allowed d c.settle.new.p settle.pass in
+    let is_s = g.met.L.Links.seen_is _ _ c.requires.usable.0 in
+    let is_u = g.met.L.Links.seen_is _ _ settle.pass in
+    let all = g.met.L.Links.allowed _ _ settle.pass in
     let below = (g.met.L.Links.agents_below d c.settle.new.p settle.pass).1 in
     let agents = g.L.Links.agents d in
     let by = g.L.Links.agent_of in
@@ -100,25 +98,25 @@ returns g c =
     (subst (λ (x : ℕ). WithinPart by x k k1 (g.L.Links.worn d x why k1)) grown_agent (grown.worn why told))) in
     let roots : (1 ≤ c.args.self.now.greatest) × (n.roots ≡ c.args.self.now.greatest + 1) = c.args.self.now.rooted in
     let most : c.args.self.now.greatest ≡ greatest n = omega (arith, roots.1) in
-    let grew_u = seen_grows events by adds j0 m t0 u (goes_on j0 k m done.later rest) (g.met.L.Links.seen_is d c.prepare-rooted.new.p before.pass) is_u in
+    let grew_u = seen_grows events by adds j0 m t0 u (goes_on j0 k m done.later rest) (g.met.L.Links.seen_is _ _ before.pass) is_u in
     record {
-      grows = λ is alone many low. grows_call n by events adds c.args.key turns s t0 t v u did.own j m turn c.grow_after-grown.result
+      grows = λ is alone many low. grows_call n by events adds c.args.key turns s t0 t _ u did.own j m turn c.grow_after-grown.result
           c.prepare-rooted.result before.prepared
           (some true is) entry inserted done.counted grown.grown settle.nothing (sym is_answer ∙ is) did.made.puts grows is_s is_u grew_u
           (subst (λ (x : ℕ). ∥ IsSize 256 x ∥₁) most c.args.self.now.sized) (subst (λ (x : ℕ). 1 ≤ x) most roots.0)
-          (g.met.L.Links.allowed d c.prepare-rooted.new.p before.pass) (g.met.L.Links.allowed d c.insert_key-turn.new.p done.pass) all
+          (g.met.L.Links.allowed _ _ before.pass) (g.met.L.Links.allowed _ _ done.pass) all
           (WithinPart by s.agent j m (g.L.Links.lacking d s.agent m)) (λ why. WithinPart by s.agent j m (g.L.Links.worn d s.agent why m))
           (λ told. within_goes_on by s.agent (g.L.Links.lacking d s.agent) lacking j j0 m before.later (goes_on j0 k m done.later rest) (before.lacking told))
           (λ why told. within_goes_on by s.agent (g.L.Links.worn d s.agent why) (stays why) j j0 m before.later (goes_on j0 k m done.later rest)
           (before.worn why told)) later_lacks later_worn alone many low;
       rooted = if_ok answer _ (λ value is. roots_call n by events adds c.args.key turns s t0 u inner.own did.own j m c.prepare-rooted.result before.prepared (some value is)
-          inner.made.puts did.made.puts grows is_s is_u (g.met.L.Links.obeys d c.prepare-rooted.new.p before.pass) all
+          inner.made.puts did.made.puts grows is_s is_u (g.met.L.Links.obeys _ _ before.pass) all
           (WithinPart by s.agent j m (g.L.Links.lacking d s.agent m)) (λ why. WithinPart by s.agent j m (g.L.Links.worn d s.agent why m))
           (λ told. within_goes_on by s.agent (g.L.Links.lacking d s.agent) (g.met.L.Links.lacking_stays d s.agent) j j0 m before.later
           (goes_on j0 k m done.later rest) (before.lacking told))
           (λ why told. within_goes_on by s.agent (g.L.Links.worn d s.agent why) (g.met.L.Links.worn_stays d s.agent why) j j0 m before.later
           (goes_on j0 k m done.later rest) (before.worn why told)));
-      usable = (settle.pass, idle_settled v u grown.idle settle.nothing);
+      usable = (settle.pass, idle_settled _ u grown.idle settle.nothing);
       agent = did.made.puts.agent;
       later = grows;
       added = did_enter x agents by events adds s u j m grows is_s is_u all below 3 turns entry answer did;
