@@ -75,7 +75,7 @@ pub struct Plan {
 // One call: what is put or inserted, a key that is taken out (of a queue whatever is at the front), or a key that is asked for;
 // of a cell a left part, a right one, or one for both, that is published, or a read. A put, an insert or a removal may stop before
 // its last step, which the next call that meets it makes.
-#[derive(Clone, Copy, Debug, PartialEq, Eq)]
+#[derive(Clone, Copy)]
 pub enum Ask {
     Give(u64),
     Take(u64),
@@ -167,7 +167,7 @@ fn put_or_take(put: bool, agent: u32, number: u32) -> Ask {
 }
 
 // Numbers that look drawn, the same in each run: the linear congruential generator of Knuth's MMIX.
-#[derive(Clone, Copy, Debug, PartialEq, Eq)]
+#[derive(Clone, Copy)]
 pub(crate) struct Draws {
     state: u64,
 }

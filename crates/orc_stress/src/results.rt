@@ -7,7 +7,7 @@ use crate::tally::Items;
 use std::io;
 
 /// What a domain at rest counted.
-#[derive(Clone, Copy, Debug, PartialEq, Eq, Drop)]
+#[derive(Clone, Copy, Drop)]
 pub struct Counts {
     /// How many rows were given, each as often as it was.
     pub given: u64,

@@ -17,7 +17,7 @@ use std::thread::Threads;
 use std::time::{Clock, Instant};
 
 /// What a run came to.
-#[derive(Clone, Copy, Debug, PartialEq, Eq, Drop)]
+#[derive(Clone, Copy, Drop)]
 pub struct Driven {
     /// What the agents' calls came to, and what was put in before them.
     pub tally: Tally,
@@ -26,7 +26,7 @@ pub struct Driven {
 }
 
 /// What one agent found once all others had made their calls.
-#[derive(Clone, Copy, Debug, PartialEq, Eq, Drop)]
+#[derive(Clone, Copy, Drop)]
 pub struct Rest {
     /// The jobs that it took, or the keys that it found.
     pub items: Items,
@@ -83,7 +83,7 @@ fn fill<C: Container>(container: &C, p: &mut C::Pass, keys: u32) -> Items
 }
 
 // What an insert and a removal say of a key that wasn't found.
-#[derive(Clone, Copy, Debug, PartialEq, Eq)]
+#[derive(Clone, Copy)]
 enum Tried {
     // It wasn't there, and is not.
     Absent,

@@ -12,7 +12,7 @@ const FIRST: u64 = 1;
 const MOST: u64 = 1024;
 
 // The keys that one agent alone inserts and removes, and which of them are in.
-#[derive(Clone, Copy, Debug, PartialEq, Eq)]
+#[derive(Clone, Copy)]
 pub(crate) struct Own {
     agent: u64,
     agents: u64,
@@ -103,7 +103,7 @@ impl Own {
 }
 
 // What one agent put into a queue and took from it last, and its own keys of a set.
-#[derive(Clone, Copy, Debug, PartialEq, Eq)]
+#[derive(Clone, Copy)]
 pub(crate) struct Seen {
     // of each producer the number of its job, plus one
     numbers: [u64; 16],

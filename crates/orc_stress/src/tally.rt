@@ -9,7 +9,7 @@ use crate::seen::Seen;
 
 /// How a call ended: by an answer, one that there was no job to take among them apart, or refused. `Again`: its turns were used
 /// up; `NoNode`: no row was left; `Spent`: a row was linked too often; `Positions`: a queue's positions were used up.
-#[derive(Clone, Copy, Debug, PartialEq, Eq)]
+#[derive(Clone, Copy, PartialEq, Eq)]
 pub enum Answer {
     Ok,
     Empty,
@@ -20,7 +20,7 @@ pub enum Answer {
 }
 
 // How many calls ended so.
-#[derive(Clone, Copy, Debug, PartialEq, Eq)]
+#[derive(Clone, Copy)]
 pub struct Answers {
     pub(crate) ok: u64,
     pub(crate) empty: u64,
@@ -75,7 +75,7 @@ impl Answers {
 }
 
 // Items, each with a place: how many, and a sum over all, which differs where one differs, but for chance.
-#[derive(Clone, Copy, Debug, PartialEq, Eq)]
+#[derive(Clone, Copy, PartialEq, Eq)]
 pub struct Items {
     pub(crate) count: u64,
     sum: u64,
@@ -117,7 +117,7 @@ fn scramble(item: u64) -> u64 {
 }
 
 // What the calls of agents came to.
-#[derive(Clone, Copy, Debug, PartialEq, Eq)]
+#[derive(Clone, Copy)]
 pub struct Tally {
     pub(crate) answers: Answers,
     pub(crate) put: Items,
