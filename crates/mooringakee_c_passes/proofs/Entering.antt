@@ -17,7 +17,7 @@ use Rattle.orc_domain.specs.declared.domain.OrcPass.{OrcPass}
 use Rattle.orc_shared_words.specs.declared.machine.Machine as machine
 use Rattle.orc_sound.specs.declared.steps.Step.{Step}
 use Rattle.mooringakee_c_passes.specs.SetCalls.{GoesOn, RefusesCall, CallView}
-use Rattle.mooringakee_c_passes.specs.SetViews.{view_at}
+use Rattle.mooringakee_c_passes.specs.SetViews.{set_view}
 
 module _ {D N : Type 0} {d : discipline.Ghosts D N} {m : machine.Ghosts Reclaiming N (MachineShape N) Request (Step N) Agent Agent}
     (entries : List (Event N) → List SetEntry) (cause : OrcDomain D N → ℕ → ℕ → ListRefused → List (Step N) → ℕ → ℕ → Type 0)
@@ -30,10 +30,10 @@ module _ {D N : Type 0} {d : discipline.Ghosts D N} {m : machine.Ghosts Reclaimi
 
     -- what the pass shows before the call and after it
     abbrev before : OrcDomain D N → CallView
-    before z = view_at entries cause z turns old
+    before z = set_view entries cause z turns old
 
     abbrev after : OrcDomain D N → CallView
-    after z = view_at entries cause z turns new
+    after z = set_view entries cause z turns new
 
     at_this : (own : List SetEntry) → Adds agent_of_set_entry (λ (by : ℕ). by < (domain_bounds x).agents) (seat_of x old).agent (seen old) own (seen new)
         → GoesOn (before x) own (after x)

@@ -15,7 +15,7 @@ use Rattle.orc_domain.specs.declared.domain.OrcDomain.{OrcDomain}
 use Rattle.mooringakee_c_passes.specs.Making.{IsNewSetSeat}
 use Rattle.mooringakee_c_passes.specs.SetCalls.{GoesOn}
 use Rattle.mooringakee_c_passes.specs.SetSeats.{HasSetCause, agent_at, set_domain, chain_view}
-use Rattle.mooringakee_c_passes.specs.SetViews.{view_at}
+use Rattle.mooringakee_c_passes.specs.SetViews.{set_view}
 use Rattle.mooringakee_c_passes.specs.Usable.{CanBeUsed}
 use Rattle.mooringakee_c_passes.specs.declared.set.SetSeat.{SetSeat}
 use Rattle.mooringakee_c_passes.specs.declared.seat.Seat.TheVariants.{Set}
@@ -25,7 +25,7 @@ use Rattle.mooringakee_c_passes.proofs.SamePlaces.{used_by}
 
 -- a pass that makes no event enters nothing
 pub quiet : (old new : SetSeat) (x : OrcDomain Chain ChainNote) → x ≡ set_domain old → IsPassOf x new.pass → Only [] (seat_of x old.pass) (seat_of x new.pass)
-    → GoesOn (chain_view old) [] (view_at entries_of HasSetCause (set_domain old) old.turns new.pass)
+    → GoesOn (chain_view old) [] (set_view entries_of HasSetCause (set_domain old) old.turns new.pass)
 quiet old new x is belongs only =
     let legal = seen_legal (domain_numbers x) (seat_of x new.pass).seen (project (domain_bounds x) (journal_of new.pass)) (all_obey x new.pass belongs) refl in
     entered entries_of HasSetCause x (set_domain old) is old.turns old.pass new.pass legal only.puts.agent []

@@ -14,7 +14,7 @@ use Rattle.orc_domain.specs.declared.domain.OrcDomain.{OrcDomain}
 use Rattle.orc_split_set.specs.Laws.SetLaws.{seen_legal}
 use Rattle.mooringakee_c_passes.specs.Making.{IsNewSplitSeat}
 use Rattle.mooringakee_c_passes.specs.SetCalls.{GoesOn}
-use Rattle.mooringakee_c_passes.specs.SetViews.{view_at}
+use Rattle.mooringakee_c_passes.specs.SetViews.{set_view}
 use Rattle.mooringakee_c_passes.specs.SplitSeats.{HasSplitCause, agent_at, split_domain, split_view}
 use Rattle.mooringakee_c_passes.specs.Usable.{CanBeUsed}
 use Rattle.mooringakee_c_passes.specs.declared.split.SplitSeat.{SplitSeat}
@@ -30,7 +30,7 @@ seen_are_legal s x belongs =
 
 -- a pass that makes no event enters nothing
 pub quiet : (old new : SplitSeat) (x : OrcDomain Split SplitNote) → x ≡ split_domain old → IsPassOf x new.pass
-    → Only [] (seat_of x old.pass) (seat_of x new.pass) → GoesOn (split_view old) [] (view_at entries_of HasSplitCause (split_domain old) old.turns new.pass)
+    → Only [] (seat_of x old.pass) (seat_of x new.pass) → GoesOn (split_view old) [] (set_view entries_of HasSplitCause (split_domain old) old.turns new.pass)
 quiet old new x is belongs only =
     entered entries_of HasSplitCause x (split_domain old) is old.turns old.pass new.pass (seen_are_legal new x belongs) only.puts.agent []
     (enters_none entries_in agent_of_set_entry (SplitMay (domain_numbers x)) (entries_own (domain_numbers x)) (domain_bounds x).agents

@@ -20,10 +20,11 @@ queue_domain s = s.share.queue.value.links
 abbrev pub calls_seen : QueueSeat → List QueueEntry
 calls_seen s = entries_of (project (domain_bounds (queue_domain s)) (journal_of s.pass))
 
--- the pass's agent, and how many agents there are
+-- the pass's agent
 abbrev pub agent_at : QueueSeat → ℕ
 agent_at s = (seat_of (queue_domain s) s.pass).agent
 
+-- how many agents the queue has
 abbrev pub queue_agents_at : QueueSeat → ℕ
 queue_agents_at s = (domain_bounds (queue_domain s)).agents
 
@@ -31,7 +32,7 @@ queue_agents_at s = (domain_bounds (queue_domain s)).agents
 abbrev pub first_position : QueueSeat → ℕ
 first_position s = position_of (run_heap (domain_numbers (queue_domain s)) (domain_opening (queue_domain s))) 0
 
--- positions begin with 0
+-- the pass can be used, and positions begin with 0
 pub record IsQueueSeat (s : QueueSeat) : Type 0 where
   pub usable : CanBeUsed (queue_domain s) (tags s.places.value) s.pass
   pub first : first_position s ≡ 0

@@ -45,5 +45,5 @@ Through call None NoPass None = Unit {0}
 Through call _ _ _ = ⊥
 
 -- what a pointer stands for is this place, and it can be used
-abbrev pub StandsFor : Option Seat → Seat → Type 0
-StandsFor seat s = (seat ≡ Some s) × IsSeat s
+abbrev pub IsPlaceOf : Option Seat → Seat → Type 0
+IsPlaceOf seat s = (seat ≡ Some s) × IsSeat s

@@ -14,7 +14,7 @@ use Rattle.orc_domain.specs.Passes.{domain_bounds, journal_of, seat_of}
 use Rattle.orc_domain.specs.declared.domain.OrcDomain.{OrcDomain}
 use Rattle.orc_sound.specs.declared.steps.Step.{Step}
 use Rattle.mooringakee_c_passes.specs.SetCalls.{CallView}
-use Rattle.mooringakee_c_passes.specs.SetViews.{view_at}
+use Rattle.mooringakee_c_passes.specs.SetViews.{set_view}
 use Rattle.mooringakee_c_passes.specs.Usable.{CanBeUsed}
 use Rattle.mooringakee_c_passes.specs.declared.set.SetSeat.{SetSeat}
 
@@ -37,8 +37,10 @@ HasSetCause domain agent turns why journal from to =
     Cause (numbers_of bounds) (λ step. step.agent) (λ seen. project bounds seen) (IsLacking bounds agent journal from to)
     (λ row. IsWornIn bounds agent row journal from to) agent turns why journal from to
 
+-- what the place shows of its set
 abbrev pub chain_view : SetSeat → CallView
-chain_view s = view_at entries_of HasSetCause (set_domain s) s.turns s.pass
+chain_view s = set_view entries_of HasSetCause (set_domain s) s.turns s.pass
 
+-- the pass can be used
 abbrev pub IsSetSeat : SetSeat → Type 0
 IsSetSeat s = CanBeUsed (set_domain s) (tags s.places.value) s.pass

@@ -32,8 +32,8 @@ module _ {D N : Type 0} {d : discipline.Ghosts D N} {m : machine.Ghosts Reclaimi
     (entries : List (Event N) → List SetEntry) (cause : OrcDomain D N → ℕ → ℕ → ListRefused → List (Step N) → ℕ → ℕ → Type 0)
   where
     -- what it shows of a set over this domain, by the entries of its events, and by the cause of a refusal of a call by this agent
-    abbrev pub view_at : OrcDomain D N → ℕ → OrcPass D N (MachineShape N) Request (Step N) Agent Agent d m → CallView
-    view_at domain turns p = record {
+    abbrev pub set_view : OrcDomain D N → ℕ → OrcPass D N (MachineShape N) Request (Step N) Agent Agent d m → CallView
+    set_view domain turns p = record {
       seen = entries (project (domain_bounds domain) (journal_of p));
       agent = (seat_of domain p).agent;
       crowd = λ by. by < (domain_bounds domain).agents;

@@ -13,7 +13,7 @@ use Rattle.orc_split_rule.specs.SplitDiscipline.{entries_of, greatest, size_of}
 use Rattle.orc_split_rule.specs.declared.split.Split.{Split}
 use Rattle.orc_split_rule.specs.declared.split.SplitNote.{SplitNote}
 use Rattle.mooringakee_c_passes.specs.SetCalls.{CallView}
-use Rattle.mooringakee_c_passes.specs.SetViews.{view_at}
+use Rattle.mooringakee_c_passes.specs.SetViews.{set_view}
 use Rattle.mooringakee_c_passes.specs.Usable.{CanBeUsed}
 use Rattle.mooringakee_c_passes.specs.declared.split.SplitSeat.{SplitSeat}
 
@@ -44,8 +44,10 @@ HasSplitCause domain agent turns why journal from to =
     Cause (λ step. step.agent) (λ seen. project bounds seen) (IsLacking bounds agent journal from to)
     (λ row. IsWornIn bounds agent row journal from to) agent turns why journal from to
 
+-- what the place shows of its set
 abbrev pub split_view : SplitSeat → CallView
-split_view s = view_at entries_of HasSplitCause (split_domain s) s.turns s.pass
+split_view s = set_view entries_of HasSplitCause (split_domain s) s.turns s.pass
 
+-- the pass can be used
 abbrev pub IsSplitSeat : SplitSeat → Type 0
 IsSplitSeat s = CanBeUsed (split_domain s) (tags s.places.value) s.pass

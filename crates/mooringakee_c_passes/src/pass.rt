@@ -1,7 +1,7 @@
 //! A pass that C holds.
 
 ghost use Rattle.std.specs.Prelude.{◌≡◌, ◌↔◌, IfSome, IsSome, IsTrue, None, Some, is_some};
-ghost use Rattle.mooringakee_c_passes.specs.Seats.{StandsFor, IsSeat};
+ghost use Rattle.mooringakee_c_passes.specs.Seats.{IsPlaceOf, IsSeat};
 
 use crate::pointer::SeatPointer;
 use crate::seat::Seat;
@@ -51,7 +51,7 @@ impl Pass {
     pub fn take(&mut self, alloc: Global) -> Option<Box<Seat>>
         ensures left { self.new.pointer.seat ≡ None }
         ensures none { result ≡ None → self.old.pointer.seat ≡ None }
-        ensures taken { IfSome result (λ seat. StandsFor self.old.pointer.seat seat.value) }
+        ensures taken { IfSome result (λ seat. IsPlaceOf self.old.pointer.seat seat.value) }
     {
         let Pass { pointer, live } = mem::replace(self, Pass::empty(alloc));
         if live {

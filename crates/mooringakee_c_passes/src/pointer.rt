@@ -1,7 +1,7 @@
 //! A seat's box as a pointer.
 
 ghost use Rattle.std.specs.Prelude.{◌≡◌, Some, None, IsSome, Option};
-ghost use Rattle.mooringakee_c_passes.specs.Seats.{StandsFor, IsSeat};
+ghost use Rattle.mooringakee_c_passes.specs.Seats.{IsPlaceOf, IsSeat};
 ghost use Rattle.mooringakee_c_passes.specs.declared.seat.Seat.{Seat};
 
 use crate::seat::Seat;
@@ -56,7 +56,7 @@ impl SeatPointer {
     // What the pointer owns.
     pub(crate) fn open(self) -> RawBox<Seat, Global>
         requires { IsSome self.seat }
-        ensures { StandsFor self.seat result.value }
+        ensures { IsPlaceOf self.seat result.value }
     {
         let SeatPointer { at, alloc } = self;
         RawBox {

@@ -22,11 +22,11 @@ cause_word cause.Id = codes "id"
 cause_word cause.Op = codes "op"
 cause_word cause.Sum = codes "sum"
 
-abbrev pub watch_word : WatchCause → List ℕ
-watch_word watch.Fields = codes "fields"
-watch_word watch.Utf8 = codes "utf8"
-watch_word watch.Verb = codes "verb"
-watch_word watch.Value = codes "value"
+abbrev pub watch_cause_word : WatchCause → List ℕ
+watch_cause_word watch.Fields = codes "fields"
+watch_cause_word watch.Utf8 = codes "utf8"
+watch_cause_word watch.Verb = codes "verb"
+watch_cause_word watch.Value = codes "value"
 
 -- the line that names a record, and by a word what is wrong with it
 abbrev pub record_line : ℕ → List ℕ → List ℕ
@@ -37,7 +37,7 @@ abbrev pub malformed_line : ℕ → Cause → List ℕ
 malformed_line place why = record_line place (cause_word why)
 
 abbrev pub malformed_watch : ℕ → WatchCause → List ℕ
-malformed_watch place why = record_line place (watch_word why)
+malformed_watch place why = record_line place (watch_cause_word why)
 
 -- how a job file with this fault is refused: by the line of its record, or for its many records; for want of memory it has no answer
 abbrev pub RefusesJobs : JobsFault → ℕ → List ℕ → Type 0

@@ -3,7 +3,7 @@ ghost use Rattle.std.specs.Prelude.{◌≡◌, ◌≤◌, ◌⊎◌, if◌then�
 ghost use Rattle.orc_options.specs.Settings.{AreInRange};
 ghost use Rattle.orc_program.specs.Answers.{AnswersWatch};
 ghost use Rattle.orc_program.specs.Ended.{HasWatched, NothingEnded, cell_numbers};
-ghost use Rattle.orc_program.specs.Refusals.{input_too_large, watch_word};
+ghost use Rattle.orc_program.specs.Refusals.{input_too_large, watch_cause_word};
 ghost use Rattle.orc_watch.specs.WatchGrammar.{Refuses};
 
 use crate::Ended;
@@ -84,7 +84,7 @@ fn numbers_at_rest(asked: bool, finished: &WatchFinished) -> Option<CellNumbers>
 
 // The word of a cause.
 fn word_of(cause: WatchCause) -> &'static str
-    ensures { result.now ≡ watch_word cause }
+    ensures { result.now ≡ watch_cause_word cause }
 {
     match cause {
         WatchCause::Fields => "fields",

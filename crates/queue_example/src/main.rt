@@ -40,7 +40,7 @@ impl Work {
 
 // How a run ended.
 #[derive(Clone, Copy, Drop)]
-struct Outcome {
+struct Ending {
     all_taken: bool,
     in_order: bool,
     linked: u32,
@@ -114,7 +114,7 @@ fn are_in_order(queue: &JobQueue, passes: &[JobPass]) -> bool
 }
 
 // Makes a queue over 64 rows, lets two agents work, and brings the queue's domain to rest.
-fn run<R: Threads + Sync>(rt: &R, alloc: Global) -> Option<Outcome> {
+fn run<R: Threads + Sync>(rt: &R, alloc: Global) -> Option<Ending> {
     let Ok((queue, mut passes)) = new_queue::<OrcDomain<Fifo>>(alloc, 64, 2) else {
         return None;
     };
@@ -123,7 +123,7 @@ fn run<R: Threads + Sync>(rt: &R, alloc: Global) -> Option<Outcome> {
     if !are_in_order(&queue, passes.as_slice()) {
         return None;
     }
-    Some(Outcome {
+    Some(Ending {
         all_taken: work.put.load(Ordering::SeqCst) == work.taken.load(Ordering::SeqCst),
         in_order: work.misplaced.load(Ordering::SeqCst) == 0,
         linked: queue_at_rest(queue, passes).linked(),
@@ -134,7 +134,7 @@ fn main(rt: HostRuntime) -> ExitCode {
     let Some(outcome) = run(&rt, rt.alloc()) else {
         return ExitCode::FAILURE;
     };
-    let Outcome {
+    let Ending {
         all_taken,
         in_order,
         linked,

@@ -24,27 +24,27 @@ pub struct Doubling {
 
 // What each of the keys below a number is called with.
 #[derive(Clone, Copy, Drop)]
-enum Call {
+enum KeyCall {
     Insert,
     Contains,
     Remove,
 }
 
 // Whether the call with this key is answered by yes.
-fn is_yes<S: SharedSet>(set: &S, p: &mut S::Pass, call: Call, key: u64) -> bool
+fn is_yes<S: SharedSet>(set: &S, p: &mut S::Pass, call: KeyCall, key: u64) -> bool
     requires { S.usable set.now p.old }
     ensures usable { S.usable set.now p.new }
     ensures agent { S.agent_of set.now p.new ≡ S.agent_of set.now p.old }
 {
     match call {
-        Call::Insert => set.insert(p, key, 2) == Ok(true),
-        Call::Contains => set.contains(p, key, 2) == Ok(true),
-        Call::Remove => set.remove(p, key, 2) == Ok(true),
+        KeyCall::Insert => set.insert(p, key, 2) == Ok(true),
+        KeyCall::Contains => set.contains(p, key, 2) == Ok(true),
+        KeyCall::Remove => set.remove(p, key, 2) == Ok(true),
     }
 }
 
 // With how many of the keys below this one it is.
-fn yeses<S: SharedSet>(set: &S, p: &mut S::Pass, call: Call, end: u64) -> u64
+fn yeses<S: SharedSet>(set: &S, p: &mut S::Pass, call: KeyCall, end: u64) -> u64
     requires { S.usable set.now p.old }
     ensures usable { S.usable set.now p.new }
     ensures agent { S.agent_of set.now p.new ≡ S.agent_of set.now p.old }
@@ -63,11 +63,11 @@ fn fill_and_empty<L: Links<Rule = Split>>(set: &SplitSet<L>, p: &mut L::Pass, ke
     ensures agent { agent L.Links set.now.links p.new ≡ agent L.Links set.now.links p.old }
 {
     let end = u64::from(keys);
-    let added = yeses(set, p, Call::Insert, end);
+    let added = yeses(set, p, KeyCall::Insert, end);
     let buckets = set.size(p, 2).ok();
-    let found = yeses(set, p, Call::Contains, 2 * end);
-    let taken_out = yeses(set, p, Call::Remove, end);
-    let left = yeses(set, p, Call::Contains, end);
+    let found = yeses(set, p, KeyCall::Contains, 2 * end);
+    let taken_out = yeses(set, p, KeyCall::Remove, end);
+    let left = yeses(set, p, KeyCall::Contains, end);
     Doubling {
         added,
         buckets,

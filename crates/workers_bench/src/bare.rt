@@ -12,7 +12,7 @@ const TURNS: u64 = 1 << 30;
 
 // A pass of the queue and one of the set.
 #[derive(Drop)]
-pub(crate) struct Passes<A, B> {
+pub(crate) struct PassPair<A, B> {
     queue: A,
     set: B,
 }
@@ -42,7 +42,7 @@ pub(crate) fn next_passes<Q: SharedQueue, S: SharedSet>(
     set: &S,
     queue_passes: &mut Vec<Q::Pass>,
     set_passes: &mut Vec<S::Pass>,
-) -> Option<Passes<Q::Pass, S::Pass>>
+) -> Option<PassPair<Q::Pass, S::Pass>>
     requires queue { All (λ p. Q.usable queue.now p) queue_passes.old.items }
     requires set { All (λ p. S.usable set.now p) set_passes.old.items }
     ensures queue { All (λ p. Q.usable queue.now p) queue_passes.new.items }
@@ -52,14 +52,14 @@ pub(crate) fn next_passes<Q: SharedQueue, S: SharedSet>(
 {
     let queue = next_queue_pass(queue, queue_passes)?;
     let set = next_set_pass(set, set_passes)?;
-    Some(Passes { queue, set })
+    Some(PassPair { queue, set })
 }
 
 // Opens and puts each `step`th number from `first` on.
 fn post_bare<Q: SharedQueue, S: SharedSet>(
     queue: &Q,
     set: &S,
-    mut passes: Passes<Q::Pass, S::Pass>,
+    mut passes: PassPair<Q::Pass, S::Pass>,
     posts: u32,
     first: u32,
     step: u32,
@@ -111,7 +111,7 @@ where
 pub(crate) fn take_bare<Q: SharedQueue, S: SharedSet>(
     queue: &Q,
     set: &S,
-    mut passes: Passes<Q::Pass, S::Pass>,
+    mut passes: PassPair<Q::Pass, S::Pass>,
     posts: u32,
 ) -> u64
     requires passes { MayCallBoth Q.SharedQueue S.SharedSet queue.now set.now passes }

@@ -20,7 +20,7 @@ use Rattle.std.proofs.raw_atomic.Walks.{proved_at, leaves}
 use Rattle.std_heap.specs.contracts.GlobalAllocator.TheImpl.{ghosts}
 use Rattle.raw_box.proofs.Values.{both, raw_good, raw_in}
 use Rattle.std.specs.Prelude.{IsSome}
-use Rattle.mooringakee_c_passes.specs.Seats.{StandsFor}
+use Rattle.mooringakee_c_passes.specs.Seats.{IsPlaceOf}
 use Rattle.mooringakee_c_passes.proofs.Pointers.{Z, LZ, R, Row, some_seat, pointer_good, pointer_out}
 use Rattle.mooringakee_c_passes.specs.contracts.pointer.SeatPointer.open.{ended, clauses}
 use Rattle.mooringakee_c_passes.specs.contracts.pointer.SeatPointer.open.Key.{name as #self}
@@ -44,6 +44,6 @@ open_spec 𝓤 𝓛 𝓜 𝓡 wired =
     sets ! (of_opd ! (get ! refl)) refl (tt, tt) $
     sets ! (agg ! (and_then ! (get ! refl) (and_then ! (get ! refl) (no_more !)))) refl made $
     raw_in R Z LZ ghosts ! b o h v.alloc x $
-    use0 𝓛 (raw (fact 𝓤 (StandsFor v.seat x))) (fact_i 𝓤 (StandsFor v.seat x) (emp 𝓤) ((some_seat v.seat some).1, good)) $ nothing ! $ nothing ! $ fjoin ! $
+    use0 𝓛 (raw (fact 𝓤 (IsPlaceOf v.seat x))) (fact_i 𝓤 (IsPlaceOf v.seat x) (emp 𝓤) ((some_seat v.seat some).1, good)) $ nothing ! $ nothing ! $ fjoin ! $
     returns ! (look_at ! 0 refl) $ free_all ! refl $ keep ! (4 ∷ 0 ∷ 2 ∷ 1 ∷ []) $
     by ! (leaves 𝓛 ended hs c z (both (vptr b o) h) (record { at = block_ptr b o; alloc = v.alloc; value = x }) (tt, tt) (tt, tt))))))
