@@ -1,6 +1,7 @@
 -- No record has neither a cause nor a line.
 use Rattle.std.proofs.Common.{◌≡◌, ◌≢◌, ◌<◌, ◌^◌, ◌∙◌, sym, Bool, true, false, All, IsUtf8, List, [], ◌∷◌, ℕ, suc, arith, codes, inl, inr, length, refl}
 use Rattle.std.specs.Fmt.{decimal}
+use Rattle.orc_jobs.proofs.Fields.{two-fields}
 use Rattle.orc_jobs.proofs.FileLaws.{none-applies, whether}
 use Rattle.orc_jobs.specs.JobGrammar.{Applies, HasCause, IsLine, TakesText, rank_of, record_of, word_of}
 use Rattle.orc_jobs.specs.RecordFiles.{field}
@@ -11,12 +12,6 @@ use Rattle.orc_jobs.specs.declared.line.Job.{Job}
 use Rattle.orc_jobs.specs.declared.line.Job.TheVariants as job
 use Rattle.orc_jobs.specs.declared.line.Line.{Line}
 use Rattle.orc_jobs.specs.declared.line.Line.TheVariants as line
-
-two-fields : (fields : List (List ℕ)) (a b : List ℕ) → length fields ≡ 2 → field fields 0 ≡ a → field fields 1 ≡ b → fields ≡ a ∷ b ∷ []
-two-fields [] a b n p q = absurd (omega (arith, n))
-two-fields (x ∷ []) a b n p q = absurd (omega (arith, n))
-two-fields (x ∷ y ∷ []) a b n p q = cc
-two-fields (x ∷ y ∷ z ∷ rest) a b n p q = absurd (omega (arith, n))
 
 four-fields : (fields : List (List ℕ)) (a b c d : List ℕ) → length fields ≡ 4 → field fields 0 ≡ a → field fields 1 ≡ b → field fields 2 ≡ c
     → field fields 3 ≡ d

@@ -1,5 +1,8 @@
 -- The fields of a record, one by one.
-use Rattle.std.proofs.Common.{◌≡◌, List, [], ◌∷◌, ℕ, zero, suc, refl}
+use Rattle.std.proofs.Common.{◌≡◌, ◌<◌, ◌^◌, List, [], ◌∷◌, ℕ, zero, suc, refl, arith, ap, get_or, length, IsUtf8}
+use Rattle.std.proofs.lemmas.Fmt.{IsAscii-decimal}
+use Rattle.std.proofs.lemmas.Str.{IsUtf8-from_ascii}
+use Rattle.std.specs.Fmt.{decimal}
 use Rattle.std.specs.declared.option.Option.{Option}
 use Rattle.std.specs.declared.option.Option.TheVariants.{None, Some}
 use Rattle.csv.specs.Records.{field_at}
@@ -16,3 +19,19 @@ unfolding field_at
 field-none [] i e = refl
 field-none (f ∷ fs) zero e = cc e
 field-none (f ∷ fs) (suc i) e = field-none fs i e
+
+-- records that are one have one first field, and fields that are one have one first byte
+pub first-field : {a b : List (List ℕ)} → a ≡ b → get_or a 0 [] ≡ get_or b 0 []
+first-field e = ap (λ r. get_or r 0 []) e
+
+pub first-byte : {a b : List ℕ} → a ≡ b → get_or a 0 0 ≡ get_or b 0 0
+first-byte e = ap (λ t. get_or t 0 0) e
+
+pub IsUtf8-decimal : (n : ℕ) → n < 2 ^ 32 → IsUtf8 (decimal n)
+IsUtf8-decimal n small = IsUtf8-from_ascii (decimal n) (IsAscii-decimal n (omega arith))
+
+pub two-fields : (fields : List (List ℕ)) (a b : List ℕ) → length fields ≡ 2 → field fields 0 ≡ a → field fields 1 ≡ b → fields ≡ a ∷ b ∷ []
+two-fields [] a b n p q = absurd (omega (arith, n))
+two-fields (x ∷ []) a b n p q = absurd (omega (arith, n))
+two-fields (x ∷ y ∷ []) a b n p q = cc
+two-fields (x ∷ y ∷ z ∷ rest) a b n p q = absurd (omega (arith, n))

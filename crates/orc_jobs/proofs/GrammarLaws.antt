@@ -2,12 +2,10 @@
 use Rattle.std.proofs.Common.{◌≡◌, ◌≢◌, ◌∙◌, ◌<◌, ◌^◌, ◌⊎◌, All, List, [], ◌∷◌, ℕ, codes, refl, arith, ap, sym, get_or, inl, inr, Bool, true, false, IsUtf8, rules, ◌==◌, if◌then◌else◌}
 use Rattle.std.proofs.lemmas.List.Elements.{All-cons, All-nil}
 use Rattle.std.specs.Fmt.{decimal}
+use Rattle.orc_jobs.proofs.Fields.{IsUtf8-decimal, first-byte, first-field}
 use Rattle.orc_jobs.proofs.FileLaws.{AreFaults, one-cause, one-reading, one-refusal}
-use Rattle.std.proofs.lemmas.Fmt.{IsAscii-decimal, decimal_injective}
-use Rattle.orc_jobs.specs.OneRecord.{RefusesRecord}
-use Rattle.orc_jobs.specs.RecordFiles.{BeginsWith}
+use Rattle.std.proofs.lemmas.Fmt.{decimal_injective}
 use Rattle.orc_jobs.specs.JobGrammar.{Applies, HasCause, IsFileOf, IsLine, Refuses, TakesText, rank_of, record_of, word_of}
-use Rattle.std.proofs.lemmas.Str.{IsUtf8-from_ascii}
 use Rattle.orc_jobs.specs.Line.{job_line}
 use Rattle.orc_jobs.specs.Numbers.{IsNumberList}
 use Rattle.orc_jobs.specs.declared.cause.Cause.{Cause}
@@ -23,9 +21,6 @@ use Rattle.orc_jobs.specs.declared.line.Line.TheVariants as line
 
 post-not-drop : codes "post" ≡ codes "drop" → ⊥
 post-not-drop e = let first : 112 ≡ 100 = ap (λ t. get_or t 0 0) e in omega (arith, first)
-
-IsUtf8-decimal : (n : ℕ) → n < 2 ^ 32 → IsUtf8 (decimal n)
-IsUtf8-decimal n small = IsUtf8-from_ascii (decimal n) (IsAscii-decimal n (omega arith))
 
 IsUtf8-word_of : (op : Job) → IsUtf8 (word_of op)
 IsUtf8-word_of job.Bytes = search rules
@@ -70,9 +65,6 @@ IsUtf8-record_of (line.Rush id op text) h = IsUtf8-job (codes "rush") id op text
 IsUtf8-record_of (line.Drop id) h =
     let two = All-cons IsUtf8 (decimal id) [] (IsUtf8-decimal id h) (All-nil IsUtf8) in
     All-cons IsUtf8 (codes "drop") (decimal id ∷ []) IsUtf8-drop two
-
-first-byte : {a b : List ℕ} → a ≡ b → get_or a 0 0 ≡ get_or b 0 0
-first-byte e = ap (λ t. get_or t 0 0) e
 
 -- a line that sums has a text of numbers
 sums-numbers : (id : ℕ) (op : Job) (text : List ℕ) → IsJob id op text → word_of op ≡ codes "sum" → IsNumberList text
@@ -136,9 +128,6 @@ same-op job.Sum job.Bytes e = let bad : 115 ≡ 98 = first-byte e in absurd (ome
 same-op job.Sum job.Words e = let bad : 115 ≡ 119 = first-byte e in absurd (omega (arith, bad))
 same-op job.Sum job.Sum e = refl
 
-first-field : {a b : List (List ℕ)} → a ≡ b → get_or a 0 [] ≡ get_or b 0 []
-first-field e = ap (λ r. get_or r 0 []) e
-
 -- a job is known by its record
 same-job : (verb : List ℕ) (rush : Bool) (i : ℕ) (o : Job) (s : List ℕ) (j : ℕ) (p : Job) (t : List ℕ) → IsJob i o s → IsJob j p t
     → job_record verb i o s ≡ job_record verb j p t → job_line rush i o s ≡ job_line rush j p t
@@ -192,10 +181,3 @@ file-read bytes a b x y = one-reading faults bytes a b x y
 pub refused-bad : (bytes : List ℕ) (at : ℕ) (why : Cause) (f : JobsFault) → Refuses bytes (fault.Malformed at why) → Refuses bytes f
     → (f ≡ fault.Malformed at why) ⊎ (f ≡ fault.NoMemory)
 refused-bad bytes at why f bad found = one-refusal faults bytes at why bad f found
-
--- a file is refused as its next record is
-pub refused-here : (bytes : List ℕ) (front : List Line) (fields : List (List ℕ)) (rest : List (List (List ℕ))) (f : JobsFault)
-    → BeginsWith record_of IsLine bytes front (fields ∷ rest) → RefusesRecord front fields f → Refuses bytes f
-refused-here bytes front fields rest (fault.Malformed at why) begins r = (front, fields, rest, begins, r.0, r.1, r.2)
-refused-here bytes front fields rest fault.TooMany begins r = (front, fields, rest, begins, r)
-refused-here bytes front fields rest fault.NoMemory begins r = tt

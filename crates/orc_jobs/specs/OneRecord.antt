@@ -1,19 +1,24 @@
--- What is done with one record, behind the lines of the earlier ones.
+-- What is done with one record, behind the lines of the earlier ones, and why the bytes of all are refused.
 use Rattle.std.specs.Prelude.{◌≡◌, ◌<◌, List, ℕ, length, ⊤}
-use Rattle.orc_jobs.specs.JobGrammar.{HasCause}
-use Rattle.orc_jobs.specs.declared.cause.JobsFault.{JobsFault}
-use Rattle.orc_jobs.specs.declared.cause.JobsFault.TheVariants as fault
-use Rattle.orc_jobs.specs.declared.line.Line.{Line}
-use Rattle.orc_jobs.specs.declared.record.RecordRefused.{RecordRefused}
-use Rattle.orc_jobs.specs.declared.record.RecordRefused.TheVariants as refused
+use Rattle.orc_jobs.specs.RecordFiles.{HasTooMany, IsMalformed}
+use Rattle.orc_jobs.specs.declared.from_record.RecordRefused.{RecordRefused}
+use Rattle.orc_jobs.specs.declared.from_record.RecordRefused.TheVariants as refused
+use Rattle.orc_jobs.specs.declared.records.FileRefused.{FileRefused}
+use Rattle.orc_jobs.specs.declared.records.FileRefused.TheVariants as fault
 
 -- why a record gives no line
-abbrev pub Explains : List (List ℕ) → RecordRefused → Type 0
-Explains fields (refused.Cause why) = HasCause fields why
-Explains fields refused.NoMemory = ⊤
+abbrev pub Explains : {C : Type 0} → (List (List ℕ) → C → Type 0) → List (List ℕ) → RecordRefused C → Type 0
+Explains HasCause fields (refused.Cause why) = HasCause fields why
+Explains HasCause fields refused.NoMemory = ⊤
 
 -- why a record behind some lines is refused
-abbrev pub RefusesRecord : List Line → List (List ℕ) → JobsFault → Type 0
-RefusesRecord front fields (fault.Malformed at why) = (length front ≡ at) × (at < 65535) × HasCause fields why
-RefusesRecord front fields fault.TooMany = length front ≡ 65535
-RefusesRecord front fields fault.NoMemory = ⊤
+abbrev pub RefusesRecord : {L C : Type 0} → (List (List ℕ) → C → Type 0) → List L → List (List ℕ) → FileRefused C → Type 0
+RefusesRecord HasCause front fields (fault.Malformed at why) = (length front ≡ at) × (at < 65535) × HasCause fields why
+RefusesRecord HasCause front fields fault.TooMany = length front ≡ 65535
+RefusesRecord HasCause front fields fault.NoMemory = ⊤
+
+-- the bytes are refused with this fault: some lines, and then a record with a cause within the first 65,535; or 65,535 lines, and then any record
+abbrev pub RefusesFile : {L C : Type 0} → (L → List (List ℕ)) → (L → Type 0) → (List (List ℕ) → C → Type 0) → List ℕ → FileRefused C → Type 0
+RefusesFile record_of IsLine HasCause bytes (fault.Malformed at why) = IsMalformed record_of IsLine HasCause bytes at why
+RefusesFile record_of IsLine HasCause bytes fault.TooMany = HasTooMany record_of IsLine bytes
+RefusesFile record_of IsLine HasCause bytes fault.NoMemory = ⊤

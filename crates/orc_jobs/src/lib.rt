@@ -2,6 +2,7 @@
 #![tactic(auto)]
 
 mod cause;
+mod from_record;
 mod generated;
 mod generated_text;
 mod laws;
@@ -11,10 +12,12 @@ mod number;
 mod read;
 mod record;
 mod record_fields;
+mod records;
 mod text;
 mod value;
 
 pub use cause::{Cause, JobsFault};
+pub use from_record::{FromRecord, RecordRefused};
 pub use generated::make_lines;
 pub use generated_text::{generated_lines_are_read, lines_text};
 pub use laws::{records_are_determined, values_are_determined};
@@ -23,5 +26,6 @@ pub use lines::{Lines, MOST_BYTES};
 pub use number::number_of;
 pub use read::read_jobs;
 pub use record_fields::{field_of, is_text, is_word};
+pub use records::{FileRefused, read_records};
 pub use text::Text;
 pub use value::job_value;

@@ -33,6 +33,13 @@ impl Lines {
         }
     }
 
+    // These lines; it takes no memory.
+    pub(crate) fn from_vec(items: Vec<Line>) -> Lines
+        ensures { result ≡ items.items }
+    {
+        Lines { items }
+    }
+
     /// Appends a line, or changes nothing.
     pub fn push(&mut self, item: Line) -> Result<(), NoMemory>
         ensures ok { OnOk result (self.new ≡ self.old ++ item ∷ []) }

@@ -1,66 +1,55 @@
-ghost use Rattle.std.specs.Prelude.{◌≡◌, IfErr, IfNone, IfOk, IfSome};
-ghost use Rattle.csv.specs.Records.{fields_of};
-ghost use Rattle.orc_jobs.specs.JobGrammar.{IsLine, IsOpWord, record_of, word_of};
-ghost use Rattle.orc_jobs.specs.OneRecord.{Explains};
-ghost use Rattle.orc_jobs.specs.declared.record.RecordRefused.TheVariants.{NoMemory as Refused};
+ghost use Rattle.std.specs.Prelude.{◌≡◌, IfNone, IfSome};
+ghost use Rattle.orc_jobs.specs.JobGrammar.{HasCause, IsLine, IsOpWord, record_of, word_of};
 
 use crate::number::is_number_list;
-use crate::{Cause, Job, Line, Text, field_of, is_text, is_word, number_of};
+use crate::{
+    Cause, FromRecord, Job, Line, RecordRefused, Text, field_of, is_text, is_word, number_of,
+};
 use csv::ByteRecord;
-use orc_fault::NoMemory;
 use std::alloc::Global;
 
-/// Why a record gives no line.
-#[derive(Clone, Copy, Debug, PartialEq, Eq, Drop)]
-pub enum RecordRefused {
-    Cause(Cause),
-    NoMemory,
-}
+impl FromRecord for Line {
+    type Cause = Cause;
 
-impl From<NoMemory> for RecordRefused {
-    ghost from_gives = { λ _ e. e ≡ Refused };
+    ghost spelling = { record_of };
 
-    fn from(_refused: NoMemory) -> RecordRefused {
-        RecordRefused::NoMemory
-    }
-}
+    ghost is_line = { IsLine };
 
-/// The line that a record stands for, or the first cause that applies to it.
-pub fn line_of(alloc: Global, row: &ByteRecord) -> Result<Line, RecordRefused>
-    ensures ok { IfOk result (λ line. (fields_of row.now ≡ record_of line) × IsLine line) }
-    ensures err { IfErr result (Explains (fields_of row.now)) }
-{
-    let verb = field_of(row, 0);
-    let is_drop = is_word(verb, b"drop");
-    let wanted = if is_drop { 2 } else { 4 };
-    if row.len() != wanted {
-        return Err(RecordRefused::Cause(Cause::Fields));
-    }
-    if !is_text(row) {
-        return Err(RecordRefused::Cause(Cause::Utf8));
-    }
-    let is_rush = is_word(verb, b"rush");
-    if !is_drop && !is_rush && !is_word(verb, b"post") {
-        return Err(RecordRefused::Cause(Cause::Verb));
-    }
-    let Some(id) = number_of(field_of(row, 1)) else {
-        return Err(RecordRefused::Cause(Cause::Id));
-    };
-    if is_drop {
-        return Ok(Line::Drop { id });
-    }
-    let Some(op) = op_of(field_of(row, 2)) else {
-        return Err(RecordRefused::Cause(Cause::Op));
-    };
-    let text = field_of(row, 3);
-    if op == Job::Sum && !is_number_list(text) {
-        return Err(RecordRefused::Cause(Cause::Sum));
-    }
-    let text = Text::from_slice(alloc, text)?;
-    if is_rush {
-        Ok(Line::Rush { id, op, text })
-    } else {
-        Ok(Line::Post { id, op, text })
+    ghost has_cause = { HasCause };
+
+    fn from_record(alloc: Global, row: &ByteRecord) -> Result<Line, RecordRefused<Cause>> {
+        let verb = field_of(row, 0);
+        let is_drop = is_word(verb, b"drop");
+        let wanted = if is_drop { 2 } else { 4 };
+        if row.len() != wanted {
+            return Err(RecordRefused::Cause(Cause::Fields));
+        }
+        if !is_text(row) {
+            return Err(RecordRefused::Cause(Cause::Utf8));
+        }
+        let is_rush = is_word(verb, b"rush");
+        if !is_drop && !is_rush && !is_word(verb, b"post") {
+            return Err(RecordRefused::Cause(Cause::Verb));
+        }
+        let Some(id) = number_of(field_of(row, 1)) else {
+            return Err(RecordRefused::Cause(Cause::Id));
+        };
+        if is_drop {
+            return Ok(Line::Drop { id });
+        }
+        let Some(op) = op_of(field_of(row, 2)) else {
+            return Err(RecordRefused::Cause(Cause::Op));
+        };
+        let text = field_of(row, 3);
+        if op == Job::Sum && !is_number_list(text) {
+            return Err(RecordRefused::Cause(Cause::Sum));
+        }
+        let text = Text::from_slice(alloc, text)?;
+        if is_rush {
+            Ok(Line::Rush { id, op, text })
+        } else {
+            Ok(Line::Post { id, op, text })
+        }
     }
 }
 

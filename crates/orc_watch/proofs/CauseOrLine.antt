@@ -1,6 +1,7 @@
 -- No record has neither a cause nor a line.
 use Rattle.std.proofs.Common.{◌≡◌, ◌≢◌, ◌<◌, ◌^◌, List, [], ◌∷◌, ℕ, suc, arith, codes, inl, inr, length}
 use Rattle.std.specs.Fmt.{decimal}
+use Rattle.orc_jobs.proofs.Fields.{two-fields}
 use Rattle.orc_jobs.proofs.FileLaws.{none-applies, whether}
 use Rattle.orc_jobs.specs.RecordFiles.{field}
 use Rattle.orc_watch.specs.WatchGrammar.{Applies, HasCause, IsLine, rank_of, record_of}
@@ -13,12 +14,6 @@ one-field : (fields : List (List ℕ)) (a : List ℕ) → length fields ≡ 1 �
 one-field [] a n p = absurd (omega (arith, n))
 one-field (x ∷ []) a n p = cc
 one-field (x ∷ y ∷ rest) a n p = absurd (omega (arith, n))
-
-two-fields : (fields : List (List ℕ)) (a b : List ℕ) → length fields ≡ 2 → field fields 0 ≡ a → field fields 1 ≡ b → fields ≡ a ∷ b ∷ []
-two-fields [] a b n p q = absurd (omega (arith, n))
-two-fields (x ∷ []) a b n p q = absurd (omega (arith, n))
-two-fields (x ∷ y ∷ []) a b n p q = cc
-two-fields (x ∷ y ∷ z ∷ rest) a b n p q = absurd (omega (arith, n))
 
 three-fields : (fields : List (List ℕ)) (a b c : List ℕ) → length fields ≡ 3 → field fields 0 ≡ a → field fields 1 ≡ b → field fields 2 ≡ c
     → fields ≡ a ∷ b ∷ c ∷ []

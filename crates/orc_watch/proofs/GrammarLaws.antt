@@ -2,11 +2,9 @@
 use Rattle.std.proofs.Common.{◌≡◌, ◌∙◌, ◌<◌, ◌^◌, All, List, [], ◌∷◌, ℕ, codes, refl, arith, ap, ap₂, sym, get_or, inl, inr, IsUtf8, rules, ◌==◌, if◌then◌else◌}
 use Rattle.std.proofs.lemmas.List.Elements.{All-cons, All-nil}
 use Rattle.std.specs.Fmt.{decimal}
+use Rattle.orc_jobs.proofs.Fields.{IsUtf8-decimal, first-byte, first-field}
 use Rattle.orc_jobs.proofs.FileLaws.{AreFaults, one-cause}
-use Rattle.std.proofs.lemmas.Fmt.{IsAscii-decimal, decimal_injective}
-use Rattle.std.proofs.lemmas.Str.{IsUtf8-from_ascii}
-use Rattle.orc_watch.specs.OneRecord.{RefusesRecord}
-use Rattle.orc_jobs.specs.RecordFiles.{BeginsWith}
+use Rattle.std.proofs.lemmas.Fmt.{decimal_injective}
 use Rattle.orc_watch.specs.WatchGrammar.{Applies, HasCause, IsLine, Refuses, rank_of, record_of}
 use Rattle.orc_watch.specs.declared.fault.WatchCause.{WatchCause}
 use Rattle.orc_watch.specs.declared.fault.WatchCause.TheVariants as cause
@@ -16,12 +14,6 @@ use Rattle.orc_watch.specs.declared.line.WatchLine.{WatchLine}
 use Rattle.orc_watch.specs.declared.line.WatchLine.TheVariants as line
 
 -- ---- lines and causes
-
-first-byte : {a b : List ℕ} → a ≡ b → get_or a 0 0 ≡ get_or b 0 0
-first-byte e = ap (λ t. get_or t 0 0) e
-
-first-field : {a b : List (List ℕ)} → a ≡ b → get_or a 0 [] ≡ get_or b 0 []
-first-field e = ap (λ r. get_or r 0 []) e
 
 left-not-right : codes "left" ≡ codes "right" → ⊥
 left-not-right e = let bad : 108 ≡ 114 = first-byte e in absurd (omega (arith, bad))
@@ -40,9 +32,6 @@ right-not-see e = let bad : 114 ≡ 115 = first-byte e in absurd (omega (arith, 
 
 both-not-see : codes "both" ≡ codes "see" → ⊥
 both-not-see e = let bad : 98 ≡ 115 = first-byte e in absurd (omega (arith, bad))
-
-IsUtf8-decimal : (n : ℕ) → n < 2 ^ 32 → IsUtf8 (decimal n)
-IsUtf8-decimal n small = IsUtf8-from_ascii (decimal n) (IsAscii-decimal n (omega arith))
 
 IsUtf8-left : IsUtf8 (codes "left")
 IsUtf8-left = search rules
@@ -152,10 +141,3 @@ faults = record {
   no_cause = no-cause;
   one_cause = one-cause Applies rank_of same-rank;
 }
-
--- a file is refused as its next record is
-pub refused-here : (bytes : List ℕ) (front : List WatchLine) (fields : List (List ℕ)) (rest : List (List (List ℕ))) (f : WatchFault)
-    → BeginsWith record_of IsLine bytes front (fields ∷ rest) → RefusesRecord front fields f → Refuses bytes f
-refused-here bytes front fields rest (fault.Malformed at why) begins r = (front, fields, rest, begins, r.0, r.1, r.2)
-refused-here bytes front fields rest fault.TooMany begins r = (front, fields, rest, begins, r)
-refused-here bytes front fields rest fault.NoMemory begins r = tt

@@ -1,3 +1,2 @@
 pub mod WatchGrammar
-pub mod OneRecord
 pub mod WatchText

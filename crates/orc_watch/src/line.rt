@@ -1,7 +1,5 @@
-ghost use Rattle.std.specs.Prelude.{◌≡◌, ◌<◌, ◌++◌, ◌∷◌, [], OnErr, OnOk, length, slice_get, Some};
+ghost use Rattle.std.specs.Prelude.{◌≡◌, ◌<◌, length, slice_get, Some};
 
-use orc_fault::NoMemory;
-use std::alloc::Global;
 use std::marker::Model;
 
 /// A line of a watch file: it publishes one part of the cell or both, or reads them.
@@ -29,22 +27,11 @@ impl Model for WatchLines {
 }
 
 impl WatchLines {
-    /// No line; it takes no memory.
-    pub fn new(alloc: Global) -> WatchLines
-        ensures { result ≡ [] }
+    // These lines; it takes no memory.
+    pub(crate) fn from_vec(items: Vec<WatchLine>) -> WatchLines
+        ensures { result ≡ items.items }
     {
-        WatchLines {
-            items: Vec::new(alloc),
-        }
-    }
-
-    /// Appends a line, or changes nothing.
-    pub fn push(&mut self, item: WatchLine) -> Result<(), NoMemory>
-        ensures ok { OnOk result (self.new ≡ self.old ++ item ∷ []) }
-        ensures err { OnErr result (self.new ≡ self.old) }
-    {
-        self.items.push(item)?;
-        Ok(())
+        WatchLines { items }
     }
 
     /// How many lines it has.

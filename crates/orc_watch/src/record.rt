@@ -4,10 +4,28 @@ ghost use Rattle.orc_watch.specs.WatchGrammar.{HasCause, IsLine, record_of};
 
 use crate::{WatchCause, WatchLine};
 use csv::ByteRecord;
-use orc_jobs::{field_of, is_text, is_word, number_of};
+use orc_jobs::{FromRecord, RecordRefused, field_of, is_text, is_word, number_of};
+use std::alloc::Global;
 
-/// The line that a record stands for, or the first cause that applies to it.
-pub fn line_of(row: &ByteRecord) -> Result<WatchLine, WatchCause>
+impl FromRecord for WatchLine {
+    type Cause = WatchCause;
+
+    ghost spelling = { record_of };
+
+    ghost is_line = { IsLine };
+
+    ghost has_cause = { HasCause };
+
+    fn from_record(
+        _alloc: Global,
+        row: &ByteRecord,
+    ) -> Result<WatchLine, RecordRefused<WatchCause>> {
+        line_of(row).map_err(RecordRefused::Cause)
+    }
+}
+
+// The line that a record stands for, or the first cause that applies to it.
+fn line_of(row: &ByteRecord) -> Result<WatchLine, WatchCause>
     ensures ok { IfOk result (λ line. (fields_of row.now ≡ record_of line) × IsLine line) }
     ensures err { IfErr result (HasCause (fields_of row.now)) }
 {

@@ -8,14 +8,14 @@ use Rattle.orc_jobs.proofs.read.read_jobs.Goals as goal
 
 pub returns-clause-good : goal.returns-clause-good
 returns-clause-good c =
-    IfOk-weaker c.read_records.result (λ lines. IsFileOf lines c.args.bytes.now) AreGood
-    (λ lines h. good_file lines c.args.bytes.now c.requires h) c.read_records.ensures.ok
+    IfOk-weaker c.read_lines.result (λ lines. IsFileOf lines c.args.bytes.now) AreGood
+    (λ lines h. good_file lines c.args.bytes.now c.requires h) c.read_lines.ensures.ok
 
 pub returns-clause-only : goal.returns-clause-only
-returns-clause-only c = reads-file faults c.args.bytes.now c.read_records.result c.read_records.ensures.ok c.read_records.ensures.err
+returns-clause-only c = reads-file faults c.args.bytes.now c.read_lines.result c.read_lines.ensures.ok c.read_lines.ensures.err
 
 pub returns-clause-bad : goal.returns-clause-bad
-returns-clause-bad c = reads-bad faults c.args.bytes.now c.read_records.result c.read_records.ensures.ok c.read_records.ensures.err
+returns-clause-bad c = reads-bad faults c.args.bytes.now c.read_lines.result c.read_lines.ensures.ok c.read_lines.ensures.err
 
 pub returns-clause-many : goal.returns-clause-many
-returns-clause-many c = reads-many faults c.args.bytes.now c.read_records.result c.read_records.ensures.ok c.read_records.ensures.err
+returns-clause-many c = reads-many faults c.args.bytes.now c.read_lines.result c.read_lines.ensures.ok c.read_lines.ensures.err

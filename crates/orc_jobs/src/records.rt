@@ -1,0 +1,87 @@
+//! Files of records, of which each stands for a line.
+ghost use Rattle.std.specs.Prelude.{◌≡◌, ◌≤◌, IfErr, IfOk, OnOk, length};
+ghost use Rattle.csv.specs.Records.{fields_of};
+ghost use Rattle.csv.specs.Reading.{NotLengths, error_kind};
+ghost use Rattle.orc_jobs.specs.OneRecord.{RefusesFile, RefusesRecord};
+ghost use Rattle.orc_jobs.specs.RecordFiles.{IsFile, TakesRecord};
+
+use crate::{FromRecord, RecordRefused};
+use csv::{ByteRecord, Error, ErrorKind, ReaderBuilder};
+use std::alloc::Global;
+
+// The most records that a file has.
+const MOST_RECORDS: usize = 65535;
+
+/// Why bytes are no file of lines.
+#[derive(Debug, Drop)]
+pub enum FileRefused<C> {
+    /// The record of this number, from 0, is the first that has a cause.
+    Malformed { line: u32, cause: C },
+    /// There are 65,535 lines, and then a further record.
+    TooMany,
+    NoMemory,
+}
+
+/// The lines of a file. It is refused at its first record that has a cause, or at a record past
+/// the first 65,535, whatever is in it. A byte order mark at the start is passed over.
+pub fn read_records<L: FromRecord>(
+    alloc: Global,
+    bytes: &[u8],
+) -> Result<Vec<L>, FileRefused<L::Cause>>
+    ensures ok { IfOk result (λ lines. IsFile L.spelling L.is_line lines.items bytes.now) }
+    ensures err { IfErr result (RefusesFile L.spelling L.is_line L.has_cause bytes.now) }
+{
+    let reader = ReaderBuilder::new()
+        .has_headers(false)
+        .flexible(true)
+        .from_reader(alloc, bytes);
+    let mut lines = Vec::new(alloc);
+    for row in reader.into_byte_records() {
+        let row = match row {
+            Ok(row) => row,
+            Err(error) => return Err(fault_of(error)),
+        };
+        take_record(alloc, &row, &mut lines)?;
+    }
+    Ok(lines)
+}
+
+// What an error of the reader is told as. Records of unequal lengths are none. That a slice has no failing
+// reads, `csv` doesn't say.
+fn fault_of<C>(error: Error) -> FileRefused<C>
+    requires { NotLengths (error_kind error) }
+    ensures { result ≡ FileRefused.NoMemory }
+{
+    match error.into_kind() {
+        ErrorKind::UnequalLengths { .. } => unreachable!(),
+        _ => FileRefused::NoMemory,
+    }
+}
+
+// Appends the line of a record, where there is room for one more.
+fn take_record<L: FromRecord>(
+    alloc: Global,
+    row: &ByteRecord,
+    lines: &mut Vec<L>,
+) -> Result<(), FileRefused<L::Cause>>
+    requires { length lines.old.items ≤ 65535 }
+    ensures ok { OnOk result (TakesRecord L.spelling L.is_line lines.old.items lines.new.items (fields_of row.now)) }
+    ensures err { IfErr result (RefusesRecord L.has_cause lines.old.items (fields_of row.now)) }
+{
+    let place = lines.len();
+    if place >= MOST_RECORDS {
+        return Err(FileRefused::TooMany);
+    }
+    let line = match L::from_record(alloc, row) {
+        Ok(line) => line,
+        Err(RecordRefused::Cause(cause)) => {
+            let line = place as u32;
+            return Err(FileRefused::Malformed { line, cause });
+        }
+        Err(RecordRefused::NoMemory) => return Err(FileRefused::NoMemory),
+    };
+    match lines.push(line) {
+        Ok(()) => Ok(()),
+        Err(_) => Err(FileRefused::NoMemory),
+    }
+}
