@@ -7,7 +7,7 @@ use Rattle.orc_board.specs.ListWithRoom.{ListWithRoom}
 use Rattle.orc_board.specs.Stretches.{queue_view}
 use Rattle.orc_board.specs.Table.{EndsWith}
 use Rattle.orc_stages.specs.declared.replies.StageReply.{StageReply}
-use Rattle.orc_stages.specs.declared.team.Worker.{Worker}
+use Rattle.orc_stages.specs.Team.{StageWorker}
 use Rattle.orc_stages.specs.Stage.{QueueShare, DidShares, StageRow, froms, tos, MoveTable, Moving, TookAlone}
 use Rattle.orc_stages.specs.Calls.{MovesMore}
 use Rattle.orc_stages.specs.Desks.{ArePasses, view_at, seen_at}
@@ -48,7 +48,7 @@ out_acted q queue queues agent p p2 ps shares c (suc i) = shares_none (view_at q
 
 -- no stage is left
 pub caller_last : {Q P A : Type 0} (q : QueueOf Q P A) (queue : Q) (queues all : List Q) (lines : List Line) (stage agent now : ℕ) (p p2 : P) (ps old : List P)
-    (ws vs : List (Worker P)) (outs : ListWithRoom ℕ)
+    (ws vs : List (StageWorker P)) (outs : ListWithRoom ℕ)
     → all ≡ queue ∷ queues → old ≡ p ∷ ps → length ws ≡ 0 → vs ≡ ws → now ≡ agent
     → TookAlone (queue_view q queue) now outs.items (q.journal p) (q.journal p2)
     → (outs.spare ≢ 0 → EndsWith (queue_view q queue) now (Empty now) (q.journal p) (q.journal p2))
@@ -89,8 +89,8 @@ less_of i n low = omega (arith, low)
 
 -- one stage, and then the others
 module _ {Q P A : Type 0} (q : QueueOf Q P A) (queue : Q) (more : List Q) (lines : List Line) (stage agent : ℕ) (p p2 : P) (rest mid new : List P)
-    (w v : Worker P) (ws vs : List (Worker P)) (outs : ListWithRoom ℕ) (kept : v ≡ record { agent = w.agent; desk = w.desk; posts = w.posts; moves = v.moves })
-    (one : MovedBetween q queue more lines stage agent p rest p2 mid w.moves v.moves)
+    (w v : StageWorker P) (ws vs : List (StageWorker P)) (outs : ListWithRoom ℕ) (kept : v ≡ record { agent = w.agent; desk = w.desk; replies = record { posts = w.replies.posts; moves = v.replies.moves } })
+    (one : MovedBetween q queue more lines stage agent p rest p2 mid w.replies.moves v.replies.moves)
     (tail : CallerMoved q more lines (stage + 1) agent mid new ws vs outs) where
   abbrev all_gave : ℕ → List QueueShare
   all_gave = ahead [] (ahead (tos one.rows) (λ i. tail.gave (suc i)))
@@ -142,9 +142,9 @@ module _ {Q P A : Type 0} (q : QueueOf Q P A) (queue : Q) (more : List Q) (lines
     more = ahead one.new tail.more;
     moved = (
       record {
-        agent_is = ap (λ (u : Worker P). u.agent) kept;
-        desk_is = ap (λ (u : Worker P). u.desk) kept;
-        posts_are = ap (λ (u : Worker P). u.posts) kept;
+        agent_is = ap (λ (u : StageWorker P). u.agent) kept;
+        desk_is = ap (λ (u : StageWorker P). u.desk) kept;
+        posts_are = ap (λ (u : StageWorker P). u.replies.posts) kept;
         moves_are = one.is;
         spare = one.spare;
       },
@@ -167,9 +167,9 @@ module _ {Q P A : Type 0} (q : QueueOf Q P A) (queue : Q) (more : List Q) (lines
   }
 
 pub caller_of : {Q P A : Type 0} (q : QueueOf Q P A) (queue : Q) (more queues : List Q) (lines : List Line) (stage agent : ℕ) (p p2 : P)
-    (rest mid new old : List P) (w v : Worker P) (ws vs olds : List (Worker P)) (outs : ListWithRoom ℕ)
-    → queues ≡ queue ∷ more → old ≡ p ∷ rest → olds ≡ w ∷ ws → v ≡ record { agent = w.agent; desk = w.desk; posts = w.posts; moves = v.moves }
-    → MovedBetween q queue more lines stage agent p rest p2 mid w.moves v.moves
+    (rest mid new old : List P) (w v : StageWorker P) (ws vs olds : List (StageWorker P)) (outs : ListWithRoom ℕ)
+    → queues ≡ queue ∷ more → old ≡ p ∷ rest → olds ≡ w ∷ ws → v ≡ record { agent = w.agent; desk = w.desk; replies = record { posts = w.replies.posts; moves = v.replies.moves } }
+    → MovedBetween q queue more lines stage agent p rest p2 mid w.replies.moves v.replies.moves
     → CallerMoved q more lines (stage + 1) agent mid new ws vs outs
     → CallerMoved q queues lines stage agent old (p2 ∷ new) olds (v ∷ vs) outs
 caller_of q queue more queues lines stage agent p p2 rest mid new old w v ws vs olds outs a b c kept one tail =

@@ -10,7 +10,7 @@ pub mod Counts
 pub mod Places
 pub mod Pipelines
 pub mod ComeOut
-pub mod Rooms
+pub mod Seated
 pub mod Told
 pub mod Crew
 pub mod CameBack

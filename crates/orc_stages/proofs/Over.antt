@@ -13,19 +13,18 @@ use Rattle.orc_board.specs.Stretches.{View}
 use Rattle.orc_history.specs.Lists.{Pairwise}
 use Rattle.orc_board.specs.Follows.{posts_of}
 use Rattle.orc_board.proofs.ListFacts.{AllByRecursion-append, AllByRecursion-map, le-cases}
-use Rattle.orc_workers.specs.Seats.{all_of}
-use Rattle.orc_workers.proofs.Blocks.{blocks, AreKeyed, block_of, blocks_by_key, blocks_add, blocks_none, blocks_cons, all_blocks}
+use Rattle.orc_team.proofs.Blocks.{blocks, AreKeyed, block_of, blocks_by_key, blocks_add, blocks_none, blocks_cons, every_block, nth_out, all_blocks}
+use Rattle.orc_team.specs.Seats.{all_of}
 use Rattle.orc_stages.specs.declared.replies.StageDesk.{StageDesk}
 use Rattle.orc_stages.specs.declared.replies.StageReply.{StageReply}
-use Rattle.orc_stages.specs.declared.team.Worker.{Worker}
 use Rattle.orc_stages.specs.Stage.{QueueShare, IsPostShare, MoveTable, StageRow}
-use Rattle.orc_stages.specs.Desks.{ArePasses, view_at, seen_at}
-use Rattle.orc_stages.specs.Team.{ToldByReplies}
+use Rattle.orc_stages.specs.Desks.{view_at, seen_at}
+use Rattle.orc_stages.specs.Team.{StageWorker, ToldByReplies}
 use Rattle.orc_stages.specs.Pipeline.{IsPipeline}
 use Rattle.orc_stages.specs.Ran.{Ran, PosterRan, StageRan, in_run, unseen}
-use Rattle.orc_stages.specs.Run.{AllCameBack, AreIdle, AreNumbered, HaveSeen, IsBack, first_seen}
+use Rattle.orc_stages.specs.Run.{AllCameBack, AreIdle, HaveSeen, first_seen}
 use Rattle.orc_stages.proofs.Pipelines.{pipeline_of, few_moves, all_posts}
-use Rattle.orc_stages.proofs.Crew.{posts_at, moves_at, nth_out}
+use Rattle.orc_stages.proofs.Crew.{posts_at, moves_at}
 
 -- the replies of a table are those of one poster, or of one stage
 posters_of : (lines : List Line) (poster : ℕ) (rs : List PostReply) (shares : List QueueShare) → Pairwise (IsPostShare lines poster) rs shares
@@ -43,10 +42,6 @@ stages_of lines stage agent rs (row ∷ rows) t = elim t as (λ _. AllByRecursio
       subst (AllByRecursion (λ (r : StageReply). r.stage ≡ stage)) (sym one.2) (one.3.stage_is, stages_of lines stage agent one.1 rows one.4)
 ]
 
-every_block : {X : Type 0} (P : X → Type 0) (block : ℕ → List X) (n : ℕ) → ((a : ℕ) → a < n → AllByRecursion P (block a)) → AllByRecursion P (blocks block n)
-every_block P block zero h = tt
-every_block P block (suc n) h = AllByRecursion-append P (blocks block n) (block n) (every_block P block n (λ a l. h a (omega (arith, l)))) (h n (omega arith))
-
 few_each : {X : Type 0} (block : ℕ → List X) (most n : ℕ) → ((a : ℕ) → a < n → length (block a) ≤ most) → length (blocks block n) ≤ n * most
 few_each block most zero h = omega arith
 few_each block most (suc n) h =
@@ -54,26 +49,15 @@ few_each block most (suc n) h =
     omega (arith, rest, h n (omega arith), suc-mul n most, length-append (blocks block n) (block n))
 
 -- the replies of posters by poster, and those of stages by stage, each from 1
-abbrev pub post_block : {P : Type 0} → List (Worker P) → ℕ → List PostReply
+abbrev pub post_block : {P : Type 0} → List (StageWorker P) → ℕ → List PostReply
 post_block ws zero = []
 post_block ws (suc i) = posts_at ws i
 
-abbrev pub move_block : {P : Type 0} → ℕ → List (Worker P) → ℕ → List StageReply
+abbrev pub move_block : {P : Type 0} → ℕ → List (StageWorker P) → ℕ → List StageReply
 move_block posters ws zero = []
 move_block posters ws (suc i) = moves_at ws (posters + i)
 
-idle_desks : {Q P A : Type 0} (q : QueueOf Q P A) (queues : List Q) (k : ℕ → List A) (a : ℕ) (ws : List (Worker P))
-    → AreNumbered a ws → AllByRecursion (IsBack q queues k) ws → AreIdle q queues a (map (λ (w : Worker P). w.desk) ws)
-idle_desks q queues k a [] num h = tt
-idle_desks q queues k a (w ∷ ws) num h =
-    (subst (λ (x : ℕ). ArePasses q x queues w.desk.passes.items) num.0 h.0.passes, idle_desks q queues k (suc a) ws num.1 h.1)
-
-seen_desks : {Q P A : Type 0} (q : QueueOf Q P A) (queues : List Q) (k : ℕ → List A) (ws : List (Worker P)) → AllByRecursion (IsBack q queues k) ws
-    → HaveSeen q k (map (λ (w : Worker P). w.desk) ws)
-seen_desks q queues k [] h = tt
-seen_desks q queues k (w ∷ ws) h = (h.0.seen, seen_desks q queues k ws h.1)
-
-module _ {Q P A : Type 0} (q : QueueOf Q P A) (queues : List Q) (lines : List Line) (posters stages : ℕ) (desk : StageDesk P) (ws : List (Worker P))
+module _ {Q P A : Type 0} (q : QueueOf Q P A) (queues : List Q) (lines : List Line) (posters stages : ℕ) (desk : StageDesk P) (ws : List (StageWorker P))
     (outs : List ℕ) (some : 1 ≤ posters) (short : length lines ≤ 65535) (many : length ws ≡ posters + stages)
     (c : AllCameBack q queues lines posters stages desk.passes.items ws outs) where
   abbrev V : ℕ → View A QueueEntry QueueRefused
@@ -109,7 +93,7 @@ module _ {Q P A : Type 0} (q : QueueOf Q P A) (queues : List Q) (lines : List Li
 
   no_posts_at : (i : ℕ) → posters ≤ i → posts_at ws i ≡ []
   no_posts_at i high = elim (le-cases (length ws) i) as (λ _. posts_at ws i ≡ []) [
-    | inl out ↦ nth_out (λ (w : Worker P). w.posts.items) ws i out
+    | inl out ↦ nth_out (λ (w : StageWorker P). w.replies.posts.items) ws i out
     | inr low ↦
         let at : posters + (i - posters) ≡ i = omega (arith, high) in
         subst (λ (n : ℕ). posts_at ws n ≡ []) at (stage_at (i - posters) (omega (arith, low, high, many))).none
@@ -127,7 +111,7 @@ module _ {Q P A : Type 0} (q : QueueOf Q P A) (queues : List Q) (lines : List Li
   moves_keyed (suc i) = elim (le-cases stages i) as (λ _. AllByRecursion (λ (r : StageReply). r.stage ≡ suc i) (moves_at ws (posters + i))) [
     | inl high ↦
         subst (AllByRecursion (λ (r : StageReply). r.stage ≡ suc i))
-        (sym (nth_out (λ (w : Worker P). w.moves.items) ws (posters + i) (omega (arith, high, many)))) tt
+        (sym (nth_out (λ (w : StageWorker P). w.replies.moves.items) ws (posters + i) (omega (arith, high, many)))) tt
     | inr low ↦
         let s = (stage_at i low).ran in
         let own : AllByRecursion (λ (r : StageReply). r.stage ≡ suc i) (c.own i) =
@@ -138,7 +122,7 @@ module _ {Q P A : Type 0} (q : QueueOf Q P A) (queues : List Q) (lines : List Li
         (stages_of lines (suc i) (posters + suc i) (c.work (posters + i)) s.wrote.rows s.wrote.table) own)
   ]
 
-  posts_blocks : all_of (λ (w : Worker P). w.posts.items) ws ≡ blocks (post_block ws) (suc posters)
+  posts_blocks : all_of (λ (w : StageWorker P). w.replies.posts.items) ws ≡ blocks (post_block ws) (suc posters)
   posts_blocks =
       let nth : ℕ → List PostReply = λ i. posts_at ws i in
       let all : blocks (post_block ws) (suc (length ws)) ≡ blocks nth (length ws) = blocks_cons [] (post_block ws) nth refl (λ i. refl) (length ws) in
@@ -146,16 +130,16 @@ module _ {Q P A : Type 0} (q : QueueOf Q P A) (queues : List Q) (lines : List Li
       let rest : blocks (λ i. post_block ws (suc posters + i)) stages ≡ [] =
       blocks_none (λ i. post_block ws (suc posters + i)) stages
       (λ i low. let at : suc posters + i ≡ suc (posters + i) = omega arith in ap (post_block ws) at ∙ no_posts_at (posters + i) (omega arith)) in
-      all_blocks (λ (w : Worker P). w.posts.items) ws
+      all_blocks (λ (w : StageWorker P). w.replies.posts.items) ws
       ∙ (sym all
       ∙ (ap (blocks (post_block ws)) e
       ∙ (blocks_add (post_block ws) (suc posters) stages
       ∙ (ap (λ z. blocks (post_block ws) (suc posters) ++ z) rest ∙ append-nil (blocks (post_block ws) (suc posters))))))
 
-  moves_blocks : all_of (λ (w : Worker P). w.moves.items) ws ≡ blocks (move_block posters ws) (suc stages)
+  moves_blocks : all_of (λ (w : StageWorker P). w.replies.moves.items) ws ≡ blocks (move_block posters ws) (suc stages)
   moves_blocks =
       let nth : ℕ → List StageReply = λ i. moves_at ws i in
-      all_blocks (λ (w : Worker P). w.moves.items) ws
+      all_blocks (λ (w : StageWorker P). w.replies.moves.items) ws
       ∙ (ap (blocks nth) many
       ∙ (blocks_add nth posters stages
       ∙ (ap (λ z. z ++ blocks (λ i. nth (posters + i)) stages) (blocks_none nth posters (λ i low. (poster_at i low).none))
@@ -204,8 +188,8 @@ module _ {Q P A : Type 0} (q : QueueOf Q P A) (queues : List Q) (lines : List Li
       block_of (λ (r : StageReply). r.stage) (move_block posters ws) moves_keyed (suc i) (suc stages) (omega (arith, low)) ∙ c.of_stages i low)
 
   -- there are no more replies than there is room for
-  pub few_replies : (length (all_of (λ (w : Worker P). w.posts.items) ws) ≤ length lines)
-      × (length (all_of (λ (w : Worker P). w.moves.items) ws) ≤ stages * length lines)
+  pub few_replies : (length (all_of (λ (w : StageWorker P). w.replies.posts.items) ws) ≤ length lines)
+      × (length (all_of (λ (w : StageWorker P). w.replies.moves.items) ws) ≤ stages * length lines)
   few_replies =
       let posts : length (blocks (post_block ws) (suc posters)) ≡ length lines =
       all_posts V lines posters stages (blocks (post_block ws) (suc posters)) (λ i. c.work (posters + i)) c.own outs k some short ran in
@@ -218,13 +202,13 @@ module _ {Q P A : Type 0} (q : QueueOf Q P A) (queues : List Q) (lines : List Li
       ap length (blocks_cons [] (move_block posters ws) (λ i. moves_at ws (posters + i)) refl (λ i. refl) stages) in
       (omega (arith, posts, ap length posts_blocks), omega (arith, each, cons, ap length moves_blocks))
 
-  pub over : (desks : List (StageDesk P)) (posts : List PostReply) (moves : List StageReply) → desks ≡ desk ∷ map (λ (w : Worker P). w.desk) ws
-      → posts ≡ all_of (λ (w : Worker P). w.posts.items) ws → moves ≡ all_of (λ (w : Worker P). w.moves.items) ws
+  pub over : (desks : List (StageDesk P)) (posts : List PostReply) (moves : List StageReply) → desks ≡ desk ∷ map (λ (w : StageWorker P). w.desk) ws
+      → posts ≡ all_of (λ (w : StageWorker P). w.replies.posts.items) ws → moves ≡ all_of (λ (w : StageWorker P). w.replies.moves.items) ws
       → AreIdle q queues 0 desks × (length desks ≡ suc (posters + stages)) × HaveSeen q (first_seen q desks) desks
       × IsPipeline V lines posters stages posts moves outs (first_seen q desks)
   over desks posts moves a b d = rw (a, b ∙ posts_blocks, d ∙ moves_blocks) (
-    (c.caller, idle_desks q queues k 1 ws c.numbered c.back),
-    ap suc (length-map ws (λ (w : Worker P). w.desk) ∙ many),
-    ((λ i. refl), seen_desks q queues k ws c.back),
+    (c.caller, c.idle),
+    ap suc (length-map ws (λ (w : StageWorker P). w.desk) ∙ many),
+    ((λ i. refl), c.seen),
     pipeline,
   )

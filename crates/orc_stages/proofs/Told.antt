@@ -14,7 +14,8 @@ use Rattle.orc_board.specs.Stretches.{View, Row, Stretch, Did, Stands, of_queue,
 use Rattle.orc_board.specs.Follows.{IsWorker}
 use Rattle.orc_board.proofs.Shares.{Did-nothing, DidAll-before, DidAll-more}
 use Rattle.orc_board.proofs.Wholes.{Below, Stands-beside}
-use Rattle.orc_workers.proofs.Learned.{Grows, since, none_since, still_last, quiet}
+use Rattle.orc_team.proofs.Learned.{Grows, none_since, since}
+use Rattle.orc_workers.proofs.Learned.{quiet, still_last}
 use Rattle.orc_stages.specs.declared.replies.StageReply.{StageReply}
 use Rattle.orc_stages.specs.Stage.{QueueShare, DidShares}
 use Rattle.orc_stages.specs.Desks.{Acts}

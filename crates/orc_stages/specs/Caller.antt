@@ -8,29 +8,29 @@ use Rattle.orc_board.specs.ListWithRoom.{ListWithRoom}
 use Rattle.orc_board.specs.Stretches.{queue_view}
 use Rattle.orc_board.specs.Table.{EndsWith}
 use Rattle.orc_stages.specs.declared.replies.StageReply.{StageReply}
-use Rattle.orc_stages.specs.declared.team.Worker.{Worker}
+use Rattle.orc_stages.specs.Team.{StageWorker}
 use Rattle.orc_stages.specs.Stage.{QueueShare, DidShares, StageRow, froms, tos, MoveTable, jobs_of, own_of}
 use Rattle.orc_stages.specs.Desks.{Acts, view_at, seen_at}
 
 -- the worker with these replies more, within the room that it had
-pub record MovedFor {P : Type 0} (more : List StageReply) (w v : Worker P) : Type 0 where
+pub record MovedFor {P : Type 0} (more : List StageReply) (w v : StageWorker P) : Type 0 where
   pub agent_is : v.agent ≡ w.agent
   pub desk_is : v.desk ≡ w.desk
-  pub posts_are : v.posts ≡ w.posts
-  pub moves_are : v.moves.items ≡ w.moves.items ++ more
-  pub spare : length v.moves.items + v.moves.spare ≡ length w.moves.items + w.moves.spare
+  pub posts_are : v.replies.posts ≡ w.replies.posts
+  pub moves_are : v.replies.moves.items ≡ w.replies.moves.items ++ more
+  pub spare : length v.replies.moves.items + v.replies.moves.spare ≡ length w.replies.moves.items + w.replies.moves.spare
 
 -- so each of these workers, the one at a place with the replies of that place
-abbrev pub AllMovedFor : {P : Type 0} → (ℕ → List StageReply) → List (Worker P) → List (Worker P) → Type 0
+abbrev pub AllMovedFor : {P : Type 0} → (ℕ → List StageReply) → List (StageWorker P) → List (StageWorker P) → Type 0
 AllMovedFor more [] [] = Unit {0}
 AllMovedFor more [] (v ∷ vs) = ⊥
 AllMovedFor more (w ∷ ws) [] = ⊥
 AllMovedFor more (w ∷ ws) (v ∷ vs) = MovedFor (more 0) w v × AllMovedFor (λ i. more (suc i)) ws vs
 
 -- how much room the worker at a place has left
-abbrev pub spare_at : {P : Type 0} → List (Worker P) → ℕ → ℕ
+abbrev pub spare_at : {P : Type 0} → List (StageWorker P) → ℕ → ℕ
 spare_at [] i = 0
-spare_at (w ∷ ws) zero = w.moves.spare
+spare_at (w ∷ ws) zero = w.replies.moves.spare
 spare_at (w ∷ ws) (suc i) = spare_at ws i
 
 -- the caller as the stages of these numbers: what it put into each queue, and what it then took from it; these replies are those of
@@ -48,7 +48,7 @@ pub record CallerActs (lines : List Line) (stage stages agent : ℕ) (more : ℕ
 -- the caller moved what was left for these workers, the stages from this number on, and took what came out; each queue was found
 -- empty unless the room was used up
 pub record CallerMoved {Q P A : Type 0} (q : QueueOf Q P A) (queues : List Q) (lines : List Line) (stage agent : ℕ) (old new : List P)
-    (ws vs : List (Worker P)) (outs : ListWithRoom ℕ) : Type 0 where
+    (ws vs : List (StageWorker P)) (outs : ListWithRoom ℕ) : Type 0 where
   pub more : ℕ → List StageReply
   pub moved : AllMovedFor more ws vs
   pub gave : ℕ → List QueueShare

@@ -1,19 +1,18 @@
 -- The desks of a run of a pipeline, and what the run has come to.
-use Rattle.std.specs.Prelude.{◌≡◌, ℕ, suc, ◌+◌, ◌-◌, ◌<◌, ◌≤◌, List, [], ◌∷◌, ◌++◌, length, ◌⊎◌}
+use Rattle.std.specs.Prelude.{◌≡◌, ℕ, suc, ◌+◌, ◌-◌, ◌<◌, ◌≤◌, List, [], ◌∷◌, ◌++◌, length, map, ◌⊎◌}
 use Rattle.std.specs.List.{AllByRecursion}
 use Rattle.orc_history.specs.declared.queue.SharedQueue.{Ghosts as QueueOf}
 use Rattle.orc_history.specs.QueueHistory.{agent_of_entry}
 use Rattle.orc_jobs.specs.declared.line.Line.{Line}
 use Rattle.orc_board.specs.ListWithRoom.{ListWithRoom}
 use Rattle.orc_board.specs.Follows.{LastIsEmpty, ZeroLast}
-use Rattle.orc_workers.proofs.Blocks.{nth_of}
+use Rattle.orc_team.proofs.Blocks.{nth_of}
+use Rattle.orc_team.specs.Seats.{AreNumbered, EachFrom}
 use Rattle.orc_stages.specs.declared.replies.StageDesk.{StageDesk}
 use Rattle.orc_stages.specs.declared.replies.StageReply.{StageReply}
 use Rattle.orc_stages.specs.declared.run.StagesDone.{StagesDone}
-use Rattle.orc_stages.specs.declared.team.Worker.{Worker}
 use Rattle.orc_stages.specs.Desks.{ArePasses, view_at, seen_at}
-use Rattle.orc_stages.specs.Team.{ToldByReplies}
-use Rattle.orc_workers.specs.Team.{NumberedFrom}
+use Rattle.orc_stages.specs.Team.{StageWorker, ToldByReplies}
 use Rattle.orc_stages.specs.Learning.{AreKnown}
 use Rattle.orc_stages.specs.Caller.{CallerMoved}
 use Rattle.orc_stages.specs.Pipeline.{IsPipeline}
@@ -30,8 +29,7 @@ pub record IsNewDesk {Q P A : Type 0} (q : QueueOf Q P A) (queues : List Q) (age
 
 -- one fresh desk per agent, in order from this one
 abbrev pub AreFresh : {Q P A : Type 0} → QueueOf Q P A → List Q → ℕ → List (StageDesk P) → Type 0
-AreFresh q queues agent [] = Unit {0}
-AreFresh q queues agent (desk ∷ desks) = IsNewDesk q queues agent desk × AreFresh q queues (suc agent) desks
+AreFresh q queues agent desks = EachFrom (IsNewDesk q queues) agent desks
 
 -- at each desk the pass at its place stands ahead of those that it had
 abbrev pub StandAhead : {P : Type 0} → List P → List (StageDesk P) → List (StageDesk P) → Type 0
@@ -54,8 +52,7 @@ pub record TookFirst {P : Type 0} (before : List P) (old : List (StageDesk P)) (
 
 -- one desk per agent with an idle pass of each queue, in order from this one
 abbrev pub AreIdle : {Q P A : Type 0} → QueueOf Q P A → List Q → ℕ → List (StageDesk P) → Type 0
-AreIdle q queues agent [] = Unit {0}
-AreIdle q queues agent (desk ∷ desks) = ArePasses q agent queues desk.passes.items × AreIdle q queues (suc agent) desks
+AreIdle {P = P} q queues agent desks = EachFrom (λ by (desk : StageDesk P). ArePasses q by queues desk.passes.items) agent desks
 
 -- the journals that the passes of the first desk have seen
 abbrev pub first_seen : {Q P A : Type 0} → QueueOf Q P A → List (StageDesk P) → ℕ → List A
@@ -76,45 +73,37 @@ abbrev pub IsRunOf : {Q P A : Type 0} → QueueOf Q P A → List Q → List Line
 IsRunOf q queues lines posters desks done =
     IsPipeline (view_at q queues) lines posters (length queues - 1) done.posts.items done.moves.items done.outs.items (first_seen q desks)
 
--- workers of the agents in order from this one
-abbrev pub AreNumbered : {P : Type 0} → ℕ → List (Worker P) → Type 0
-AreNumbered {P = P} agent ws = NumberedFrom (λ (w : Worker P). w.agent) agent ws
-
 -- a worker that has room for as many moves as there are lines, if it is a stage's
-abbrev pub HasRoomForMoves : {P : Type 0} → ℕ → List Line → Worker P → Type 0
-HasRoomForMoves posters lines w = posters < w.agent → length lines ≤ length w.moves.items + w.moves.spare
+abbrev pub HasRoomForMoves : {P : Type 0} → ℕ → List Line → StageWorker P → Type 0
+HasRoomForMoves posters lines w = posters < w.agent → length lines ≤ length w.replies.moves.items + w.replies.moves.spare
 
 -- of these workers the caller passed over those of posters, and moved what was left for the others, the stages
-pub record CallerMovedFor {Q P A : Type 0} (q : QueueOf Q P A) (queues : List Q) (lines : List Line) (posters : ℕ) (old new : List P) (ws vs : List (Worker P))
+pub record CallerMovedFor {Q P A : Type 0} (q : QueueOf Q P A) (queues : List Q) (lines : List Line) (posters : ℕ) (old new : List P) (ws vs : List (StageWorker P))
     (outs : ListWithRoom ℕ) : Type 0 where
-  pub front : List (Worker P)
-  pub before : List (Worker P)
-  pub after : List (Worker P)
+  pub front : List (StageWorker P)
+  pub before : List (StageWorker P)
+  pub after : List (StageWorker P)
   pub is_before : ws ≡ front ++ before
   pub is_after : vs ≡ front ++ after
   pub many : length front ≡ posters
   pub moved : CallerMoved q queues lines 1 0 old new before after outs
 
--- a worker at the end: its passes are idle, and have seen these journals
-pub record IsBack {Q P A : Type 0} (q : QueueOf Q P A) (queues : List Q) (k : ℕ → List A) (w : Worker P) : Type 0 where
-  pub passes : ArePasses q w.agent queues w.desk.passes.items
-  pub seen : (i : ℕ) → seen_at q w.desk.passes.items i ≡ k i
-
 -- what the caller and its workers have come to: what the worker at each place did by itself, and what the caller moved for it; k are
 -- the journals that the caller's passes have seen at last
 pub record AllCameBack {Q P A : Type 0} (q : QueueOf Q P A) (queues : List Q) (lines : List Line) (posters stages : ℕ) (passes : List P)
-    (ws : List (Worker P)) (outs : List ℕ) : Type 0 where
+    (ws : List (StageWorker P)) (outs : List ℕ) : Type 0 where
   pub caller : ArePasses q 0 queues passes
   pub known : AreKnown q queues (suc (posters + stages)) passes
   pub none_first : (i : ℕ) → (view_at q queues i).history [] ≡ []
   pub numbered : AreNumbered 1 ws
-  pub back : AllByRecursion (IsBack q queues (seen_at q passes)) ws
+  pub idle : AreIdle q queues 1 (map (λ (w : StageWorker P). w.desk) ws)
+  pub seen : HaveSeen q (seen_at q passes) (map (λ (w : StageWorker P). w.desk) ws)
   pub work : ℕ → List StageReply
   pub own : ℕ → List StageReply
   pub told : (i : ℕ) → i < length ws
-      → ToldByReplies (in_run (view_at q queues) posters stages) lines posters (suc i) (nth_of (λ (w : Worker P). w.posts.items) ws i) (work i) unseen (seen_at q passes)
-  pub of_posters : (i : ℕ) → i < posters → nth_of (λ (w : Worker P). w.moves.items) ws i ≡ work i
-  pub of_stages : (i : ℕ) → i < stages → nth_of (λ (w : Worker P). w.moves.items) ws (posters + i) ≡ work (posters + i) ++ own i
+      → ToldByReplies (in_run (view_at q queues) posters stages) lines posters (suc i) (nth_of (λ (w : StageWorker P). w.replies.posts.items) ws i) (work i) unseen (seen_at q passes)
+  pub of_posters : (i : ℕ) → i < posters → nth_of (λ (w : StageWorker P). w.replies.moves.items) ws i ≡ work i
+  pub of_stages : (i : ℕ) → i < stages → nth_of (λ (w : StageWorker P). w.replies.moves.items) ws (posters + i) ≡ work (posters + i) ++ own i
   pub moved : CallerRan (in_run (view_at q queues) posters stages) lines stages own outs (seen_at q passes)
   pub zero_last : (i : ℕ) → ZeroLast agent_of_entry ((view_at q queues i).history (seen_at q passes i))
   pub ended : (i : ℕ) → i < stages → LastIsEmpty 0 ((view_at q queues i).history (seen_at q passes i)) ⊎ (length lines ≤ length (work (posters + i) ++ own i))

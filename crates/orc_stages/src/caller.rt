@@ -7,8 +7,7 @@ ghost use Rattle.orc_stages.specs.Calls.{TakesOnly};
 ghost use Rattle.orc_stages.specs.Caller.{CallerMoved, MovedBetween};
 ghost use Rattle.orc_stages.specs.Desks.{ArePasses};
 
-use crate::team::Worker;
-use crate::{OutList, move_rest};
+use crate::{OutList, StageWorker, move_rest};
 use orc_board::take_job;
 use orc_history::SharedQueue;
 use orc_jobs::Lines;
@@ -45,7 +44,7 @@ pub fn move_all<R: Wait, Q: SharedQueue>(
     agent: u32,
     stage: u32,
     lines: &Lines,
-    stages: &mut [Worker<Q::Pass>],
+    stages: &mut [StageWorker<Q::Pass>],
     outs: &mut OutList,
 )
     requires passes { ArePasses Q.SharedQueue agent queues.now passes.old }
@@ -81,15 +80,15 @@ fn move_between<R: Wait, Q: SharedQueue>(
     agent: u32,
     stage: u32,
     lines: &Lines,
-    worker: &mut Worker<Q::Pass>,
+    worker: &mut StageWorker<Q::Pass>,
 )
     requires passes { ArePasses Q.SharedQueue agent (queue.now ∷ more.now) (pass.old ∷ rest.old) }
     requires two { 0 < length more.now }
     requires good { AreGood lines.now }
     requires stage { (1 ≤ stage) × (stage ≤ 6) }
     ensures passes { ArePasses Q.SharedQueue agent (queue.now ∷ more.now) (pass.new ∷ rest.new) }
-    ensures moved { MovedBetween Q.SharedQueue queue.now more.now lines.now stage agent pass.old rest.old pass.new rest.new worker.old.moves worker.new.moves }
-    ensures kept { worker.new ≡ record worker.old { moves = worker.new.moves } }
+    ensures moved { MovedBetween Q.SharedQueue queue.now more.now lines.now stage agent pass.old rest.old pass.new rest.new worker.old.replies.moves worker.new.replies.moves }
+    ensures kept { worker.new ≡ record worker.old { replies = record worker.old.replies { moves = worker.new.replies.moves } } }
 {
     let _ = agent;
     let Some((next, _)) = more.split_first() else {
@@ -106,6 +105,6 @@ fn move_between<R: Wait, Q: SharedQueue>(
         pass_of_next,
         stage,
         lines,
-        &mut worker.moves,
+        &mut worker.replies.moves,
     );
 }

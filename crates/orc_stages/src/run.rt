@@ -2,21 +2,21 @@
 ghost use Rattle.std.specs.Prelude.{ℕ, ◌≡◌, ◌+◌, ◌-◌, ◌*◌, ◌≤◌, [], length, IfOk, OnErr, vec_len, vec_capacity};
 ghost use Rattle.std.specs.List.{AllByRecursion};
 ghost use Rattle.orc_jobs.specs.GoodLines.{AreGood};
-ghost use Rattle.orc_workers.specs.Seats.{all_of};
+ghost use Rattle.orc_team.specs.Seats.{AreNumbered, all_of};
 ghost use Rattle.orc_stages.specs.Desks.{ArePasses};
-ghost use Rattle.orc_history.specs.Lists.{Pairwise};
-ghost use Rattle.orc_stages.specs.Learning.{AreFor, AreKnown, IsOther, LearnsAll, SameWorker};
+ghost use Rattle.orc_stages.specs.Learning.{AreFor};
+ghost use Rattle.orc_stages.specs.Seats.{IsRoom};
 ghost use Rattle.orc_stages.specs.Team.{DidWork, IsReady};
-ghost use Rattle.orc_stages.specs.Run.{AreFresh, AreIdle, HaveSeenTheSame, IsRunOf, AreNumbered, HasRoomForMoves, IsNew, CallerMovedFor, AllCameBack};
+ghost use Rattle.orc_stages.specs.Run.{AreFresh, AreIdle, HaveSeenTheSame, IsRunOf, HasRoomForMoves, IsNew, CallerMovedFor, AllCameBack};
 
-use crate::reserve::{Reserved, reserve};
-use crate::seating::{hand_back, seat};
-use crate::{OutList, StageDesk, StageList, Worker, learn_all, move_all, run_worker};
+use crate::at_queues::{AtQueues, tell_laws};
+use crate::rooms::{reserve_moves, reserve_room};
+use crate::{OutList, Room, StageDesk, StageList, StageWorker, move_all, run_worker};
 use orc_board::{Gate, PostList};
 use orc_fault::NoMemory;
 use orc_history::LearnQueue;
 use orc_jobs::Lines;
-use orc_workers::run_workers;
+use orc_team::{Reserved, hand_back, learn_from_team, reserve, run_workers, seat};
 use std::alloc::Global;
 use std::sync::Wait;
 use std::sync::atomic::AtomicU64;
@@ -37,7 +37,7 @@ pub struct StagesDone {
 #[derive(Drop)]
 struct Seated<P> {
     desk: StageDesk<P>,
-    workers: Vec<Worker<P>>,
+    workers: Vec<StageWorker<P>>,
     outs: OutList,
 }
 
@@ -74,25 +74,20 @@ where
     ensures pipeline { IfOk result (IsRunOf Q.SharedQueue queues.now lines.now posters desks.new.items) }
     ensures kept { OnErr result (desks.new ≡ desks.old) }
 {
+    let many = lines.len();
+    let room = |agent: usize| -> Result<Room, NoMemory>
+        ensures { IfOk result (IsRoom posters many agent) }
+    { reserve_room(alloc, posters, agent, many) };
     let Reserved {
         rooms,
         waiting,
         done,
-        mut posts,
-        mut moves,
-        outs,
-    } = reserve(
-        alloc,
-        posters,
-        desks.len() - 1,
-        queues.len() - 1,
-        lines.len(),
-    )?;
-    let Some((first, _)) = queues.split_first() else {
-        unreachable!()
-    };
+    } = reserve(alloc, desks.len() - 1, &room)?;
+    let posts = PostList::new(alloc, many)?;
+    let moves = reserve_moves(alloc, queues.len() - 1, many)?;
+    let outs = OutList::new(alloc, many)?;
     let desk = desks.remove(0);
-    let waiting = seat(first, desks, rooms, waiting);
+    let waiting = seat(&AtQueues { queues }, desks, rooms, waiting);
     let Seated {
         desk,
         workers,
@@ -101,7 +96,9 @@ where
     let Ok(()) = desks.push(desk) else {
         unreachable!()
     };
-    hand_back(workers, desks, &mut posts, &mut moves);
+    let mut replies = Room { posts, moves };
+    hand_back(workers, desks, &mut replies);
+    let Room { posts, moves } = replies;
     Ok(StagesDone { posts, moves, outs })
 }
 
@@ -114,8 +111,8 @@ fn run_seated<R: Threads + Wait + Sync, Q: LearnQueue + Sync, G: Gate + Sync>(
     gate: &G,
     mut desk: StageDesk<Q::Pass>,
     mut outs: OutList,
-    waiting: Vec<Worker<Q::Pass>>,
-    done: Vec<Worker<Q::Pass>>,
+    waiting: Vec<StageWorker<Q::Pass>>,
+    done: Vec<StageWorker<Q::Pass>>,
 ) -> Seated<Q::Pass>
 where
     Q::Pass: Send,
@@ -134,8 +131,8 @@ where
     requires enough { AllByRecursion (HasRoomForMoves posters lines.now) waiting.items }
     ensures back { AllCameBack Q.SharedQueue queues.now lines.now posters (length queues.now - 1) result.desk.passes.items result.workers.items result.outs.items }
     ensures many { length result.workers.items ≡ posters + (length queues.now - 1) }
-    ensures few { (length (all_of (λ w. w.posts.items) result.workers.items) ≤ length lines.now)
-        × (length (all_of (λ w. w.moves.items) result.workers.items) ≤ (length queues.now - 1) * length lines.now) }
+    ensures few { (length (all_of (λ w. w.replies.posts.items) result.workers.items) ≤ length lines.now)
+        × (length (all_of (λ w. w.replies.moves.items) result.workers.items) ≤ (length queues.now - 1) * length lines.now) }
 {
     let putting = [
         AtomicU64::new(u64::from(posters)),
@@ -146,12 +143,14 @@ where
         AtomicU64::new(1),
         AtomicU64::new(1),
     ];
-    let work = |worker: Worker<Q::Pass>| -> Worker<Q::Pass>
+    let work = |worker: StageWorker<Q::Pass>| -> StageWorker<Q::Pass>
         requires { IsReady Q.SharedQueue queues.now lines.now posters worker }
         ensures { DidWork Q.SharedQueue queues.entry.now lines.entry.now posters worker result }
     { run_worker(rt, queues, posters, lines, gate, &putting, worker) };
     let mut workers = run_workers(rt, &work, waiting, done);
-    learn_from_team(queues, &mut desk, &mut workers);
+    let here = AtQueues { queues };
+    learn_from_team(&here, 0, &mut desk, &mut workers);
+    tell_laws(queues, &desk);
     move_left(
         rt,
         queues,
@@ -161,35 +160,13 @@ where
         &mut workers,
         &mut outs,
     );
-    learn_from_team(queues, &mut desk, &mut workers);
+    learn_from_team(&here, 0, &mut desk, &mut workers);
+    tell_laws(queues, &desk);
     Seated {
         desk,
         workers,
         outs,
     }
-}
-
-// The caller's passes learn from those of all workers twice over.
-fn learn_from_team<Q: LearnQueue>(
-    queues: &[Q],
-    desk: &mut StageDesk<Q::Pass>,
-    workers: &mut Vec<Worker<Q::Pass>>,
-)
-    requires passes { ArePasses Q.SharedQueue 0 queues.now desk.old.passes.items }
-    requires others { AllByRecursion (IsOther Q.SharedQueue queues.now 0) workers.old.items }
-    ensures passes { ArePasses Q.SharedQueue 0 queues.now desk.new.passes.items }
-    ensures known { (agents : ℕ) → AreFor Q.SharedQueue (Q.agents) agents queues.now → AreKnown Q.SharedQueue queues.now agents desk.new.passes.items }
-    ensures others { AllByRecursion (IsOther Q.SharedQueue queues.now 0) workers.new.items }
-    ensures same { Pairwise SameWorker workers.old.items workers.new.items }
-    ensures learned { LearnsAll Q.SharedQueue queues.now 0 desk.old.passes.items desk.new.passes.items workers.old.items workers.new.items }
-    ensures len { vec_len workers.new ≡ vec_len workers.old }
-{
-    learn_all(
-        queues,
-        0,
-        desk.passes.as_mut_slice(),
-        workers.as_mut_slice(),
-    );
 }
 
 // Moves what is left as each of the stages, whose workers stand behind those of the posters, and takes what comes out.
@@ -199,7 +176,7 @@ fn move_left<R: Wait, Q: LearnQueue>(
     desk: &mut StageDesk<Q::Pass>,
     posters: u32,
     lines: &Lines,
-    workers: &mut Vec<Worker<Q::Pass>>,
+    workers: &mut Vec<StageWorker<Q::Pass>>,
     outs: &mut OutList,
 )
     requires passes { ArePasses Q.SharedQueue 0 queues.now desk.old.passes.items }
@@ -231,7 +208,7 @@ fn move_behind<R: Wait, Q: LearnQueue>(
     passes: &mut [Q::Pass],
     posters: u32,
     lines: &Lines,
-    workers: &mut [Worker<Q::Pass>],
+    workers: &mut [StageWorker<Q::Pass>],
     outs: &mut OutList,
 )
     requires passes { ArePasses Q.SharedQueue 0 queues.now passes.old }

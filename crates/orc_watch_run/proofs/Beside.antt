@@ -1,9 +1,9 @@
 -- What a worker did, beside the agents of its run, from the beginning of the journal, and with what its pass learned.
-use Rattle.std.proofs.Common.{◌≡◌, ℕ, List, [], ◌∷◌, ◌++◌, Option, Some, None, ap, inl, inr, length, map, refl, subst, sym, ◌∙◌}
+use Rattle.std.proofs.Common.{◌≡◌, ℕ, List, [], ◌∷◌, ◌++◌, Option, Some, None, ap, inl, inr, length, map, refl, sym, ◌∙◌}
 use mathlib.Core.List.{IsPrefix}
 use Rattle.std.specs.List.{AllByRecursion}
 use Rattle.orc_board.proofs.Shares.{Did-just, DidAll-before, DidAll-more}
-use Rattle.orc_board.proofs.ListFacts.{AllByRecursion-map, AllByRecursion-right}
+use Rattle.orc_board.proofs.ListFacts.{AllByRecursion-map}
 use Rattle.orc_board.proofs.Wholes.{Below}
 use Rattle.orc_board.specs.Follows.{own_records}
 use Rattle.orc_board.specs.Stretches.{Did, Licensed, MayStand, Stretch, View, beside, nothing}
@@ -16,7 +16,7 @@ use Rattle.orc_watch.specs.declared.reply.WatchReply.{WatchReply}
 use Rattle.orc_watch_run.specs.CameBack.{IsTold}
 use Rattle.orc_watch_run.specs.CellView.{of_cell}
 use Rattle.orc_watch_run.specs.Follows.{CellShare, DidShares, Watching}
-use Rattle.orc_workers.proofs.Learned.{Grows, none_since, since}
+use Rattle.orc_team.proofs.Learned.{Grows, learned_stretch}
 
 licensed_beside : {A : Type 0} (x : View A CellEntry CellRefused) (C : ℕ → Type 0) (agent : ℕ) (why : Option CellRefused) (j k : List A)
     → Licensed x agent why j k → Licensed (beside x C) agent why j k
@@ -46,21 +46,6 @@ shares_beside x C f agent (share ∷ shares) j k (i, one, c) = (i, did_beside x 
 pub start : {A : Type 0} (x : View A CellEntry CellRefused) (agent : ℕ) (j : List A) → x.history [] ≡ [] → x.history j ≡ [] → Stretch of_cell x agent [] [] j
 start x agent j none new = record { later = (j, refl); part = []; is = new ∙ sym (ap (λ z. z ++ []) none); own_is = refl; others = tt }
 
--- what a pass learned is what others did
-pub learned : {A : Type 0} (x : View A CellEntry CellRefused) (C : ℕ → Type 0) (agent : ℕ) (j k : List A) → Grows x.history → IsPrefix j k
-    → own_of agent_of_entry agent (x.history k) ≡ own_of agent_of_entry agent (x.history j) → AllByRecursion (λ e. C (agent_of_entry e)) (x.history k)
-    → Stretch of_cell (beside x C) agent [] j k
-learned x C agent j k grows later own below =
-    let s = since x.history grows j k later in
-    record {
-      later = later;
-      part = s.part;
-      is = s.is;
-      own_is = none_since agent_of_entry agent (x.history j) s.part (x.history k) s.is own;
-      others = AllByRecursion-map (λ e. C (agent_of_entry e)) (MayStand of_cell (beside x C) agent) (λ e h. inr h) s.part
-          (AllByRecursion-right (λ e. C (agent_of_entry e)) (x.history j) s.part (subst (AllByRecursion (λ e. C (agent_of_entry e))) s.is below));
-    }
-
 -- told from the beginning
 pub told_first : {A : Type 0} (x : View A CellEntry CellRefused) (C : ℕ → Type 0) (lines : List WatchLine) (workers agent : ℕ) (replies : List WatchReply)
     (j k : List A) → Below x.crowd C → x.history [] ≡ [] → x.history j ≡ [] → Watching x lines agent replies j k
@@ -85,7 +70,7 @@ told_more x C lines workers agent replies j k grows later own below t = record {
     shares = t.watched.shares;
     table = t.watched.table;
     did = DidAll-more of_cell (beside x C) agent (λ (share : CellShare). share) t.watched.shares [] j k t.watched.did
-        (Did-just of_cell (beside x C) agent [] j k (learned x C agent j k grows later own below));
+        (Did-just of_cell (beside x C) agent [] j k (learned_stretch of_cell x C agent j k (λ es none. none) grows later own below));
   };
   in_file_order = t.in_file_order;
 }

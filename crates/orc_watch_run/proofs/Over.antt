@@ -6,7 +6,7 @@ use Rattle.std.proofs.lemmas.List.Sorted.{length_permutation}
 use Rattle.std.specs.List.Sorted.{IsPermutation}
 use Rattle.std.specs.List.{AllByRecursion, range_with_len}
 use Rattle.orc_board.proofs.Keyed.{by_key_below, same_by_keys}
-use Rattle.orc_board.proofs.ListFacts.{AllByRecursion-all, AllByRecursion-append, AllByRecursion-map, eq-true, le-cases}
+use Rattle.orc_board.proofs.ListFacts.{AllByRecursion-all, AllByRecursion-map, eq-true, le-cases}
 use Rattle.orc_history.specs.Lists.{Pairwise}
 use Rattle.orc_board.specs.Follows.{by_key, own_records}
 use Rattle.orc_board.specs.Stretches.{View, beside}
@@ -16,14 +16,14 @@ use Rattle.orc_pairs_rule.specs.declared.entry.CellEntry.{CellEntry}
 use Rattle.orc_pairs_rule.specs.declared.pairs.PairsNote.{PairsNote}
 use Rattle.orc_watch.specs.declared.line.WatchLine.{WatchLine}
 use Rattle.orc_watch.specs.declared.reply.WatchReply.{WatchReply}
-use Rattle.orc_watch_run.specs.CameBack.{AllCameBack, AreNumbered, IsBack, IsTold}
+use Rattle.orc_watch_run.specs.CameBack.{AllCameBack, IsTold}
 use Rattle.orc_watch_run.specs.CellView.{cell_view}
 use Rattle.orc_watch_run.specs.Follows.{AreInOrder, CellShare, IsInRun, IsReplyShare, Watching, replies_of}
-use Rattle.orc_watch_run.specs.Passes.{AreUsable, FollowsPasses, HaveSeen, HaveSeenTheSame, IsUsablePassOf}
-use Rattle.orc_watch_run.specs.declared.team.Worker.{Worker}
+use Rattle.orc_watch_run.specs.Passes.{AreUsable, FollowsPasses, HaveSeenTheSame}
+use Rattle.orc_watch_run.specs.Team.{Watcher}
 use Rattle.orc_board.proofs.Workers.{own-many}
-use Rattle.orc_workers.proofs.Blocks.{AreKeyed, all_blocks, block_of, blocks, blocks_by_key, blocks_cons, nth_of}
-use Rattle.orc_workers.specs.Seats.{all_of}
+use Rattle.orc_team.proofs.Blocks.{AreKeyed, all_blocks, block_of, blocks, blocks_by_key, blocks_cons, every_block, find, nth_is, nth_of, nth_out}
+use Rattle.orc_team.specs.Seats.{AreNumbered, all_of}
 
 reply_workers : (lines : List WatchLine) (worker : ℕ) (rs : List WatchReply) (shares : List CellShare) → Pairwise (IsReplyShare lines worker) rs shares
     → AllByRecursion (λ (r : WatchReply). r.worker ≡ worker) rs
@@ -31,56 +31,33 @@ reply_workers lines worker [] shares z = tt
 reply_workers lines worker (r ∷ rs) [] z = absurd z
 reply_workers lines worker (r ∷ rs) (share ∷ shares) z = (z.0.worker_is, reply_workers lines worker rs shares z.1)
 
--- the worker at a place
-record At {P : Type 0} (F : Worker P → Type 0) (k i : ℕ) (ws : List (Worker P)) : Type 0 where
-  worker : Worker P
-  agent_is : worker.agent ≡ k + i
-  holds : F worker
-  replies_are : nth_of (λ (w : Worker P). w.replies.items) ws i ≡ worker.replies.items
-
-find : {P : Type 0} (F : Worker P → Type 0) (k i : ℕ) (ws : List (Worker P)) → AreNumbered k ws → AllByRecursion F ws → i < length ws → At F k i ws
-find F k i [] num h low = absurd (omega (arith, low))
-find F k zero (w ∷ ws) num h low = record { worker = w; agent_is = omega (arith, num.0); holds = h.0; replies_are = refl }
-find F k (suc i) (w ∷ ws) num h low =
-    let rest = find F (suc k) i ws num.1 h.1 (omega (arith, low)) in
-    record { worker = rest.worker; agent_is = omega (arith, rest.agent_is); holds = rest.holds; replies_are = rest.replies_are }
-
-nth_out : {W X : Type 0} (items : W → List X) (ws : List W) (i : ℕ) → length ws ≤ i → nth_of items ws i ≡ []
-nth_out items [] i h = refl
-nth_out items (w ∷ ws) zero h = absurd (omega (arith, h))
-nth_out items (w ∷ ws) (suc i) h = nth_out items ws i (omega (arith, h))
-
-every_block : {X : Type 0} (F : X → Type 0) (block : ℕ → List X) (n : ℕ) → ((a : ℕ) → AllByRecursion F (block a)) → AllByRecursion F (blocks block n)
-every_block F block zero h = tt
-every_block F block (suc n) h = AllByRecursion-append F (blocks block n) (block n) (every_block F block n h) (h n)
-
-abbrev block_in : {P : Type 0} → List (Worker P) → ℕ → List WatchReply
+abbrev block_in : {P : Type 0} → List (Watcher P) → ℕ → List WatchReply
 block_in ws zero = []
 block_in ws (suc i) = nth_of (λ w. w.replies.items) ws i
 
 -- what all workers have done, put together
-module _ {P A : Type 0} (x : View A CellEntry CellRefused) (lines : List WatchLine) (workers : ℕ) (k : List A) (ws : List (Worker P))
+module _ {P A : Type 0} (x : View A CellEntry CellRefused) (lines : List WatchLine) (workers : ℕ) (k : List A) (ws : List (Watcher P))
     (num : AreNumbered 1 ws) (many : length ws ≡ workers)
-    (told : AllByRecursion (λ (w : Worker P). IsTold x lines workers w.agent w.replies.items k) ws) where
+    (told : AllByRecursion (λ (w : Watcher P). IsTold x lines workers w.agent w.replies.items k) ws) where
   worker_at : (i : ℕ) → i < workers → (rs : List WatchReply) → block_in ws (suc i) ≡ rs → IsTold x lines workers (suc i) rs k
   worker_at i low rs is =
-      let w = find (λ (v : Worker P). IsTold x lines workers v.agent v.replies.items k) 1 i ws num told (omega (arith, low, many)) in
+      let w = find (λ (v : Watcher P). IsTold x lines workers v.agent v.replies.items k) 1 i ws num told (omega (arith, low, many)) in
       let a : w.worker.agent ≡ suc i = w.agent_is ∙ omega arith in
-      let e : w.worker.replies.items ≡ rs = sym w.replies_are ∙ is in
+      let e : w.worker.replies.items ≡ rs = sym (nth_is (λ (v : Watcher P). v.replies.items) ws i w.worker w.is) ∙ is in
       subst (λ (n : ℕ). IsTold x lines workers n rs k) a (subst (λ (z : List WatchReply). IsTold x lines workers w.worker.agent z k) e w.holds)
 
   keyed : AreKeyed (λ (r : WatchReply). r.worker) (block_in ws)
   keyed zero = tt
   keyed (suc i) = elim (le-cases workers i) as (λ _. AllByRecursion (λ (r : WatchReply). r.worker ≡ suc i) (block_in ws (suc i))) [
     | inl high ↦ subst (AllByRecursion (λ (r : WatchReply). r.worker ≡ suc i))
-        (sym (nth_out (λ (w : Worker P). w.replies.items) ws i (omega (arith, many, high)))) tt
+        (sym (nth_out (λ (w : Watcher P). w.replies.items) ws i (omega (arith, many, high)))) tt
     | inr low ↦ let t = worker_at i low (block_in ws (suc i)) refl in reply_workers lines (suc i) _ t.watched.shares t.watched.table
   ]
 
-  in_blocks : all_of (λ (w : Worker P). w.replies.items) ws ≡ blocks (block_in ws) (suc workers)
+  in_blocks : all_of (λ (w : Watcher P). w.replies.items) ws ≡ blocks (block_in ws) (suc workers)
   in_blocks =
-      all_blocks (λ (w : Worker P). w.replies.items) ws
-      ∙ (sym (blocks_cons [] (block_in ws) (nth_of (λ (w : Worker P). w.replies.items) ws) refl (λ i. refl) (length ws))
+      all_blocks (λ (w : Watcher P). w.replies.items) ws
+      ∙ (sym (blocks_cons [] (block_in ws) (nth_of (λ (w : Watcher P). w.replies.items) ws) refl (λ i. refl) (length ws))
       ∙ ap (λ (n : ℕ). blocks (block_in ws) (suc n)) many)
 
   some_worker : (a : ℕ) → AllByRecursion (λ (r : WatchReply). 1 ≤ r.worker) (block_in ws a)
@@ -96,18 +73,18 @@ module _ {P A : Type 0} (x : View A CellEntry CellRefused) (lines : List WatchLi
       ap (replies_of (suc i)) is ∙ block_of (λ (r : WatchReply). r.worker) (block_in ws) keyed (suc i) (suc workers) (omega (arith, high)) in
       worker_at i (omega (arith, high)) (replies_of (suc i) replies) (sym mine)
 
-  pub in_order : (replies : List WatchReply) → replies ≡ all_of (λ (w : Worker P). w.replies.items) ws → AreInOrder lines workers replies
+  pub in_order : (replies : List WatchReply) → replies ≡ all_of (λ (w : Watcher P). w.replies.items) ws → AreInOrder lines workers replies
   in_order replies are =
       let is : replies ≡ blocks (block_in ws) (suc workers) = are ∙ in_blocks in
       record {
         by_worker = subst (λ (z : List WatchReply). z ≡ by_key (λ (r : WatchReply). r.worker) (suc workers) z) (sym is)
             (blocks_by_key (λ (r : WatchReply). r.worker) (block_in ws) keyed (suc workers));
         none_of_zero = subst (AllByRecursion (λ (r : WatchReply). 1 ≤ r.worker)) (sym is)
-            (every_block (λ (r : WatchReply). 1 ≤ r.worker) (block_in ws) (suc workers) some_worker);
+            (every_block (λ (r : WatchReply). 1 ≤ r.worker) (block_in ws) (suc workers) (λ a low. some_worker a));
         in_file_order = λ w low high. (told_by replies is w low high).in_file_order;
       }
 
-  pub watched_by : (replies : List WatchReply) → replies ≡ all_of (λ (w : Worker P). w.replies.items) ws → (w : ℕ) → 1 ≤ w → w ≤ workers
+  pub watched_by : (replies : List WatchReply) → replies ≡ all_of (λ (w : Watcher P). w.replies.items) ws → (w : ℕ) → 1 ≤ w → w ≤ workers
       → Watching x lines w (replies_of w replies) [] k
   watched_by replies are w low high = (told_by replies (are ∙ in_blocks) w low high).watched
 
@@ -150,10 +127,10 @@ blocks_fewer f g (suc n) h =
     )
 
 -- so the replies are no more than the lines
-pub replies_few : {P A : Type 0} (x : View A CellEntry CellRefused) (lines : List WatchLine) (workers : ℕ) (k : List A) (ws : List (Worker P))
+pub replies_few : {P A : Type 0} (x : View A CellEntry CellRefused) (lines : List WatchLine) (workers : ℕ) (k : List A) (ws : List (Watcher P))
     → 1 ≤ workers → AreNumbered 1 ws → length ws ≡ workers
-    → AllByRecursion (λ (w : Worker P). IsTold x lines workers w.agent w.replies.items k) ws
-    → length (all_of (λ (w : Worker P). w.replies.items) ws) ≤ length lines
+    → AllByRecursion (λ (w : Watcher P). IsTold x lines workers w.agent w.replies.items k) ws
+    → length (all_of (λ (w : Watcher P). w.replies.items) ws) ≤ length lines
 replies_few {P} x lines workers k ws some num many told =
     let each : (a : ℕ) → a < suc workers → length (block_in ws a) ≤ length (own_records workers a (length lines)) = elim [
       | zero ↦ λ low. omega arith
@@ -168,17 +145,6 @@ replies_few {P} x lines workers k ws some num many told =
       all_records workers (length lines) some,
     )
 
-passes_usable : {L D P S : Type 0} (m : LinksOf L D P S PairsNote) (links : L) (k : List S) (a : ℕ) (ws : List (Worker P)) → AreNumbered a ws
-    → AllByRecursion (IsBack m links k) ws → AreUsable m links a (map (λ (w : Worker P). w.pass) ws)
-passes_usable m links k a [] num h = tt
-passes_usable m links k a (w ∷ ws) num h =
-    (subst (λ (n : ℕ). IsUsablePassOf m links n w.pass) num.0 h.0.is_pass, passes_usable m links k (suc a) ws num.1 h.1)
-
-passes_seen : {L D P S : Type 0} (m : LinksOf L D P S PairsNote) (links : L) (k : List S) (ws : List (Worker P)) → AllByRecursion (IsBack m links k) ws
-    → HaveSeen m links k (map (λ (w : Worker P). w.pass) ws)
-passes_seen m links k [] h = tt
-passes_seen m links k (w ∷ ws) h = (h.0.seen, passes_seen m links k ws h.1)
-
 -- what a run leaves
 pub record IsOver {L D P S : Type 0} (m : LinksOf L D P S PairsNote) (links : L) (lines : List WatchLine) (workers : ℕ) (passes : List P)
     (replies : List WatchReply) (left right : ℕ) : Type 0 where
@@ -188,15 +154,15 @@ pub record IsOver {L D P S : Type 0} (m : LinksOf L D P S PairsNote) (links : L)
   pub follows : FollowsPasses m links lines workers passes replies left right
 
 pub over_of : {L D P S : Type 0} (m : LinksOf L D P S PairsNote) (links : L) (lines : List WatchLine) (workers : ℕ) (p : P) (left right : ℕ)
-    (ws : List (Worker P)) (passes : List P) (replies : List WatchReply)
-    → AllCameBack m links lines workers p left right ws → length ws ≡ workers → passes ≡ p ∷ map (λ (w : Worker P). w.pass) ws
-    → replies ≡ all_of (λ (w : Worker P). w.replies.items) ws
+    (ws : List (Watcher P)) (passes : List P) (replies : List WatchReply)
+    → AllCameBack m links lines workers p left right ws → length ws ≡ workers → passes ≡ p ∷ map (λ (w : Watcher P). w.desk) ws
+    → replies ≡ all_of (λ (w : Watcher P). w.replies.items) ws
     → IsOver m links lines workers passes replies left right
 over_of {P = P} m links lines workers p left right ws passes replies back many passes_are replies_are =
-    let f : IsOver m links lines workers (p ∷ map (λ (w : Worker P). w.pass) ws) replies left right = record {
-      usable = (back.caller, passes_usable m links (m.journal p) 1 ws back.numbered back.back);
-      all = let n = length-map ws (λ (w : Worker P). w.pass) in omega (arith, n, many);
-      seen = (refl, passes_seen m links (m.journal p) ws back.back);
+    let f : IsOver m links lines workers (p ∷ map (λ (w : Watcher P). w.desk) ws) replies left right = record {
+      usable = (back.caller, back.usable);
+      all = let n = length-map ws (λ (w : Watcher P). w.desk) in omega (arith, n, many);
+      seen = (refl, back.seen);
       follows = record {
         legal = back.legal;
         order = in_order (beside (cell_view m links) (IsInRun workers)) lines workers (m.journal p) ws back.numbered many back.told replies replies_are;

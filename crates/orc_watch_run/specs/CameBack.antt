@@ -13,13 +13,9 @@ use Rattle.orc_watch.specs.declared.line.WatchLine.{WatchLine}
 use Rattle.orc_watch.specs.declared.reply.WatchReply.{WatchReply}
 use Rattle.orc_watch_run.specs.CellView.{cell_view}
 use Rattle.orc_watch_run.specs.Follows.{EndsWithRead, IsInRun, Watching}
-use Rattle.orc_watch_run.specs.Passes.{IsUsablePassOf}
-use Rattle.orc_watch_run.specs.declared.team.Worker.{Worker}
-use Rattle.orc_workers.specs.Team.{NumberedFrom}
-
--- workers of the agents in order from this one
-abbrev pub AreNumbered : {P : Type 0} → ℕ → List (Worker P) → Type 0
-AreNumbered {P = P} agent ws = NumberedFrom (λ (w : Worker P). w.agent) agent ws
+use Rattle.orc_watch_run.specs.Passes.{AreUsable, HaveSeen, IsUsablePassOf}
+use Rattle.orc_watch_run.specs.Team.{Watcher}
+use Rattle.orc_team.specs.Seats.{AreNumbered}
 
 -- what a worker did, as this journal tells of it from its beginning
 pub record IsTold {A : Type 0} (x : View A CellEntry CellRefused) (lines : List WatchLine) (workers agent : ℕ) (replies : List WatchReply) (k : List A)
@@ -29,19 +25,15 @@ pub record IsTold {A : Type 0} (x : View A CellEntry CellRefused) (lines : List 
 
 module _ {L D P S : Type 0} (members : LinksOf L D P S PairsNote) (links : L) where
   -- a worker's pass has seen no entry
-  abbrev pub IsNew : Worker P → Type 0
-  IsNew w = history members links w.pass ≡ []
-
-  -- a worker at the end: a usable pass that has seen this journal
-  pub record IsBack (k : List S) (w : Worker P) : Type 0 where
-    pub is_pass : IsUsablePassOf members links w.agent w.pass
-    pub seen : members.journal w.pass ≡ k
+  abbrev pub IsNew : Watcher P → Type 0
+  IsNew w = history members links w.desk ≡ []
 
   -- what the caller and the workers have come to
-  pub record AllCameBack (lines : List WatchLine) (workers : ℕ) (p : P) (left right : ℕ) (ws : List (Worker P)) : Type 0 where
+  pub record AllCameBack (lines : List WatchLine) (workers : ℕ) (p : P) (left right : ℕ) (ws : List (Watcher P)) : Type 0 where
     pub caller : IsUsablePassOf members links 0 p
     pub numbered : AreNumbered 1 ws
-    pub back : AllByRecursion (IsBack (members.journal p)) ws
+    pub usable : AreUsable members links 1 (map (λ (w : Watcher P). w.desk) ws)
+    pub seen : HaveSeen members links (members.journal p) (map (λ (w : Watcher P). w.desk) ws)
     pub told : AllByRecursion
         (λ w. IsTold (beside (cell_view members links) (IsInRun workers)) lines workers w.agent w.replies.items (members.journal p)) ws
     pub legal : IsLegalCell (history members links p)

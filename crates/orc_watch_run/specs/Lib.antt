@@ -4,5 +4,4 @@ pub mod WatchCalls
 pub mod Passes
 pub mod Team
 pub mod Learning
-pub mod Seats
 pub mod CameBack

@@ -2,11 +2,9 @@
 #![tactic(auto)]
 
 mod answer;
-mod learning;
+mod at_cell;
 mod lines;
-mod reserve;
 mod run;
-mod seating;
 mod team;
 
 pub use answer::{publish_parts, read_parts};

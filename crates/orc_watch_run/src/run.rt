@@ -2,23 +2,21 @@
 
 ghost use Rattle.std.specs.Prelude.{◌≡◌, ◌+◌, ◌≤◌, [], IfOk, OnErr, length, vec_capacity, vec_len};
 ghost use Rattle.std.specs.List.{AllByRecursion};
-ghost use Rattle.orc_workers.specs.Seats.{all_of};
-ghost use Rattle.orc_watch_run.specs.CameBack.{AllCameBack, AreNumbered, IsNew};
+ghost use Rattle.orc_team.specs.Seats.{AreNumbered, all_of};
+ghost use Rattle.orc_watch_run.specs.CameBack.{AllCameBack, IsNew};
 ghost use Rattle.orc_watch_run.specs.Passes.{AreFresh, AreUsable, FollowsPasses, HaveSeenTheSame, IsFreshPass};
-ghost use Rattle.orc_watch_run.specs.Team.{DidWork, IsReady};
+ghost use Rattle.orc_watch_run.specs.Team.{DidWork, IsReady, IsRoom};
 
 use crate::answer::read_parts;
-use crate::learning::learn_from_team;
-use crate::reserve::{Reserved, reserve};
-use crate::seating::{hand_back, seat};
-use crate::team::{Worker, run_worker};
+use crate::at_cell::{AtCell, tell_laws};
+use crate::team::run_worker;
 use orc_board::Gate;
 use orc_cell::Cell;
 use orc_fault::NoMemory;
 use orc_heap::Links;
 use orc_pairs_rule::Pairs;
+use orc_team::{Reserved, Worker, hand_back, learn_from_team, reserve, run_workers, seat};
 use orc_watch::{WatchLines, WatchList};
-use orc_workers::run_workers;
 use std::alloc::Global;
 use std::sync::Wait;
 use std::thread::Threads;
@@ -40,7 +38,7 @@ pub(crate) struct CameBack<P> {
     pub(crate) pass: P,
     pub(crate) now_left: u64,
     pub(crate) now_right: u64,
-    pub(crate) workers: Vec<Worker<P>>,
+    pub(crate) workers: Vec<Worker<P, WatchList>>,
 }
 
 /// Runs workers 1 to `workers` over the cell, each on a thread of its own where one can be started, and then reads the cell once
@@ -73,14 +71,18 @@ where
     ensures follows { IfOk result (λ r. FollowsPasses L.Links cell.now.links lines.now workers passes.new.items r.replies.items r.now_left r.now_right) }
     ensures kept { OnErr result (passes.new ≡ passes.old) }
 {
+    let many = lines.len();
+    let room = |_agent: usize| -> Result<WatchList, NoMemory>
+        ensures { IfOk result (IsRoom many) }
+    { WatchList::new(alloc, many) };
     let Reserved {
         rooms,
         waiting,
         done,
-        mut replies,
-    } = reserve(alloc, passes.len() - 1, lines.len())?;
+    } = reserve(alloc, passes.len() - 1, &room)?;
+    let mut replies = WatchList::new(alloc, many)?;
     let pass = passes.remove(0);
-    let waiting = seat(passes, rooms, waiting);
+    let waiting = seat(&AtCell { cell }, passes, rooms, waiting);
     let CameBack {
         pass,
         now_left,
@@ -106,8 +108,8 @@ fn run_team<R: Threads + Wait + Sync, L: Links<Rule = Pairs> + Sync, G: Gate + S
     lines: &WatchLines,
     gate: &G,
     mut pass: L::Pass,
-    waiting: Vec<Worker<L::Pass>>,
-    done: Vec<Worker<L::Pass>>,
+    waiting: Vec<Worker<L::Pass, WatchList>>,
+    done: Vec<Worker<L::Pass, WatchList>>,
 ) -> CameBack<L::Pass>
 where
     L::Pass: Send,
@@ -123,14 +125,17 @@ where
     ensures many { length result.workers.items ≡ workers }
     ensures few { length (all_of (λ w. w.replies.items) result.workers.items) ≤ length lines.now }
 {
-    let work = |worker: Worker<L::Pass>| -> Worker<L::Pass>
+    let work = |worker: Worker<L::Pass, WatchList>| -> Worker<L::Pass, WatchList>
         requires { IsReady L.Links cell.now.links lines.now workers worker }
         ensures { DidWork L.Links cell.entry.now.links lines.entry.now workers worker result }
     { run_worker(rt, cell, workers, lines, gate, worker) };
     let mut team = run_workers(rt, &work, waiting, done);
-    learn_from_team(cell, 0, &mut pass, &mut team);
+    let here = AtCell { cell };
+    learn_from_team(&here, 0, &mut pass, &mut team);
+    tell_laws(cell, &pass);
     let (now_left, now_right) = read_parts(rt, cell, &mut pass);
-    learn_from_team(cell, 0, &mut pass, &mut team);
+    learn_from_team(&here, 0, &mut pass, &mut team);
+    tell_laws(cell, &pass);
     CameBack {
         pass,
         now_left,

@@ -1,5 +1,5 @@
 -- What all workers and the caller have come to, once the caller's passes have learned from all others twice.
-use Rattle.std.proofs.Common.{◌≡◌, ◌≢◌, ℕ, zero, suc, ◌+◌, ◌-◌, ◌≤◌, ◌<◌, List, [], ◌∷◌, ◌++◌, length, Bool, true, false, None, ◌⊎◌, inl, inr, refl, ap, sym, ◌∙◌, subst, arith, append-nil}
+use Rattle.std.proofs.Common.{◌≡◌, ◌≢◌, ℕ, zero, suc, ◌+◌, ◌-◌, ◌≤◌, ◌<◌, List, [], ◌∷◌, ◌++◌, length, Bool, true, false, Option, Some, None, ◌⊎◌, inl, inr, refl, ap, sym, ◌∙◌, subst, arith, append-nil}
 use mathlib.Core.List.{IsPrefix}
 use mathlib.Core.Path.{fun_ext}
 use Rattle.orc_history.specs.Journals.{own_of}
@@ -16,23 +16,27 @@ use Rattle.orc_jobs.specs.declared.line.Line.{Line}
 use Rattle.orc_board.specs.declared.replies.PostReply.{PostReply}
 use Rattle.orc_board.specs.declared.replies.TakeReply.{TakeReply}
 use Rattle.orc_board.specs.declared.desk.Desk.{Desk}
-use Rattle.orc_workers.specs.declared.team.Worker.{Worker}
+use Rattle.orc_team.proofs.CameBack.{Journals, Kept, Learnt, kept_all, learnt_all, others_of, seen_after}
+use Rattle.orc_team.proofs.Learned.{Grows, none_since, since, zero_last}
+use Rattle.orc_team.proofs.Numbered.{All-of_map, desks_from, each_number, numbered_next}
+use Rattle.orc_team.proofs.Teams.{AllByRecursion-next, Pairwise-length}
+use Rattle.orc_team.specs.Learning.{IsOther, LearnsAll, SameWorker}
+use Rattle.orc_team.specs.Seats.{AreNumbered}
+use Rattle.orc_team.specs.Site.{Site}
+use Rattle.orc_workers.specs.declared.rooms.Room.{Room}
 use Rattle.orc_board.specs.Desk.{IsDesk, seen_in}
-use Rattle.orc_board.specs.ListWithRoom.{ListWithRoom}
 use Rattle.orc_board.specs.Stretches.{View, queue_views, set_view, beside, all_beside, pick, just, of_queue, of_set, Stands, empty_row}
 use Rattle.orc_board.specs.Table.{TakeEnds}
 use Rattle.orc_history.specs.Lists.{Pairwise}
 use Rattle.orc_board.specs.Follows.{TakingRest, LastIsEmpty, IsWorker, none}
-use Rattle.orc_workers.specs.Team.{DidWork, DidPost, DidTake}
-use Rattle.orc_workers.specs.Learning.{LawsTell, IsOther, SameWorker, HasSeenAll, LearnsAllOfQueues, LearnsAllOfSet}
-use Rattle.orc_workers.specs.CameBack.{IsNew, IsTold, IsBack, AreNumbered, AllCameBack}
+use Rattle.orc_workers.specs.Team.{BoardWorker, DidWork, DidPost, DidTake}
+use Rattle.orc_workers.specs.Learning.{LawsTell, board_site}
+use Rattle.orc_workers.specs.CameBack.{IsNew, IsTold, AllCameBack}
 use Rattle.orc_board.proofs.ListFacts.{AllByRecursion-map}
 use Rattle.orc_board.proofs.Shares.{Did-just, Works-more, Stands-after, prefix_trans}
 use Rattle.orc_board.proofs.Wholes.{Works-before, Works-beside, Stands-beside, Below}
 use Rattle.orc_workers.proofs.Resting.{Stands-both, skip_row, resting_stretch, resting_set, ends_last}
-use Rattle.orc_workers.proofs.Numbered.{each_number, numbered_next}
-use Rattle.orc_workers.proofs.Teams.{AllByRecursion-next, Pairwise-length}
-use Rattle.orc_workers.proofs.Learned.{Grows, since, none_since, quiet, zero_last, still_last}
+use Rattle.orc_workers.proofs.Learned.{quiet, still_last}
 
 -- the journals at the start, whose histories are empty
 start : {A B : Type 0} (qs : Bool → View A QueueEntry QueueRefused) (s : View B SetEntry ListRefused) (agent : ℕ) (j : Bool → List A) (m : List B)
@@ -163,64 +167,46 @@ shown jq desk b = jq (pick desk.queue desk.rush b)
 
 -- a worker as its own passes tell of it
 pub record Tells {P R A B : Type 0} (qs : Bool → View A QueueEntry QueueRefused) (s : View B SetEntry ListRefused) (jq : P → List A) (js : R
-    → List B) (lines : List Line) (posters : ℕ) (w : Worker P R) : Type 0 where
-  pub told : IsTold qs s lines posters (shown jq w.desk) (js w.desk.set) w.agent w.posts.items w.takes.items
+    → List B) (lines : List Line) (posters : ℕ) (w : BoardWorker P R) : Type 0 where
+  pub told : IsTold qs s lines posters (shown jq w.desk) (js w.desk.set) w.agent w.replies.posts.items w.replies.takes.items
 
--- what learning twice over has made of a worker
-pub record Learnt {P R A B : Type 0} (qs : Bool → View A QueueEntry QueueRefused) (s : View B SetEntry ListRefused) (jq : P → List A) (js : R → List B)
-    (k : Bool → List A) (n : List B) (w v : Worker P R) : Type 0 where
-  pub queues : (b : Bool) → HasSeenAll (λ (x : Worker P R). x.agent) (λ (x : Worker P R). shown jq x.desk b) (λ a j. own_of agent_of_entry a ((qs b).history j))
-      (k b) w v
-  pub set : HasSeenAll (λ (x : Worker P R). x.agent) (λ (x : Worker P R). js x.desk.set) (λ a j. own_of agent_of_set_entry a (s.history j)) n w v
-  pub same : SameWorker w v
-
-learnt_all : {P R A B : Type 0} (qs : Bool → View A QueueEntry QueueRefused) (s : View B SetEntry ListRefused) (jq : P → List A) (js : R → List B)
-    (k : Bool → List A) (n : List B) (ws vs : List (Worker P R))
-    → ((b : Bool) → Pairwise (HasSeenAll (λ (x : Worker P R). x.agent) (λ (x : Worker P R). shown jq x.desk b)
-    (λ a j. own_of agent_of_entry a ((qs b).history j)) (k b)) ws vs)
-    → Pairwise (HasSeenAll (λ (x : Worker P R). x.agent) (λ (x : Worker P R). js x.desk.set) (λ a j. own_of agent_of_set_entry a (s.history j)) n) ws vs
-    → Pairwise SameWorker ws vs → Pairwise (Learnt qs s jq js k n) ws vs
-learnt_all qs s jq js k n [] [] a b c = tt
-learnt_all qs s jq js k n [] (v ∷ vs) a b c = absurd c
-learnt_all qs s jq js k n (w ∷ ws) [] a b c = absurd c
-learnt_all qs s jq js k n (w ∷ ws) (v ∷ vs) a b c =
-    (record { queues = λ x. (a x).0; set = b.0; same = c.0 }, learnt_all qs s jq js k n ws vs (λ x. (a x).1) b.1 c.1)
-
-tells_more : {P R A B : Type 0} (qs : Bool → View A QueueEntry QueueRefused) (s : View B SetEntry ListRefused) (C : ℕ → Type 0) (jq : P → List A) (js : R
-    → List B) (lines : List Line) (posters : ℕ) (k : Bool → List A) (n : List B) (w v : Worker P R)
-    → Laws qs s C → AllBelow qs s C k n → Tells (all_beside qs C) (beside s C) jq js lines posters w → Learnt qs s jq js k n w v
-    → Tells (all_beside qs C) (beside s C) jq js lines posters v
-tells_more {P} {R} {A} {B} qs s C jq js lines posters k n w v laws below t l =
-    let qc : Bool → View A QueueEntry QueueRefused = all_beside qs C in
-    let sc : View B SetEntry ListRefused = beside s C in
-    let now : IsTold qc sc lines posters k n w.agent w.posts.items w.takes.items =
-    told_more qs s C lines posters w.agent w.posts.items w.takes.items (shown jq w.desk) k
-    (js w.desk.set) n laws below (λ b. (l.queues b).begins) l.set.begins (λ b. (l.queues b).own_is) l.set.own_is t.told in
-    let a : IsTold qc sc lines posters (shown jq v.desk) n w.agent w.posts.items w.takes.items =
-    subst (λ (x : Bool → List A). IsTold qc sc lines posters x n w.agent w.posts.items w.takes.items) (fun_ext (λ b. sym (l.queues b).is)) now in
-    let b : IsTold qc sc lines posters (shown jq v.desk) (js v.desk.set) w.agent w.posts.items w.takes.items =
-    subst (λ (x : List B). IsTold qc sc lines posters (shown jq v.desk) x w.agent w.posts.items w.takes.items) (sym l.set.is) a in
-    let c : IsTold qc sc lines posters (shown jq v.desk) (js v.desk.set) v.agent w.posts.items w.takes.items =
-    subst (λ (x : ℕ). IsTold qc sc lines posters (shown jq v.desk) (js v.desk.set) x w.posts.items w.takes.items) (sym l.same.agent_is) b in
-    let d : IsTold qc sc lines posters (shown jq v.desk) (js v.desk.set) v.agent v.posts.items w.takes.items =
-    subst (λ (x : ListWithRoom PostReply). IsTold qc sc lines posters (shown jq v.desk) (js v.desk.set) v.agent x.items w.takes.items)
-    (sym l.same.posts_are) c in
+tells_more : {Q S P R A B : Type 0} (q : QueueOf Q P A) (s : SetOf S R B) (queue rush : Q) (set : S) (C : ℕ → Type 0) (lines : List Line) (posters : ℕ)
+    (k : Journals (board_site q s queue rush set)) (w v : BoardWorker P R)
+    → Laws (queue_views q queue rush) (set_view s set) C → AllBelow (queue_views q queue rush) (set_view s set) C (λ b. k (Some b)) (k None)
+    → Tells (all_beside (queue_views q queue rush) C) (beside (set_view s set) C) q.journal s.journal lines posters w
+    → Learnt (board_site q s queue rush set) k w v
+    → Tells (all_beside (queue_views q queue rush) C) (beside (set_view s set) C) q.journal s.journal lines posters v
+tells_more {A = A} {B = B} q s queue rush set C lines posters k w v laws below t l =
+    let qc : Bool → View A QueueEntry QueueRefused = all_beside (queue_views q queue rush) C in
+    let sc : View B SetEntry ListRefused = beside (set_view s set) C in
+    let kq : Bool → List A = λ b. k (Some b) in
+    let ks : List B = k None in
+    let ids = l.whole None in
+    let now : IsTold qc sc lines posters kq ks w.agent w.replies.posts.items w.replies.takes.items =
+    told_more (queue_views q queue rush) (set_view s set) C lines posters w.agent w.replies.posts.items w.replies.takes.items (seen_in q w.desk) kq
+    (s.journal w.desk.set) ks laws below (λ b. (l.whole (Some b)).begins) ids.begins (λ b. (l.whole (Some b)).own_is) ids.own_is t.told in
+    let a : IsTold qc sc lines posters (seen_in q v.desk) ks w.agent w.replies.posts.items w.replies.takes.items =
+    subst (λ (x : Bool → List A). IsTold qc sc lines posters x ks w.agent w.replies.posts.items w.replies.takes.items)
+    (fun_ext (λ b. sym (l.whole (Some b)).is)) now in
+    let b : IsTold qc sc lines posters (seen_in q v.desk) (s.journal v.desk.set) w.agent w.replies.posts.items w.replies.takes.items =
+    subst (λ (x : List B). IsTold qc sc lines posters (seen_in q v.desk) x w.agent w.replies.posts.items w.replies.takes.items) (sym ids.is) a in
+    let d : IsTold qc sc lines posters (seen_in q v.desk) (s.journal v.desk.set) v.agent w.replies.posts.items w.replies.takes.items =
+    subst (λ (x : ℕ). IsTold qc sc lines posters (seen_in q v.desk) (s.journal v.desk.set) x w.replies.posts.items w.replies.takes.items)
+    (sym l.same.agent_is) b in
     record {
-      told = subst (λ (x : ListWithRoom TakeReply). IsTold qc sc lines posters (shown jq v.desk) (js v.desk.set) v.agent v.posts.items x.items)
-          (sym l.same.takes_are) d;
+      told = subst (λ (x : Room). IsTold qc sc lines posters (seen_in q v.desk) (s.journal v.desk.set) v.agent x.posts.items x.takes.items)
+          (sym l.same.replies_are) d;
     }
 
 pub others_after : {Q S P R A B : Type 0} (q : QueueOf Q P A) (s : SetOf S R B) (queue rush : Q) (set : S) (lines : List Line) (posters : ℕ)
-    (ws vs : List (Worker P R))
-    → Pairwise (DidWork q s queue rush set lines posters) ws vs → AllByRecursion (IsOther q s queue rush set 0) vs
-others_after q s queue rush set lines posters [] [] p = tt
-others_after q s queue rush set lines posters [] (v ∷ vs) p = absurd p
-others_after q s queue rush set lines posters (w ∷ ws) [] p = absurd p
-others_after q s queue rush set lines posters (w ∷ ws) (v ∷ vs) p =
-    (record { desk = p.0.desk; other = λ e. absurd (omega (arith, e, p.0.no_caller)) }, others_after q s queue rush set lines posters ws vs p.1)
+    (ws vs : List (BoardWorker P R))
+    → Pairwise (DidWork q s queue rush set lines posters) ws vs → AllByRecursion (IsOther (board_site q s queue rush set) 0) vs
+others_after q s queue rush set lines posters ws vs did =
+    others_of (board_site q s queue rush set) 0 (DidWork q s queue rush set lines posters)
+    (λ w v d. record { is_desk = d.desk; other = λ e. absurd (omega (arith, e, d.no_caller)) }) ws vs did
 
 tells_first : {Q S P R A B : Type 0} (q : QueueOf Q P A) (s : SetOf S R B) (queue rush : Q) (set : S) (C : ℕ → Type 0) (lines : List Line) (posters : ℕ)
-    (ws vs : List (Worker P R))
+    (ws vs : List (BoardWorker P R))
     → Laws (queue_views q queue rush) (set_view s set) C → AllByRecursion (IsNew q s queue rush set) ws
     → Pairwise (DidWork q s queue rush set lines posters) ws vs
     → AllByRecursion (Tells (all_beside (queue_views q queue rush) C) (beside (set_view s set) C) q.journal s.journal lines posters) vs
@@ -229,66 +215,28 @@ tells_first q s queue rush set C lines posters [] (v ∷ vs) laws new p = absurd
 tells_first q s queue rush set C lines posters (w ∷ ws) [] laws new p = absurd p
 tells_first q s queue rush set C lines posters (w ∷ ws) (v ∷ vs) laws new p = (
   record {
-    told = told_first (queue_views q queue rush) (set_view s set) C lines posters v.agent v.posts.items v.takes.items (seen_in q w.desk)
+    told = told_first (queue_views q queue rush) (set_view s set) C lines posters v.agent v.replies.posts.items v.replies.takes.items (seen_in q w.desk)
         (seen_in q v.desk) (s.journal w.desk.set) (s.journal v.desk.set)
         laws new.0.queues_new new.0.set_new p.0.posted p.0.took;
   },
   tells_first q s queue rush set C lines posters ws vs laws new.1 p.1,
 )
 
-back_of : {Q S P R A B : Type 0} (q : QueueOf Q P A) (s : SetOf S R B) (queue rush : Q) (set : S) (C : ℕ → Type 0) (lines : List Line) (posters : ℕ)
-    (k : Bool → List A) (n : List B) (us ts : List (Worker P R))
-    → AllByRecursion (IsOther q s queue rush set 0) ts
-    → AllByRecursion (Tells (all_beside (queue_views q queue rush) C) (beside (set_view s set) C) q.journal s.journal lines posters) ts
-    → Pairwise (Learnt (queue_views q queue rush) (set_view s set) q.journal s.journal k n) us ts → AllByRecursion (IsBack q s queue rush set lines k n) ts
-back_of q s queue rush set C lines posters k n [] [] o t l = tt
-back_of q s queue rush set C lines posters k n [] (v ∷ vs) o t l = absurd l
-back_of q s queue rush set C lines posters k n (w ∷ ws) [] o t l = absurd l
-back_of q s queue rush set C lines posters k n (w ∷ ws) (v ∷ vs) o t l = (
-  record { is_desk = o.0.desk; queues_seen = λ b. (l.0.queues b).is; set_seen = l.0.set.is },
-  back_of q s queue rush set C lines posters k n ws vs o.1 t.1 l.1,
-)
-
-told_of : {P R A B : Type 0} (qs : Bool → View A QueueEntry QueueRefused) (s : View B SetEntry ListRefused) (jq : P → List A) (js : R
-    → List B) (q0 : Bool → View A QueueEntry QueueRefused) (s0 : View B SetEntry ListRefused) (lines : List Line) (posters : ℕ) (k : Bool → List A) (n : List B)
-    (us ts : List (Worker P R))
-    → AllByRecursion (Tells qs s jq js lines posters) ts → Pairwise (Learnt q0 s0 jq js k n) us ts
-    → AllByRecursion (λ (w : Worker P R). IsTold qs s lines posters k n w.agent w.posts.items w.takes.items) ts
-told_of qs s jq js q0 s0 lines posters k n [] [] t l = tt
-told_of qs s jq js q0 s0 lines posters k n [] (v ∷ vs) t l = absurd l
-told_of qs s jq js q0 s0 lines posters k n (w ∷ ws) [] t l = absurd l
-told_of {A = A} {B = B} qs s jq js q0 s0 lines posters k n (w ∷ ws) (v ∷ vs) t l = (
-  subst (λ (x : Bool → List A). IsTold qs s lines posters x n v.agent v.posts.items v.takes.items) (fun_ext (λ b. (l.0.queues b).is))
-      (subst (λ (x : List B). IsTold qs s lines posters (shown jq v.desk) x v.agent v.posts.items v.takes.items) l.0.set.is t.0.told),
-  told_of qs s jq js q0 s0 lines posters k n ws vs t.1 l.1,
-)
-
--- no worker has new entries of its own since the first learning
-record Kept {A B : Type 0} (qs : Bool → View A QueueEntry QueueRefused) (s : View B SetEntry ListRefused) (k1 k2 : Bool → List A) (n1 n2 : List B)
-    (a : ℕ) : Type 0 where
-  queues : (b : Bool) → own_of agent_of_entry a ((qs b).history (k2 b)) ≡ own_of agent_of_entry a ((qs b).history (k1 b))
-  set : own_of agent_of_set_entry a (s.history n2) ≡ own_of agent_of_set_entry a (s.history n1)
-
-owns_kept : {P R A B : Type 0} (qs : Bool → View A QueueEntry QueueRefused) (s : View B SetEntry ListRefused) (jq : P → List A) (js : R → List B)
-    (k1 k2 : Bool → List A) (n1 n2 : List B) (vs us ts : List (Worker P R))
-    → Pairwise (Learnt qs s jq js k1 n1) vs us → Pairwise (Learnt qs s jq js k2 n2) us ts
-    → AllByRecursion (λ (w : Worker P R). Kept qs s k1 k2 n1 n2 w.agent) us
-owns_kept qs s jq js k1 k2 n1 n2 [] [] [] a b = tt
-owns_kept qs s jq js k1 k2 n1 n2 [] [] (t ∷ ts) a b = absurd b
-owns_kept qs s jq js k1 k2 n1 n2 [] (u ∷ us) ts a b = absurd a
-owns_kept qs s jq js k1 k2 n1 n2 (v ∷ vs) [] ts a b = absurd a
-owns_kept qs s jq js k1 k2 n1 n2 (v ∷ vs) (u ∷ us) [] a b = absurd b
-owns_kept qs s jq js k1 k2 n1 n2 (v ∷ vs) (u ∷ us) (t ∷ ts) a b = (
-  record {
-    queues = λ x. (b.0.queues x).own_is ∙ ap (λ j. own_of agent_of_entry u.agent ((qs x).history j)) (a.0.queues x).is;
-    set = b.0.set.own_is ∙ ap (λ j. own_of agent_of_set_entry u.agent (s.history j)) a.0.set.is;
-  },
-  owns_kept qs s jq js k1 k2 n1 n2 vs us ts a.1 b.1,
+told_of : {Q S P R A B : Type 0} (q : QueueOf Q P A) (s : SetOf S R B) (qc : Bool → View A QueueEntry QueueRefused) (sc : View B SetEntry ListRefused)
+    (lines : List Line) (posters : ℕ) (k : Bool → List A) (n : List B) (ts : List (BoardWorker P R))
+    → AllByRecursion (Tells qc sc q.journal s.journal lines posters) ts
+    → AllByRecursion (λ (w : BoardWorker P R). ((b : Bool) → seen_in q w.desk b ≡ k b) × (s.journal w.desk.set ≡ n)) ts
+    → AllByRecursion (λ (w : BoardWorker P R). IsTold qc sc lines posters k n w.agent w.replies.posts.items w.replies.takes.items) ts
+told_of q s qc sc lines posters k n [] t at = tt
+told_of {A = A} {B = B} q s qc sc lines posters k n (v ∷ vs) t at = (
+  subst (λ (x : Bool → List A). IsTold qc sc lines posters x n v.agent v.replies.posts.items v.replies.takes.items) (fun_ext at.0.0)
+      (subst (λ (x : List B). IsTold qc sc lines posters (seen_in q v.desk) x v.agent v.replies.posts.items v.replies.takes.items) at.0.1 t.0.told),
+  told_of q s qc sc lines posters k n vs t.1 at.1,
 )
 
 -- the whole: d0 to d3 are the caller's desk at first, after it learned, after it took, and after it learned again
 pub came_back : {Q S P R A B : Type 0} (q : QueueOf Q P A) (s : SetOf S R B) (queue rush : Q) (set : S) (lines : List Line) (posters takers : ℕ)
-    (d0 d1 d2 d3 : Desk P R) (takes : List TakeReply) (ws vs us ts : List (Worker P R))
+    (d0 d1 d2 d3 : Desk P R) (takes : List TakeReply) (ws vs us ts : List (BoardWorker P R))
     → Laws (queue_views q queue rush) (set_view s set) (IsWorker posters takers)
     → AllBelow (queue_views q queue rush) (set_view s set) (IsWorker posters takers) (seen_in q d1) (s.journal d1.set)
     → AllBelow (queue_views q queue rush) (set_view s set) (IsWorker posters takers) (seen_in q d3) (s.journal d3.set)
@@ -296,18 +244,18 @@ pub came_back : {Q S P R A B : Type 0} (q : QueueOf Q P A) (s : SetOf S R B) (qu
     → AreNumbered 1 ws → length ws ≡ posters + takers
     → AllByRecursion (IsNew q s queue rush set) ws
     → Pairwise (DidWork q s queue rush set lines posters) ws vs
-    → LearnsAllOfQueues q s queue rush set 0 d0 d1 vs us → LearnsAllOfSet q s queue rush set 0 d0 d1 vs us
+    → LearnsAll (board_site q s queue rush set) 0 d0 d1 vs us
     → Pairwise SameWorker vs us
     → TakingRest (queue_views q queue rush) (set_view s set) lines 0 0 takes (seen_in q d1) (s.journal d1.set) (seen_in q d2) (s.journal d2.set)
     → ((b : Bool) → LastIsEmpty 0 (q.history (pick queue rush b) (seen_in q d2 b))) ⊎ (length lines ≤ length takes)
-    → LearnsAllOfQueues q s queue rush set 0 d2 d3 us ts → LearnsAllOfSet q s queue rush set 0 d2 d3 us ts
+    → LearnsAll (board_site q s queue rush set) 0 d2 d3 us ts
     → Pairwise SameWorker us ts
     → IsDesk q s queue rush set 0 d3
     → LawsTell q s queue rush set (suc (posters + takers)) (suc (posters + takers)) (suc (posters + takers)) d3
-    → AllByRecursion (IsOther q s queue rush set 0) ts
+    → AllByRecursion (IsOther (board_site q s queue rush set) 0) ts
     → AllCameBack q s queue rush set lines posters takers d3 takes ts
 came_back {P = P} {R = R} {A = A} {B = B} q s queue rush set lines posters takers d0 d1 d2 d3 takes ws vs us ts laws below1 below3 new new2 num many fresh
-    did l1q l1s same1 took last l2q l2s same2 desk known others =
+    did l1 same1 took last l2 same2 desk known others =
     let C : ℕ → Type 0 = IsWorker posters takers in
     let qv : Bool → View A QueueEntry QueueRefused = queue_views q queue rush in
     let sv : View B SetEntry ListRefused = set_view s set in
@@ -316,37 +264,43 @@ came_back {P = P} {R = R} {A = A} {B = B} q s queue rush set lines posters taker
     let x3 : Bool → List A = seen_in q d3 in
     let y1 : List B = s.journal d1.set in
     let y3 : List B = s.journal d3.set in
-    let one : Pairwise (Learnt qv sv q.journal s.journal x1 y1) vs us = learnt_all qv sv q.journal s.journal x1 y1 vs us (λ b. (l1q b).each) l1s.each same1 in
-    let two : Pairwise (Learnt qv sv q.journal s.journal x3 y3) us ts = learnt_all qv sv q.journal s.journal x3 y3 us ts (λ b. (l2q b).each) l2s.each same2 in
-    let T : Worker P R → Type 0 = Tells (all_beside qv C) (beside sv C) q.journal s.journal lines posters in
+    let site : Site (Desk P R) = board_site q s queue rush set in
+    let k1 : Journals site = λ c. site.journal c d1 in
+    let k3 : Journals site = λ c. site.journal c d3 in
+    let l1s = l1 None in
+    let l2s = l2 None in
+    let one : Pairwise (Learnt site k1) vs us = learnt_all site 0 d0 d1 vs us l1 same1 in
+    let two : Pairwise (Learnt site k3) us ts = learnt_all site 0 d2 d3 us ts l2 same2 in
+    let T : BoardWorker P R → Type 0 = Tells (all_beside qv C) (beside sv C) q.journal s.journal lines posters in
     let t1 : AllByRecursion T vs = tells_first q s queue rush set C lines posters ws vs laws fresh did in
     let t2 : AllByRecursion T us =
-    AllByRecursion-next T T (Learnt qv sv q.journal s.journal x1 y1) vs us
-    (λ w v t l. tells_more qv sv C q.journal s.journal lines posters x1 y1 w v laws below1 t l) t1 one in
+    AllByRecursion-next T T (Learnt site k1) vs us (λ w v t l. tells_more q s queue rush set C lines posters k1 w v laws below1 t l) t1 one in
     let t3 : AllByRecursion T ts =
-    AllByRecursion-next T T (Learnt qv sv q.journal s.journal x3 y3) us ts
-    (λ w v t l. tells_more qv sv C q.journal s.journal lines posters x3 y3 w v laws below3 t l) t2 two in
-    let num1 : AreNumbered 1 vs = numbered_next (λ (w : Worker P R). w.agent) (DidWork q s queue rush set lines posters) 1 ws vs (λ w v d. d.agent_is) num did in
-    let num2 : AreNumbered 1 us = numbered_next (λ (w : Worker P R). w.agent) SameWorker 1 vs us (λ w v d. d.agent_is) num1 same1 in
-    let num3 : AreNumbered 1 ts = numbered_next (λ (w : Worker P R). w.agent) SameWorker 1 us ts (λ w v d. d.agent_is) num2 same2 in
+    AllByRecursion-next T T (Learnt site k3) us ts (λ w v t l. tells_more q s queue rush set C lines posters k3 w v laws below3 t l) t2 two in
+    let at3 : AllByRecursion (λ (w : BoardWorker P R). ((b : Bool) → seen_in q w.desk b ≡ x3 b) × (s.journal w.desk.set ≡ y3)) ts =
+    AllByRecursion-map (λ w. (c : site.Container) → site.journal c w.desk ≡ k3 c)
+    (λ w. ((b : Bool) → seen_in q w.desk b ≡ x3 b) × (s.journal w.desk.set ≡ y3)) (λ w f. ((λ b. f (Some b)), f None)) ts (seen_after site k3 us ts two) in
+    let num1 : AreNumbered 1 vs = numbered_next (DidWork q s queue rush set lines posters) 1 ws vs (λ w v d. d.agent_is) num did in
+    let num2 : AreNumbered 1 us = numbered_next SameWorker 1 vs us (λ w v d. d.agent_is) num1 same1 in
+    let num3 : AreNumbered 1 ts = numbered_next SameWorker 1 us ts (λ w v d. d.agent_is) num2 same2 in
     let long : length us ≡ posters + takers = Pairwise-length SameWorker vs us same1 ∙ (Pairwise-length (DidWork q s queue rush set lines posters) ws vs did ∙ many) in
-    let kept = owns_kept qv sv q.journal s.journal x1 x3 y1 y3 vs us ts one two in
-    let F : ℕ → Type 0 = Kept qv sv x1 x3 y1 y3 in
-    let each : (a : ℕ) → 1 ≤ a → a ≤ posters + takers → F a = λ a low high. each_number (λ (w : Worker P R). w.agent) F 1 us num2 kept a low (omega (arith, high, long)) in
+    let kept : AllByRecursion (λ (w : BoardWorker P R). Kept site k1 k3 w.agent) us = kept_all site k1 k3 us ts (seen_after site k1 vs us one) two in
+    let F : ℕ → Type 0 = Kept site k1 k3 in
+    let each : (a : ℕ) → 1 ≤ a → a ≤ posters + takers → F a = λ a low high. each_number F 1 us num2 kept a low (omega (arith, high, long)) in
     let taking1 : TakingRest (all_beside qv C) (beside sv C) lines 0 0 takes none [] x2 (s.journal d2.set) =
     rest_from qv sv C lines 0 0 takes none x1 x2 [] y1 (s.journal d2.set) laws.queues_few laws.set_few
     (Stands-after (all_beside qv C) (beside sv C) 0 empty_row none (seen_in q d0) x1 [] (s.journal d0.set) y1
     (start (all_beside qv C) (beside sv C) 0 (seen_in q d0) (s.journal d0.set) laws.queues_none laws.set_none new new2)
-    (quiet qv sv C 0 (seen_in q d0) x1 (s.journal d0.set) y1 laws.queues_grow laws.set_grows (λ b. (l1q b).grows) l1s.grows (λ b. (l1q b).own_is) l1s.own_is
+    (quiet qv sv C 0 (seen_in q d0) x1 (s.journal d0.set) y1 laws.queues_grow laws.set_grows (λ b. (l1 (Some b)).grows) l1s.grows (λ b. (l1 (Some b)).own_is) l1s.own_is
     below1.queues_below below1.set_below))
     took in
     let more : Stands (all_beside qv C) (beside sv C) 0 empty_row x2 (s.journal d2.set) x3 y3 =
-    quiet qv sv C 0 x2 x3 (s.journal d2.set) y3 laws.queues_grow laws.set_grows (λ b. (l2q b).grows) l2s.grows (λ b. (l2q b).own_is) l2s.own_is
+    quiet qv sv C 0 x2 x3 (s.journal d2.set) y3 laws.queues_grow laws.set_grows (λ b. (l2 (Some b)).grows) l2s.grows (λ b. (l2 (Some b)).own_is) l2s.own_is
     below3.queues_below below3.set_below in
     let taking : TakingRest (all_beside qv C) (beside sv C) lines 0 0 takes none [] x3 y3 =
     rest_more (all_beside qv C) (beside sv C) lines 0 0 takes none x2 x3 [] (s.journal d2.set) y3 taking1 more in
     let all_q : (b : Bool) → IsPrefix (x1 b) (x3 b) = λ b.
-    prefix_trans (x1 b) (x2 b) (x3 b) (resting_stretch qv sv b lines 0 0 takes x1 x2 y1 (s.journal d2.set) took).later (l2q b).grows in
+    prefix_trans (x1 b) (x2 b) (x3 b) (resting_stretch qv sv b lines 0 0 takes x1 x2 y1 (s.journal d2.set) took).later (l2 (Some b)).grows in
     let all_s : IsPrefix y1 y3 =
     prefix_trans y1 (s.journal d2.set) y3 (resting_set qv sv lines 0 0 takes x1 x2 y1 (s.journal d2.set) took) l2s.grows in
     let new_s = since sv.history laws.set_grows y1 y3 all_s in
@@ -355,32 +309,25 @@ came_back {P = P} {R = R} {A = A} {B = B} q s queue rush set lines posters taker
       known = known;
       none_first = laws.queues_none;
       numbered = num3;
-      back = back_of q s queue rush set C lines posters x3 y3 us ts others t3 two;
-      told = told_of (all_beside qv C) (beside sv C) q.journal s.journal qv sv lines posters x3 y3 us ts t3 two;
+      idle = desks_from (IsDesk q s queue rush set) 1 ts num3
+          (AllByRecursion-map (IsOther site 0) (λ w. IsDesk q s queue rush set w.agent w.desk) (λ w o. o.is_desk) ts others);
+      seen = All-of_map (λ (w : BoardWorker P R). w.desk) (λ desk. ((b : Bool) → seen_in q desk b ≡ x3 b) × (s.journal desk.set ≡ y3)) ts at3;
+      told = told_of q s (all_beside qv C) (beside sv C) lines posters x3 y3 ts t3 at3;
       taking = taking;
       queues_zero_last = λ b.
           let new_q = since (qv b).history (laws.queues_grow b) (x1 b) (x3 b) (all_q b) in
           zero_last agent_of_entry (posters + takers) ((qv b).history (x1 b)) new_q.part ((qv b).history (x3 b)) new_q.is
-          ((l1q b).own_is ∙ ap (own_of agent_of_entry 0) (new b)) (below3.queues_below b) (λ a low high. (each a low high).queues b);
+          ((l1 (Some b)).own_is ∙ ap (own_of agent_of_entry 0) (new b)) (below3.queues_below b) (λ a low high. each a low high (Some b));
       set_zero_last = zero_last agent_of_set_entry (posters + takers) (sv.history y1) new_s.part (sv.history y3) new_s.is
-          (l1s.own_is ∙ ap (own_of agent_of_set_entry 0) new2) below3.set_below (λ a low high. (each a low high).set);
+          (l1s.own_is ∙ ap (own_of agent_of_set_entry 0) new2) below3.set_below (λ a low high. each a low high None);
       last = elim last as (λ _. ((b : Bool) → LastIsEmpty 0 ((qv b).history (x3 b))) ⊎ (length lines ≤ length takes)) [
         | inl e ↦ inl (λ b.
-            let end = since (qv b).history (laws.queues_grow b) (x2 b) (x3 b) (l2q b).grows in
+            let end = since (qv b).history (laws.queues_grow b) (x2 b) (x3 b) (l2 (Some b)).grows in
             still_last 0 ((qv b).history (x2 b)) end.part ((qv b).history (x3 b)) (e b) end.is
-            (none_since agent_of_entry 0 ((qv b).history (x2 b)) end.part ((qv b).history (x3 b)) end.is (l2q b).own_is))
+            (none_since agent_of_entry 0 ((qv b).history (x2 b)) end.part ((qv b).history (x3 b)) end.is (l2 (Some b)).own_is))
         | inr full ↦ inr full
       ];
     }
-
-no_front : {E : Type 0} (xs ys : List E) → xs ++ ys ≡ [] → xs ≡ []
-no_front [] ys e = refl
-no_front (x ∷ xs) ys e = let n : ⊥ = cc in absurd n
-
-pub none_at_start : {A E : Type 0} (history : List A → List E) → Grows history → (j : List A) → history j ≡ [] → history [] ≡ []
-none_at_start history grows j none =
-    let (part, is) = grows [] j in
-    no_front (history []) part (is ∙ none)
 
 -- the caller found both queues empty, or has as many replies as there are lines
 pub rest_last : {A : Type 0} (qs : Bool → View A QueueEntry QueueRefused) (agent lines taken spare room : ℕ) (j k : Bool → List A) → agent ≡ 0
@@ -404,6 +351,12 @@ crowd_in_run crowd agents posters takers is f a h = omega (arith, is, f a h)
 pub for_both : (P : Bool → Type 0) → P false → P true → (b : Bool) → P b
 for_both P f t false = f
 for_both P f t true = t
+
+-- what is said of each of the two queues and of the set holds of each container
+pub for_each : (P : Option Bool → Type 0) → P (Some false) → P (Some true) → P None → (c : Option Bool) → P c
+for_each P f t n (Some false) = f
+for_each P f t n (Some true) = t
+for_each P f t n None = n
 
 -- all that an idle desk has seen is of agents of the run
 pub below_of : {Q S P R A B : Type 0} (q : QueueOf Q P A) (s : SetOf S R B) (queue rush : Q) (set : S) (posters takers a b c : ℕ) (desk : Desk P R)

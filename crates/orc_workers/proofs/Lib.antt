@@ -1,11 +1,6 @@
-pub mod Teams
-pub mod Numbered
-pub mod Lessons
 pub mod Resting
 pub mod Learned
-pub mod Blocks
 pub mod Boards
-pub mod Rooms
+pub mod Seated
 pub mod CameBack
-pub mod Counts
 pub mod Over

@@ -14,22 +14,21 @@ use Rattle.orc_history.specs.declared.set.ListRefused.{ListRefused}
 use Rattle.orc_history.specs.declared.set.SharedSet.{Ghosts as SetOf}
 use Rattle.orc_history.specs.QueueHistory.{agent_of_entry, IsLegalQueue, waiting_after}
 use Rattle.orc_history.specs.SetHistory.{agent_of_set_entry}
-use Rattle.orc_board.specs.Desk.{IsDesk, seen_in}
+use Rattle.orc_board.specs.Desk.{seen_in}
 use Rattle.orc_jobs.specs.declared.line.Line.{Line}
 use Rattle.orc_jobs.specs.Line.{jobs_in}
 use Rattle.orc_board.specs.declared.replies.PostReply.{PostReply}
 use Rattle.orc_board.specs.declared.replies.TakeReply.{TakeReply}
 use Rattle.orc_board.specs.declared.desk.Desk.{Desk}
-use Rattle.orc_workers.specs.declared.team.Worker.{Worker}
+use Rattle.orc_team.proofs.Blocks.{blocks, AreKeyed, block_of, blocks_by_key, blocks_add, blocks_none, blocks_cons, every_block, find, nth_is, nth_of, nth_out, all_blocks}
+use Rattle.orc_team.specs.Seats.{AreNumbered, all_of}
+use Rattle.orc_workers.specs.Team.{BoardWorker}
 use Rattle.orc_board.specs.Stretches.{View, queue_views, set_view, beside, all_beside, pick, Row}
 use Rattle.orc_history.specs.Lists.{Pairwise}
 use Rattle.orc_board.specs.Follows.{TakerRow, Posting, TakingRest, ZeroLast, LastIsEmpty, IsWorker, own_records, by_key, taker_agent, posts_of, takes_of, none}
-use Rattle.orc_workers.specs.Desks.{AreIdle, HaveSeen}
-use Rattle.orc_workers.specs.CameBack.{IsTold, IsBack, AreNumbered, AllCameBack, HasEnded}
-use Rattle.orc_workers.specs.Seats.{all_of}
-use Rattle.orc_board.proofs.ListFacts.{AllByRecursion-append, AllByRecursion-map, le-cases}
+use Rattle.orc_workers.specs.CameBack.{IsTold, AllCameBack, HasEnded}
+use Rattle.orc_board.proofs.ListFacts.{AllByRecursion-map, le-cases}
 use Rattle.orc_board.proofs.Ends.{posters_of}
-use Rattle.orc_workers.proofs.Blocks.{blocks, AreKeyed, block_of, blocks_by_key, blocks_add, blocks_none, blocks_cons, nth_of, all_blocks}
 use Rattle.orc_workers.proofs.Learned.{zero_ended}
 use Rattle.orc_workers.proofs.Boards.{AllWork, ran_board, sides}
 
@@ -42,59 +41,22 @@ takers_loose lines taker agent (r ∷ rs) (row ∷ rows) z = (z.0.taker_is, take
 plus_suc : (p i : ℕ) → suc p + i ≡ suc (p + i)
 plus_suc p i = omega arith
 
--- the worker at a place
-record At {P R : Type 0} (F : Worker P R → Type 0) (k i : ℕ) (ws : List (Worker P R)) : Type 0 where
-  pub worker : Worker P R
-  pub agent_is : worker.agent ≡ k + i
-  pub holds : F worker
-  pub posts_are : nth_of (λ (w : Worker P R). w.posts.items) ws i ≡ worker.posts.items
-  pub takes_are : nth_of (λ (w : Worker P R). w.takes.items) ws i ≡ worker.takes.items
-
-find : {P R : Type 0} (F : Worker P R → Type 0) (k i : ℕ) (ws : List (Worker P R)) → AreNumbered k ws → AllByRecursion F ws → i < length ws → At F k i ws
-find F k i [] num h low = absurd (omega (arith, low))
-find F k zero (w ∷ ws) num h low = record { worker = w; agent_is = omega (arith, num.0); holds = h.0; posts_are = refl; takes_are = refl }
-find F k (suc i) (w ∷ ws) num h low =
-    let rest = find F (suc k) i ws num.1 h.1 (omega (arith, low)) in
-    record { worker = rest.worker; agent_is = omega (arith, rest.agent_is); holds = rest.holds; posts_are = rest.posts_are; takes_are = rest.takes_are }
-
-nth_out : {W X : Type 0} (items : W → List X) (ws : List W) (i : ℕ) → length ws ≤ i → nth_of items ws i ≡ []
-nth_out items [] i h = refl
-nth_out items (w ∷ ws) zero h = absurd (omega (arith, h))
-nth_out items (w ∷ ws) (suc i) h = nth_out items ws i (omega (arith, h))
-
-every_block : {X : Type 0} (P : X → Type 0) (block : ℕ → List X) (n : ℕ) → ((a : ℕ) → a < n → AllByRecursion P (block a)) → AllByRecursion P (blocks block n)
-every_block P block zero h = tt
-every_block P block (suc n) h = AllByRecursion-append P (blocks block n) (block n) (every_block P block n (λ a l. h a (omega (arith, l)))) (h n (omega arith))
-
-abbrev pub post_block : {P R : Type 0} → List (Worker P R) → ℕ → List PostReply
+abbrev pub post_block : {P R : Type 0} → List (BoardWorker P R) → ℕ → List PostReply
 post_block ws zero = []
-post_block ws (suc i) = nth_of (λ w. w.posts.items) ws i
+post_block ws (suc i) = nth_of (λ w. w.replies.posts.items) ws i
 
-abbrev pub take_block : {P R : Type 0} → ℕ → List TakeReply → List (Worker P R) → ℕ → List TakeReply
+abbrev pub take_block : {P R : Type 0} → ℕ → List TakeReply → List (BoardWorker P R) → ℕ → List TakeReply
 take_block posters own ws zero = own
-take_block posters own ws (suc t) = nth_of (λ w. w.takes.items) ws (posters + t)
-
-idle_desks : {Q S P R A B : Type 0} (q : QueueOf Q P A) (s : SetOf S R B) (queue rush : Q) (set : S) (lines : List Line) (k : Bool → List A) (n : List B) (a : ℕ)
-    (ws : List (Worker P R))
-    → AreNumbered a ws → AllByRecursion (IsBack q s queue rush set lines k n) ws → AreIdle q s queue rush set a (map (λ (w : Worker P R). w.desk) ws)
-idle_desks q s queue rush set lines k n a [] num h = tt
-idle_desks q s queue rush set lines k n a (w ∷ ws) num h =
-    (subst (λ (x : ℕ). IsDesk q s queue rush set x w.desk) num.0 h.0.is_desk, idle_desks q s queue rush set lines k n (suc a) ws num.1 h.1)
-
-seen_desks : {Q S P R A B : Type 0} (q : QueueOf Q P A) (s : SetOf S R B) (queue rush : Q) (set : S) (lines : List Line) (k : Bool → List A) (n : List B)
-    (ws : List (Worker P R))
-    → AllByRecursion (IsBack q s queue rush set lines k n) ws → HaveSeen q s k n (map (λ (w : Worker P R). w.desk) ws)
-seen_desks q s queue rush set lines k n [] h = tt
-seen_desks q s queue rush set lines k n (w ∷ ws) h = ((h.0.queues_seen, h.0.set_seen), seen_desks q s queue rush set lines k n ws h.1)
+take_block posters own ws (suc t) = nth_of (λ w. w.replies.takes.items) ws (posters + t)
 
 -- what all workers have done, put together
 module _ {P R A B : Type 0} (qs : Bool → View A QueueEntry QueueRefused) (s : View B SetEntry ListRefused) (lines : List Line) (posters takers : ℕ) (k : Bool → List A)
-    (n : List B) (own : List TakeReply) (ws : List (Worker P R))
+    (n : List B) (own : List TakeReply) (ws : List (BoardWorker P R))
     (num : AreNumbered 1 ws) (many : length ws ≡ posters + takers)
-    (told : AllByRecursion (λ (w : Worker P R). IsTold qs s lines posters k n w.agent w.posts.items w.takes.items) ws)
+    (told : AllByRecursion (λ (w : BoardWorker P R). IsTold qs s lines posters k n w.agent w.replies.posts.items w.replies.takes.items) ws)
     (taking : TakingRest qs s lines 0 0 own none [] k n) where
-  abbrev Told : Worker P R → Type 0
-  Told w = IsTold qs s lines posters k n w.agent w.posts.items w.takes.items
+  abbrev Told : BoardWorker P R → Type 0
+  Told w = IsTold qs s lines posters k n w.agent w.replies.posts.items w.replies.takes.items
 
   poster_at : (i : ℕ) → i < posters → (rs : List PostReply) → post_block ws (suc i) ≡ rs
       → Posting qs s lines (suc i) rs none [] k n × (map (λ (r : PostReply). r.line) rs ≡ own_records posters (suc i) (length lines))
@@ -102,7 +64,7 @@ module _ {P R A B : Type 0} (qs : Bool → View A QueueEntry QueueRefused) (s : 
       let w = find Told 1 i ws num told (omega (arith, low, many)) in
       let a : w.worker.agent ≡ suc i = w.agent_is ∙ omega arith in
       let d = w.holds.posted (omega (arith, a, low)) in
-      let e : w.worker.posts.items ≡ rs = sym w.posts_are ∙ is in (
+      let e : w.worker.replies.posts.items ≡ rs = sym (nth_is (λ (v : BoardWorker P R). v.replies.posts.items) ws i w.worker w.is) ∙ is in (
         subst (λ (x : ℕ). Posting qs s lines x rs none [] k n) a (subst (λ (x : List PostReply). Posting qs s lines w.worker.agent x none [] k n) e d.posting),
         subst (λ (x : ℕ). map (λ (r : PostReply). r.line) rs ≡ own_records posters x (length lines)) a
             (subst (λ (x : List PostReply). map (λ (r : PostReply). r.line) x ≡ own_records posters w.worker.agent (length lines)) e d.in_file_order),
@@ -110,18 +72,18 @@ module _ {P R A B : Type 0} (qs : Bool → View A QueueEntry QueueRefused) (s : 
 
   no_posts_at : (i : ℕ) → posters ≤ i → post_block ws (suc i) ≡ []
   no_posts_at i high = elim (le-cases (length ws) i) as (λ _. post_block ws (suc i) ≡ []) [
-    | inl out ↦ nth_out (λ (w : Worker P R). w.posts.items) ws i out
+    | inl out ↦ nth_out (λ (w : BoardWorker P R). w.replies.posts.items) ws i out
     | inr low ↦
         let w = find Told 1 i ws num told low in
         let d = w.holds.took (omega (arith, w.agent_is, high)) in
-        w.posts_are ∙ d.no_posts
+        nth_is (λ (v : BoardWorker P R). v.replies.posts.items) ws i w.worker w.is ∙ d.no_posts
   ]
 
-  no_takes_at : (i : ℕ) → i < posters → nth_of (λ (w : Worker P R). w.takes.items) ws i ≡ []
+  no_takes_at : (i : ℕ) → i < posters → nth_of (λ (w : BoardWorker P R). w.replies.takes.items) ws i ≡ []
   no_takes_at i low =
       let w = find Told 1 i ws num told (omega (arith, low, many)) in
       let d = w.holds.posted (omega (arith, w.agent_is, low)) in
-      w.takes_are ∙ d.no_takes
+      nth_is (λ (v : BoardWorker P R). v.replies.takes.items) ws i w.worker w.is ∙ d.no_takes
 
   taker_at : (t : ℕ) → t < takers → (rs : List TakeReply) → take_block posters own ws (suc t) ≡ rs
       → TakingRest qs s lines (suc t) (posters + suc t) rs none [] k n × (length rs < jobs_in lines → (b : Bool) → LastIsEmpty (posters + suc t) ((qs b).history (k b)))
@@ -130,7 +92,7 @@ module _ {P R A B : Type 0} (qs : Bool → View A QueueEntry QueueRefused) (s : 
       let a : w.worker.agent ≡ posters + suc t = w.agent_is ∙ omega arith in
       let b : w.worker.agent - posters ≡ suc t = omega (arith, a) in
       let d = w.holds.took (omega (arith, a)) in
-      let e : w.worker.takes.items ≡ rs = sym w.takes_are ∙ is in (
+      let e : w.worker.replies.takes.items ≡ rs = sym (nth_is (λ (v : BoardWorker P R). v.replies.takes.items) ws (posters + t) w.worker w.is) ∙ is in (
         subst (λ (x : ℕ). TakingRest qs s lines (suc t) x rs none [] k n) a
             (subst (λ (x : ℕ). TakingRest qs s lines x w.worker.agent rs none [] k n) b
             (subst (λ (x : List TakeReply). TakingRest qs s lines (w.worker.agent - posters) w.worker.agent x none [] k n) e d.taking)),
@@ -148,30 +110,30 @@ module _ {P R A B : Type 0} (qs : Bool → View A QueueEntry QueueRefused) (s : 
   takes_keyed zero = takers_loose lines 0 0 own taking.taking.rows taking.taking.table
   takes_keyed (suc t) = elim (le-cases takers t) as (λ _. AllByRecursion (λ (r : TakeReply). r.taker ≡ suc t) (take_block posters own ws (suc t))) [
     | inl high ↦ subst (AllByRecursion (λ (r : TakeReply). r.taker ≡ suc t))
-        (sym (nth_out (λ (w : Worker P R). w.takes.items) ws (posters + t) (omega (arith, many, high)))) tt
+        (sym (nth_out (λ (w : BoardWorker P R). w.replies.takes.items) ws (posters + t) (omega (arith, many, high)))) tt
     | inr low ↦ let p = taker_at t low (take_block posters own ws (suc t)) refl in takers_loose lines (suc t)
         (posters + suc t) _ p.0.taking.rows p.0.taking.table
   ]
 
-  posts_blocks : all_of (λ (w : Worker P R). w.posts.items) ws ≡ blocks (post_block ws) (suc posters)
+  posts_blocks : all_of (λ (w : BoardWorker P R). w.replies.posts.items) ws ≡ blocks (post_block ws) (suc posters)
   posts_blocks =
       let N : ℕ = length ws in
-      let all : blocks (post_block ws) (suc N) ≡ blocks (nth_of (λ (w : Worker P R). w.posts.items) ws) N =
-      blocks_cons [] (post_block ws) (nth_of (λ (w : Worker P R). w.posts.items) ws) refl (λ i. refl) N in
+      let all : blocks (post_block ws) (suc N) ≡ blocks (nth_of (λ (w : BoardWorker P R). w.replies.posts.items) ws) N =
+      blocks_cons [] (post_block ws) (nth_of (λ (w : BoardWorker P R). w.replies.posts.items) ws) refl (λ i. refl) N in
       let e : suc N ≡ suc posters + takers = omega (arith, many) in
       let rest : blocks (λ i. post_block ws (suc posters + i)) takers ≡ [] =
       blocks_none (λ i. post_block ws (suc posters + i)) takers
       (λ i low. ap (post_block ws) (plus_suc posters i) ∙ no_posts_at (posters + i) (omega arith)) in
-      all_blocks (λ (w : Worker P R). w.posts.items) ws
+      all_blocks (λ (w : BoardWorker P R). w.replies.posts.items) ws
       ∙ (sym all ∙ (ap (blocks (post_block ws)) e
       ∙ (blocks_add (post_block ws) (suc posters) takers
       ∙ (ap (λ z. blocks (post_block ws) (suc posters) ++ z) rest ∙ append-nil (blocks (post_block ws) (suc posters))))))
 
-  takes_blocks : own ++ all_of (λ (w : Worker P R). w.takes.items) ws ≡ blocks (take_block posters own ws) (suc takers)
+  takes_blocks : own ++ all_of (λ (w : BoardWorker P R). w.replies.takes.items) ws ≡ blocks (take_block posters own ws) (suc takers)
   takes_blocks =
-      let nth : ℕ → List TakeReply = nth_of (λ (w : Worker P R). w.takes.items) ws in
-      let tail : all_of (λ (w : Worker P R). w.takes.items) ws ≡ blocks (λ i. nth (posters + i)) takers =
-      all_blocks (λ (w : Worker P R). w.takes.items) ws
+      let nth : ℕ → List TakeReply = nth_of (λ (w : BoardWorker P R). w.replies.takes.items) ws in
+      let tail : all_of (λ (w : BoardWorker P R). w.replies.takes.items) ws ≡ blocks (λ i. nth (posters + i)) takers =
+      all_blocks (λ (w : BoardWorker P R). w.replies.takes.items) ws
       ∙ (ap (blocks nth) many
       ∙ (blocks_add nth posters takers ∙ ap (λ z. z ++ blocks (λ i. nth (posters + i)) takers) (blocks_none nth posters no_takes_at))) in
       ap (λ z. own ++ z) tail ∙ sym (blocks_cons own (take_block posters own ws) (λ i. nth (posters + i)) refl (λ i. refl) takers)
@@ -202,8 +164,8 @@ module _ {P R A B : Type 0} (qs : Bool → View A QueueEntry QueueRefused) (s : 
   empty_at_taker zero low high takes f = absurd (omega (arith, low))
   empty_at_taker (suc t) low high takes f = (taker_at t (omega (arith, high)) (takes_of (suc t) takes) (f (suc t) (omega (arith, high)))).1
 
-  pub put_together : (posts : List PostReply) (takes : List TakeReply) → posts ≡ all_of (λ (w : Worker P R). w.posts.items) ws
-      → takes ≡ own ++ all_of (λ (w : Worker P R). w.takes.items) ws
+  pub put_together : (posts : List PostReply) (takes : List TakeReply) → posts ≡ all_of (λ (w : BoardWorker P R). w.replies.posts.items) ws
+      → takes ≡ own ++ all_of (λ (w : BoardWorker P R). w.replies.takes.items) ws
       → ((b : Bool) → AllByRecursion (λ e. agent_of_entry e ≤ posters + takers) ((qs b).history (k b)))
       → ((b : Bool) → ZeroLast agent_of_entry ((qs b).history (k b)))
       → ZeroLast agent_of_set_entry (s.history n)
@@ -235,11 +197,11 @@ module _ {P R A B : Type 0} (qs : Bool → View A QueueEntry QueueRefused) (s : 
 
 -- the whole
 pub over_of : {Q S P R A B : Type 0} (q : QueueOf Q P A) (s : SetOf S R B) (queue rush : Q) (set : S) (lines : List Line) (posters takers : ℕ) (desk : Desk P R)
-    (own : List TakeReply) (ws : List (Worker P R)) (desks : List (Desk P R)) (posts : List PostReply) (takes : List TakeReply)
+    (own : List TakeReply) (ws : List (BoardWorker P R)) (desks : List (Desk P R)) (posts : List PostReply) (takes : List TakeReply)
     → 1 ≤ posters → length lines ≤ 65535 → ((b : Bool) → q.first (pick queue rush b) ≡ 0) → length ws ≡ posters + takers
     → AllCameBack q s queue rush set lines posters takers desk own ws
-    → desks ≡ (desk ∷ []) ++ map (λ (w : Worker P R). w.desk) ws → posts ≡ [] ++ all_of (λ (w : Worker P R). w.posts.items) ws
-    → takes ≡ own ++ all_of (λ (w : Worker P R). w.takes.items) ws
+    → desks ≡ (desk ∷ []) ++ map (λ (w : BoardWorker P R). w.desk) ws → posts ≡ [] ++ all_of (λ (w : BoardWorker P R). w.replies.posts.items) ws
+    → takes ≡ own ++ all_of (λ (w : BoardWorker P R). w.replies.takes.items) ws
     → HasEnded q s queue rush set lines posters takers desks posts takes
 over_of {P = P} {R = R} {A = A} q s queue rush set lines posters takers desk own ws desks posts takes some short first many c desks_are posts_are takes_are =
     let C : ℕ → Type 0 = IsWorker posters takers in
@@ -253,17 +215,17 @@ over_of {P = P} {R = R} {A = A} q s queue rush set lines posters takers desk own
     let work = put_together (all_beside (queue_views q queue rush) C) (beside (set_view s set) C) lines posters takers k n own ws c.numbered many c.told c.taking posts
     takes posts_are takes_are agents c.queues_zero_last c.set_zero_last in
     let legal : (b : Bool) → IsLegalQueue 0 (es b) = λ b. subst (λ (x : ℕ). IsLegalQueue x (es b)) (first b) (c.known.queues_legal b) in
-    let more : length takes ≡ length own + length (all_of (λ (w : Worker P R). w.takes.items) ws) =
-    ap length takes_are ∙ length-append own (all_of (λ (w : Worker P R). w.takes.items) ws) in
+    let more : length takes ≡ length own + length (all_of (λ (w : BoardWorker P R). w.replies.takes.items) ws) =
+    ap length takes_are ∙ length-append own (all_of (λ (w : BoardWorker P R). w.replies.takes.items) ws) in
     let end : ((b : Bool) → waiting_after [] (es b) ≡ []) ⊎ (length lines ≤ length takes) =
     elim c.last as (λ _. ((b : Bool) → waiting_after [] (es b) ≡ []) ⊎ (length lines ≤ length takes)) [
       | inl e ↦ inl (λ b. zero_ended (es b) (legal b) (c.queues_zero_last b) (e b))
       | inr full ↦ inr (omega (arith, full, more))
     ] in
-    let is : HasEnded q s queue rush set lines posters takers (desk ∷ map (λ (w : Worker P R). w.desk) ws) posts takes = record {
-      idle = (c.caller, idle_desks q s queue rush set lines k n 1 ws c.numbered c.back);
-      all = ap suc (length-map ws (λ (w : Worker P R). w.desk) ∙ many);
-      seen = (((λ b. refl), refl), seen_desks q s queue rush set lines k n ws c.back);
+    let is : HasEnded q s queue rush set lines posters takers (desk ∷ map (λ (w : BoardWorker P R). w.desk) ws) posts takes = record {
+      idle = (c.caller, c.idle);
+      all = ap suc (length-map ws (λ (w : BoardWorker P R). w.desk) ∙ many);
+      seen = (((λ b. refl), refl), c.seen);
       ran = ran_board (queue_views q queue rush) (set_view s set) lines posters takers posts takes k n some c.none_first
           (λ b agent seen from to h. let big = c.known.many_puts b agent seen from to h in omega (arith, big, first b)) short legal c.known.set_legal end work;
     } in
@@ -271,15 +233,15 @@ over_of {P = P} {R = R} {A = A} q s queue rush set lines posters takers desk own
 
 -- there are no more replies of either kind than lines
 pub few_replies : {Q S P R A B : Type 0} (q : QueueOf Q P A) (s : SetOf S R B) (queue rush : Q) (set : S) (lines : List Line) (posters takers : ℕ)
-    (desk : Desk P R) (own : List TakeReply) (ws : List (Worker P R))
+    (desk : Desk P R) (own : List TakeReply) (ws : List (BoardWorker P R))
     → 1 ≤ posters → length lines ≤ 65535 → ((b : Bool) → q.first (pick queue rush b) ≡ 0) → length ws ≡ posters + takers
     → AllCameBack q s queue rush set lines posters takers desk own ws
-    → (length (all_of (λ (w : Worker P R). w.posts.items) ws) ≤ length lines) × (length own + length
-    (all_of (λ (w : Worker P R). w.takes.items) ws) ≤ length lines)
+    → (length (all_of (λ (w : BoardWorker P R). w.replies.posts.items) ws) ≤ length lines) × (length own + length
+    (all_of (λ (w : BoardWorker P R). w.replies.takes.items) ws) ≤ length lines)
 few_replies {P = P} {R = R} q s queue rush set lines posters takers desk own ws some short first many c =
-    let posts : List PostReply = all_of (λ (w : Worker P R). w.posts.items) ws in
-    let takes : List TakeReply = own ++ all_of (λ (w : Worker P R). w.takes.items) ws in
-    let over = over_of q s queue rush set lines posters takers desk own ws (desk ∷ map (λ (w : Worker P R). w.desk) ws) posts takes some short first many c refl
+    let posts : List PostReply = all_of (λ (w : BoardWorker P R). w.replies.posts.items) ws in
+    let takes : List TakeReply = own ++ all_of (λ (w : BoardWorker P R). w.replies.takes.items) ws in
+    let over = over_of q s queue rush set lines posters takers desk own ws (desk ∷ map (λ (w : BoardWorker P R). w.desk) ws) posts takes some short first many c refl
     refl refl in
     let order = over.ran.follows.workers.order in
     let line : PostReply → ℕ = λ r. r.line in
@@ -289,5 +251,5 @@ few_replies {P = P} {R = R} q s queue rush set lines posters takers desk own ws 
     sym (length-map (takes_with b takes) claim_of) ∙ length_permutation (posted_of b posts) (map claim_of (takes_with b takes)) (over.ran.reportable.queues b).claims in
     let few : length (posted_of false posts) + length (posted_of true posts) ≤ length lines = posted_few lines posters takers posts takes some order in (
       omega (arith, length-map posts line, each, length-range_with_len 0 (length lines)),
-      omega (arith, sides takes, claims false, claims true, few, length-append own (all_of (λ (w : Worker P R). w.takes.items) ws)),
+      omega (arith, sides takes, claims false, claims true, few, length-append own (all_of (λ (w : BoardWorker P R). w.replies.takes.items) ws)),
     )

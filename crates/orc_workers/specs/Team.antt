@@ -1,7 +1,5 @@
 -- Workers before and after their work.
-use denote.Param.Members.{Shared}
-use Rattle.std.specs.Fn.{FnReturns}
-use Rattle.std.specs.Prelude.{◌≡◌, ℕ, Bool, ◌-◌, ◌<◌, ◌≤◌, List, [], ◌∷◌, ◌++◌, length, map, suc}
+use Rattle.std.specs.Prelude.{◌≡◌, ℕ, Bool, ◌-◌, ◌<◌, ◌≤◌, List, [], length, map}
 use Rattle.orc_history.specs.declared.queue.QueueEntry.{QueueEntry}
 use Rattle.orc_history.specs.declared.queue.QueueRefused.{QueueRefused}
 use Rattle.orc_history.specs.declared.queue.SharedQueue.{Ghosts as QueueOf}
@@ -13,41 +11,27 @@ use Rattle.orc_jobs.specs.Line.{jobs_in}
 use Rattle.orc_jobs.specs.GoodLines.{AreGood}
 use Rattle.orc_board.specs.declared.replies.PostReply.{PostReply}
 use Rattle.orc_board.specs.declared.replies.TakeReply.{TakeReply}
-use Rattle.orc_workers.specs.declared.team.Worker.{Worker}
+use Rattle.orc_board.specs.declared.desk.Desk.{Desk}
+use Rattle.orc_team.specs.declared.team.Worker.{Worker}
+use Rattle.orc_workers.specs.declared.rooms.Room.{Room}
 use Rattle.orc_board.specs.Desk.{IsDesk, seen_in}
 use Rattle.orc_board.specs.Stretches.{View, queue_views, set_view}
-use Rattle.orc_history.specs.Lists.{Pairwise}
 use Rattle.orc_board.specs.Follows.{Posting, TakingRest, LastIsEmpty, own_records}
 
--- to what was there, what each of those that waited has become is appended
-pub record Team {X : Type 0} (R : X → X → Type 0) (waiting before after : List X) : Type 0 where
-  pub new : List X
-  pub is : after ≡ before ++ new
-  pub each : Pairwise R waiting new
-
--- the items have these numbers in order, from this one on
-abbrev pub NumberedFrom : {W : Type 0} → (W → ℕ) → ℕ → List W → Type 0
-NumberedFrom number k [] = Unit {0}
-NumberedFrom number k (w ∷ ws) = (number w ≡ k) × NumberedFrom number (suc k) ws
-
--- a worker may be given to this work, and another is what the work may make of it
-module _ {W F : Type 0} (g : Shared F (W × Unit {0}) W) (work : F) where
-  abbrev pub MayWork : W → Type 0
-  MayWork w = g.pre work (w, tt)
-
-  abbrev pub Worked : W → W → Type 0
-  Worked w v = FnReturns g work (w, tt) v
+-- a poster or a taker
+abbrev pub BoardWorker : Type 0 → Type 0 → Type 0
+BoardWorker P R = Worker (Desk P R) Room
 
 -- a worker that may begin: no caller, at a desk of its own, with room for all that it may reply
 pub record IsReady {Q S P R A B : Type 0} (q : QueueOf Q P A) (s : SetOf S R B) (queue rush : Q) (set : S) (lines : List Line) (posters : ℕ)
-    (w : Worker P R) : Type 0 where
+    (w : BoardWorker P R) : Type 0 where
   pub good : AreGood lines
   pub no_caller : 1 ≤ w.agent
   pub desk : IsDesk q s queue rush set w.agent w.desk
-  pub no_posts : w.posts.items ≡ []
-  pub no_takes : w.takes.items ≡ []
-  pub post_room : w.agent ≤ posters → length (own_records posters w.agent (length lines)) ≤ w.posts.spare
-  pub take_room : posters < w.agent → jobs_in lines ≤ w.takes.spare
+  pub no_posts : w.replies.posts.items ≡ []
+  pub no_takes : w.replies.takes.items ≡ []
+  pub post_room : w.agent ≤ posters → length (own_records posters w.agent (length lines)) ≤ w.replies.posts.spare
+  pub take_room : posters < w.agent → jobs_in lines ≤ w.replies.takes.spare
 
 -- what a poster did between these journals
 pub record DidPost {A B : Type 0} (qs : Bool → View A QueueEntry QueueRefused) (s : View B SetEntry ListRefused) (lines : List Line) (posters agent : ℕ)
@@ -65,13 +49,13 @@ pub record DidTake {A B : Type 0} (qs : Bool → View A QueueEntry QueueRefused)
 
 -- what a worker has become by its work
 pub record DidWork {Q S P R A B : Type 0} (q : QueueOf Q P A) (s : SetOf S R B) (queue rush : Q) (set : S) (lines : List Line) (posters : ℕ)
-    (w v : Worker P R) : Type 0 where
+    (w v : BoardWorker P R) : Type 0 where
   pub agent_is : v.agent ≡ w.agent
   pub no_caller : 1 ≤ v.agent
   pub desk : IsDesk q s queue rush set v.agent v.desk
   pub posted : v.agent ≤ posters
-      → DidPost (queue_views q queue rush) (set_view s set) lines posters v.agent v.posts.items v.takes.items (seen_in q w.desk) (s.journal w.desk.set)
+      → DidPost (queue_views q queue rush) (set_view s set) lines posters v.agent v.replies.posts.items v.replies.takes.items (seen_in q w.desk) (s.journal w.desk.set)
       (seen_in q v.desk) (s.journal v.desk.set)
   pub took : posters < v.agent
-      → DidTake (queue_views q queue rush) (set_view s set) lines posters v.agent v.posts.items v.takes.items (seen_in q w.desk) (s.journal w.desk.set)
+      → DidTake (queue_views q queue rush) (set_view s set) lines posters v.agent v.replies.posts.items v.replies.takes.items (seen_in q w.desk) (s.journal w.desk.set)
       (seen_in q v.desk) (s.journal v.desk.set)

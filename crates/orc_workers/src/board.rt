@@ -6,19 +6,20 @@ ghost use Rattle.orc_history.specs.SetHistory.{IsLegalSet};
 ghost use Rattle.orc_jobs.specs.GoodLines.{AreGood};
 ghost use Rattle.orc_board.specs.Reportable.{AreReportable};
 ghost use Rattle.orc_workers.specs.Desks.{IsFreshDesk, AreFresh, AreIdle, HaveSeenTheSame, RepliesFollow, queue_history, set_history};
-ghost use Rattle.orc_workers.specs.Seats.{all_of};
+ghost use Rattle.orc_team.specs.Seats.{AreNumbered, all_of};
+ghost use Rattle.orc_workers.specs.Seats.{IsRoom};
 ghost use Rattle.orc_workers.specs.Team.{DidWork, IsReady};
-ghost use Rattle.orc_workers.specs.CameBack.{AreNumbered, IsNew, AllCameBack};
+ghost use Rattle.orc_workers.specs.CameBack.{IsNew, AllCameBack};
 
-use crate::learning::learn_from_team;
-use crate::reserve::{Reserved, reserve};
-use crate::seating::{hand_back, seat};
-use crate::team::{Worker, run_worker, run_workers};
+use crate::at_board::{AtBoard, tell_laws};
+use crate::rooms::{Room, reserve_room};
+use crate::team::{BoardWorker, run_worker};
 use crate::work::count_jobs;
-use orc_board::{Desk, Gate, Replies, TakeList, take_rest};
+use orc_board::{Desk, Gate, PostList, Replies, TakeList, take_rest};
 use orc_fault::NoMemory;
 use orc_history::{LearnQueue, LearnSet};
 use orc_jobs::Lines;
+use orc_team::{Reserved, hand_back, learn_from_team, reserve, run_workers, seat};
 use std::alloc::Global;
 use std::sync::Wait;
 use std::sync::atomic::AtomicU64;
@@ -29,7 +30,7 @@ use std::thread::Threads;
 pub(crate) struct Seated<A, B> {
     pub(crate) desk: Desk<A, B>,
     pub(crate) takes: TakeList,
-    pub(crate) workers: Vec<Worker<A, B>>,
+    pub(crate) workers: Vec<BoardWorker<A, B>>,
 }
 
 /// Runs all posters and takers at these desks, each on a thread of its own where one can be started, and then takes what they
@@ -78,22 +79,21 @@ where
     ensures reportable { IfOk result (λ r. AreReportable lines.now r.posts.items r.takes.items) }
     ensures kept { OnErr result (desks.new ≡ desks.old) }
 {
+    let many = lines.len();
+    let jobs = count_jobs(lines);
+    let room = |agent: usize| -> Result<Room, NoMemory>
+        ensures { IfOk result (IsRoom posters many jobs agent) }
+    { reserve_room(alloc, posters, agent, many, jobs) };
     let Reserved {
         rooms,
         waiting,
         done,
-        own,
-        mut posts,
-        mut takes,
-    } = reserve(
-        alloc,
-        posters,
-        desks.len() - 1,
-        lines.len(),
-        count_jobs(lines),
-    )?;
+    } = reserve(alloc, desks.len() - 1, &room)?;
+    let own = TakeList::new(alloc, many)?;
+    let posts = PostList::new(alloc, many)?;
+    let takes = TakeList::new(alloc, many)?;
     let desk = desks.remove(0);
-    let waiting = seat(queue, desks, rooms, waiting);
+    let waiting = seat(&AtBoard { queue, rush, set }, desks, rooms, waiting);
     let Seated {
         desk,
         takes: own,
@@ -101,11 +101,13 @@ where
     } = run_seated(
         rt, queue, rush, set, posters, takers, lines, gate, desk, own, waiting, done,
     );
-    takes.append(own);
+    let mut replies = Room { posts, takes };
+    replies.takes.append(own);
     let Ok(()) = desks.push(desk) else {
         unreachable!()
     };
-    hand_back(workers, desks, &mut posts, &mut takes);
+    hand_back(workers, desks, &mut replies);
+    let Room { posts, takes } = replies;
     Ok(Replies { posts, takes })
 }
 
@@ -126,8 +128,8 @@ pub(crate) fn run_seated<
     gate: &G,
     mut desk: Desk<Q::Pass, S::Pass>,
     mut takes: TakeList,
-    waiting: Vec<Worker<Q::Pass, S::Pass>>,
-    done: Vec<Worker<Q::Pass, S::Pass>>,
+    waiting: Vec<BoardWorker<Q::Pass, S::Pass>>,
+    done: Vec<BoardWorker<Q::Pass, S::Pass>>,
 ) -> Seated<Q::Pass, S::Pass>
 where
     Q::Pass: Send,
@@ -148,19 +150,22 @@ where
     ensures back { AllCameBack Q.SharedQueue S.SharedSet queue.now rush.now set.now lines.now posters takers
         result.desk result.takes.items result.workers.items }
     ensures many { length result.workers.items ≡ posters + takers }
-    ensures few { (length (all_of (λ w. w.posts.items) result.workers.items) ≤ length lines.now)
-        × (length result.takes.items + length (all_of (λ w. w.takes.items) result.workers.items) ≤ length lines.now) }
+    ensures few { (length (all_of (λ w. w.replies.posts.items) result.workers.items) ≤ length lines.now)
+        × (length result.takes.items + length (all_of (λ w. w.replies.takes.items) result.workers.items) ≤ length lines.now) }
 {
     let _ = takers;
     let left = AtomicU64::new(u64::from(posters));
-    let work = |worker: Worker<Q::Pass, S::Pass>| -> Worker<Q::Pass, S::Pass>
+    let work = |worker: BoardWorker<Q::Pass, S::Pass>| -> BoardWorker<Q::Pass, S::Pass>
         requires { IsReady Q.SharedQueue S.SharedSet queue.now rush.now set.now lines.now posters worker }
         ensures { DidWork Q.SharedQueue S.SharedSet queue.entry.now rush.entry.now set.entry.now lines.entry.now posters worker result }
     { run_worker(rt, queue, rush, set, posters, lines, gate, &left, worker) };
     let mut workers = run_workers(rt, &work, waiting, done);
-    learn_from_team(queue, rush, set, 0, &mut desk, &mut workers);
+    let here = AtBoard { queue, rush, set };
+    learn_from_team(&here, 0, &mut desk, &mut workers);
+    tell_laws(queue, rush, set, &desk);
     take_rest(rt, queue, rush, set, &mut desk, 0, lines, gate, &mut takes);
-    learn_from_team(queue, rush, set, 0, &mut desk, &mut workers);
+    learn_from_team(&here, 0, &mut desk, &mut workers);
+    tell_laws(queue, rush, set, &desk);
     Seated {
         desk,
         takes,

@@ -1,6 +1,6 @@
 use Rattle.std.proofs.Common.{rules, ◌≡◌, ◌+◌, ◌-◌, suc, ℕ, length, subst, arith}
 use Rattle.orc_board.proofs.ListFacts.{AllByRecursion-map}
-use Rattle.orc_workers.proofs.Teams.{team_did}
+use Rattle.orc_team.proofs.Teams.{team_did}
 use Rattle.orc_stages.specs.Team.{DidWork}
 use Rattle.orc_stages.specs.Learning.{AreFor, AreKnown}
 use Rattle.orc_stages.proofs.CameBack.{below_of, came_back, laws_of, none_moved, others_after, others_moved}
@@ -30,23 +30,23 @@ returns-clause-back g c =
     subst (λ (n : ℕ). AreFor q g.Q.LearnQueue.agents n queues) agents c.requires.agents in
     let d1 = c.learn_from_team.new.desk.passes.items in
     let d3 = c.learn_from_team-2.new.desk.passes.items in
-    let known1 : AreKnown q queues (suc (posters + stages)) d1 = c.learn_from_team.ensures.known (suc (posters + stages)) for in
-    let known3 : AreKnown q queues (suc (posters + stages)) d3 = c.learn_from_team-2.ensures.known (suc (posters + stages)) for in
+    let known1 : AreKnown q queues (suc (posters + stages)) d1 = c.tell_laws.ensures (suc (posters + stages)) for in
+    let known3 : AreKnown q queues (suc (posters + stages)) d3 = c.tell_laws-2.ensures (suc (posters + stages)) for in
     let did = team_did _ _ (DidWork q queues c.args.lines.now posters) _ _ _ (λ w v d. search rules) c.requires.room.1 c.run_workers-workers.ensures.team in
     let many : length c.args.waiting.items ≡ posters + stages = omega (arith, c.requires.count, agents, c.args.waiting.ok.0) in
     came_back q queues c.args.lines.now posters stages (laws_of q queues posters stages c.args.desk.passes.items d1 known1 c.requires.new)
-    c.args.desk.passes.items d1 c.move_left.new.desk.passes.items d3 c.move_left.new.outs _ _ _ _ _
+    c.args.desk c.learn_from_team.new.desk c.move_left.new.desk c.learn_from_team-2.new.desk c.move_left.new.outs _ _ _ _ _
     (below_of q queues posters stages d1 known1) (below_of q queues posters stages d3 known3) c.requires.new c.requires.numbered
     many c.requires.begin c.requires.enough (none_moved q queues c.args.lines.now posters _ c.requires.ready) did
     c.learn_from_team.ensures.learned c.learn_from_team.ensures.same c.move_left.ensures.moved
     (omega (arith, c.move_left.ensures.spare, c.requires.outs.1)) c.learn_from_team-2.ensures.learned c.learn_from_team-2.ensures.same
-    c.learn_from_team-2.ensures.passes known3 c.learn_from_team-2.ensures.others
+    c.learn_from_team-2.ensures.desk known3 c.learn_from_team-2.ensures.others
 
 pub returns-clause-many : goal.returns-clause-many
 returns-clause-many g c =
     omega (
       arith,
-      c.learn_from_team-2.new.workers.ok.0,
+      c.learn_from_team-2.new.others.ok.0,
       c.learn_from_team-2.ensures.len,
       c.move_left.ensures.len,
       c.learn_from_team.ensures.len,

@@ -1,18 +1,24 @@
-use Rattle.std.proofs.Common.{◌≡◌, ◌+◌, ◌-◌, ◌*◌, ◌++◌, ◌∷◌, [], suc, ℕ, ap, sym, ◌∙◌, length, map, arith, List}
+use Rattle.std.proofs.Common.{rules, ◌≡◌, ◌≤◌, ◌+◌, ◌-◌, ◌*◌, ◌++◌, ◌∷◌, [], suc, ℕ, ap, sym, ◌∙◌, length, map, arith, List, false, true}
 use Rattle.orc_board.specs.declared.replies.PostReply.{PostReply}
-use Rattle.orc_workers.specs.Seats.{all_of}
-use Rattle.orc_workers.proofs.Counts.{places_fit}
+use Rattle.orc_team.specs.Seats.{all_of}
+use Rattle.orc_team.proofs.Numbered.{EachFrom-map, EachFrom-rest}
+use Rattle.orc_team.proofs.Seats.{places_fit, seats_of}
+use Rattle.orc_workers.proofs.CameBack.{for_both}
+use Rattle.orc_stages.specs.Learning.{stage_site}
+use Rattle.orc_stages.specs.Run.{IsNewDesk}
+use Rattle.orc_stages.specs.Seats.{IsRoom}
+use Rattle.orc_stages.specs.Team.{StageWorker}
 use Rattle.orc_stages.specs.declared.replies.StageDesk.{StageDesk}
 use Rattle.orc_stages.specs.declared.replies.StageReply.{StageReply}
-use Rattle.orc_stages.specs.declared.team.Worker.{Worker}
 use Rattle.orc_stages.proofs.Over.{over}
-use Rattle.orc_stages.proofs.Rooms.{fresh_agents, fresh_rest, seats_of}
+use Rattle.orc_stages.proofs.Seated.{seats_ready}
 use Rattle.orc_stages.proofs.run.run_stages.Goals as goal
 
 pub seat-waiting-requires-clause-agents : goal.seat-waiting-requires-clause-agents
 seat-waiting-requires-clause-agents g c =
-    fresh_agents g.Q.SharedQueue c.in-Some.first.now _ _ 1 _ c.in-Some.ensures.cases.0
-    (fresh_rest g.Q.SharedQueue c.args.queues.now 0 _ _ c.remove-desk.ensures.items c.requires.desks)
+    let F = IsNewDesk g.Q.SharedQueue c.args.queues.now in
+    EachFrom-map F (stage_site g.Q.SharedQueue c.args.queues.now).usable (λ k d f. f.passes) 1 _
+    (EachFrom-rest F 0 _ _ c.remove-desk.ensures.items c.requires.desks)
 
 pub run_seated-desk-requires-clause-room : goal.run_seated-desk-requires-clause-room
 run_seated-desk-requires-clause-room g c κs within =
@@ -21,10 +27,10 @@ run_seated-desk-requires-clause-room g c κs within =
     let posters = c.args.posters in
     let stages : ℕ = length queues - 1 in
     let run : suc (posters + stages) ≡ posters + length queues = omega (arith, c.requires.queues.0) in
-    let s = seats_of q queues c.args.lines.now posters c.len-2.result c.args.desks.now.items c.remove-desk.new.self.items c.in_ok-rooms.field-0.rooms.items
-    c.seat-waiting.result.items c.len.result (posters + stages) c.requires.good c.requires.queues.0 c.requires.queues.1 c.len-2.ensures
-    c.remove-desk.ensures.items (sym c.args.desks.now.ok.0 ∙ (c.requires.count ∙ sym run)) run (c.len.ensures ∙ (c.requires.count ∙ sym run))
-    c.in_ok-rooms.ensures.all c.requires.desks c.in_ok-rooms.ensures.rooms c.seat-waiting.ensures.seated in
+    let one : 1 + (posters + stages) ≡ posters + length queues = omega (arith, c.requires.queues.0) in
+    let s = seats_of c.args.desks.now.items c.remove-desk.new.self.items c.in_ok-rooms.field-0.rooms.items c.seat-waiting.result.items c.len.result
+    (posters + stages) c.remove-desk.ensures.items (sym c.args.desks.now.ok.0 ∙ (c.requires.count ∙ sym one)) (c.len.ensures ∙ (c.requires.count ∙ sym one))
+    c.in_ok-rooms.ensures.all c.seat-waiting.ensures.seated in
     let none = c.in_ok-rooms.ensures.nobody_is_done in (
       c.in_ok-rooms.field-0.done.ok.0 ∙ ap length none,
       none,
@@ -38,11 +44,15 @@ run_seated-desk-requires-clause-ready g c κs within =
     let posters = c.args.posters in
     let stages : ℕ = length queues - 1 in
     let run : suc (posters + stages) ≡ posters + length queues = omega (arith, c.requires.queues.0) in
-    let s = seats_of q queues c.args.lines.now posters c.len-2.result c.args.desks.now.items c.remove-desk.new.self.items c.in_ok-rooms.field-0.rooms.items
-    c.seat-waiting.result.items c.len.result (posters + stages) c.requires.good c.requires.queues.0 c.requires.queues.1 c.len-2.ensures
-    c.remove-desk.ensures.items (sym c.args.desks.now.ok.0 ∙ (c.requires.count ∙ sym run)) run (c.len.ensures ∙ (c.requires.count ∙ sym run))
-    c.in_ok-rooms.ensures.all c.requires.desks c.in_ok-rooms.ensures.rooms c.seat-waiting.ensures.seated in
-    s.are.ready
+    let one : 1 + (posters + stages) ≡ posters + length queues = omega (arith, c.requires.queues.0) in
+    let s = seats_of c.args.desks.now.items c.remove-desk.new.self.items c.in_ok-rooms.field-0.rooms.items c.seat-waiting.result.items c.len.result
+    (posters + stages) c.remove-desk.ensures.items (sym c.args.desks.now.ok.0 ∙ (c.requires.count ∙ sym one)) (c.len.ensures ∙ (c.requires.count ∙ sym one))
+    c.in_ok-rooms.ensures.all c.seat-waiting.ensures.seated in
+    let many : suc (length c.remove-desk.new.self.items) ≡ posters + length queues = ap (λ (n : ℕ). suc n) s.desks ∙ run in
+    let r = seats_ready q queues c.args.lines.now posters c.len-many.result c.args.desks.now.items c.remove-desk.new.self.items _ _ c.requires.good
+    c.requires.queues.0 c.requires.queues.1 c.len-many.ensures c.requires.desks c.remove-desk.ensures.items many
+    (EachFrom-map _ (IsRoom posters c.len-many.result) (λ k x d. search rules) 1 _ c.in_ok-rooms.ensures.rooms) c.seat-waiting.ensures.seated in
+    r.ready
 
 pub run_seated-desk-requires-clause-begin : goal.run_seated-desk-requires-clause-begin
 run_seated-desk-requires-clause-begin g c κs within =
@@ -51,11 +61,15 @@ run_seated-desk-requires-clause-begin g c κs within =
     let posters = c.args.posters in
     let stages : ℕ = length queues - 1 in
     let run : suc (posters + stages) ≡ posters + length queues = omega (arith, c.requires.queues.0) in
-    let s = seats_of q queues c.args.lines.now posters c.len-2.result c.args.desks.now.items c.remove-desk.new.self.items c.in_ok-rooms.field-0.rooms.items
-    c.seat-waiting.result.items c.len.result (posters + stages) c.requires.good c.requires.queues.0 c.requires.queues.1 c.len-2.ensures
-    c.remove-desk.ensures.items (sym c.args.desks.now.ok.0 ∙ (c.requires.count ∙ sym run)) run (c.len.ensures ∙ (c.requires.count ∙ sym run))
-    c.in_ok-rooms.ensures.all c.requires.desks c.in_ok-rooms.ensures.rooms c.seat-waiting.ensures.seated in
-    s.are.begin
+    let one : 1 + (posters + stages) ≡ posters + length queues = omega (arith, c.requires.queues.0) in
+    let s = seats_of c.args.desks.now.items c.remove-desk.new.self.items c.in_ok-rooms.field-0.rooms.items c.seat-waiting.result.items c.len.result
+    (posters + stages) c.remove-desk.ensures.items (sym c.args.desks.now.ok.0 ∙ (c.requires.count ∙ sym one)) (c.len.ensures ∙ (c.requires.count ∙ sym one))
+    c.in_ok-rooms.ensures.all c.seat-waiting.ensures.seated in
+    let many : suc (length c.remove-desk.new.self.items) ≡ posters + length queues = ap (λ (n : ℕ). suc n) s.desks ∙ run in
+    let r = seats_ready q queues c.args.lines.now posters c.len-many.result c.args.desks.now.items c.remove-desk.new.self.items _ _ c.requires.good
+    c.requires.queues.0 c.requires.queues.1 c.len-many.ensures c.requires.desks c.remove-desk.ensures.items many
+    (EachFrom-map _ (IsRoom posters c.len-many.result) (λ k x d. search rules) 1 _ c.in_ok-rooms.ensures.rooms) c.seat-waiting.ensures.seated in
+    r.begin
 
 pub run_seated-desk-requires-clause-numbered : goal.run_seated-desk-requires-clause-numbered
 run_seated-desk-requires-clause-numbered g c κs within =
@@ -64,11 +78,15 @@ run_seated-desk-requires-clause-numbered g c κs within =
     let posters = c.args.posters in
     let stages : ℕ = length queues - 1 in
     let run : suc (posters + stages) ≡ posters + length queues = omega (arith, c.requires.queues.0) in
-    let s = seats_of q queues c.args.lines.now posters c.len-2.result c.args.desks.now.items c.remove-desk.new.self.items c.in_ok-rooms.field-0.rooms.items
-    c.seat-waiting.result.items c.len.result (posters + stages) c.requires.good c.requires.queues.0 c.requires.queues.1 c.len-2.ensures
-    c.remove-desk.ensures.items (sym c.args.desks.now.ok.0 ∙ (c.requires.count ∙ sym run)) run (c.len.ensures ∙ (c.requires.count ∙ sym run))
-    c.in_ok-rooms.ensures.all c.requires.desks c.in_ok-rooms.ensures.rooms c.seat-waiting.ensures.seated in
-    s.are.numbered
+    let one : 1 + (posters + stages) ≡ posters + length queues = omega (arith, c.requires.queues.0) in
+    let s = seats_of c.args.desks.now.items c.remove-desk.new.self.items c.in_ok-rooms.field-0.rooms.items c.seat-waiting.result.items c.len.result
+    (posters + stages) c.remove-desk.ensures.items (sym c.args.desks.now.ok.0 ∙ (c.requires.count ∙ sym one)) (c.len.ensures ∙ (c.requires.count ∙ sym one))
+    c.in_ok-rooms.ensures.all c.seat-waiting.ensures.seated in
+    let many : suc (length c.remove-desk.new.self.items) ≡ posters + length queues = ap (λ (n : ℕ). suc n) s.desks ∙ run in
+    let r = seats_ready q queues c.args.lines.now posters c.len-many.result c.args.desks.now.items c.remove-desk.new.self.items _ _ c.requires.good
+    c.requires.queues.0 c.requires.queues.1 c.len-many.ensures c.requires.desks c.remove-desk.ensures.items many
+    (EachFrom-map _ (IsRoom posters c.len-many.result) (λ k x d. search rules) 1 _ c.in_ok-rooms.ensures.rooms) c.seat-waiting.ensures.seated in
+    r.numbered
 
 pub run_seated-desk-requires-clause-count : goal.run_seated-desk-requires-clause-count
 run_seated-desk-requires-clause-count g c κs within =
@@ -77,10 +95,10 @@ run_seated-desk-requires-clause-count g c κs within =
     let posters = c.args.posters in
     let stages : ℕ = length queues - 1 in
     let run : suc (posters + stages) ≡ posters + length queues = omega (arith, c.requires.queues.0) in
-    let s = seats_of q queues c.args.lines.now posters c.len-2.result c.args.desks.now.items c.remove-desk.new.self.items c.in_ok-rooms.field-0.rooms.items
-    c.seat-waiting.result.items c.len.result (posters + stages) c.requires.good c.requires.queues.0 c.requires.queues.1 c.len-2.ensures
-    c.remove-desk.ensures.items (sym c.args.desks.now.ok.0 ∙ (c.requires.count ∙ sym run)) run (c.len.ensures ∙ (c.requires.count ∙ sym run))
-    c.in_ok-rooms.ensures.all c.requires.desks c.in_ok-rooms.ensures.rooms c.seat-waiting.ensures.seated in
+    let one : 1 + (posters + stages) ≡ posters + length queues = omega (arith, c.requires.queues.0) in
+    let s = seats_of c.args.desks.now.items c.remove-desk.new.self.items c.in_ok-rooms.field-0.rooms.items c.seat-waiting.result.items c.len.result
+    (posters + stages) c.remove-desk.ensures.items (sym c.args.desks.now.ok.0 ∙ (c.requires.count ∙ sym one)) (c.len.ensures ∙ (c.requires.count ∙ sym one))
+    c.in_ok-rooms.ensures.all c.seat-waiting.ensures.seated in
     omega (arith, c.seat-waiting.result.ok.0, s.workers, run)
 
 pub run_seated-desk-requires-clause-enough : goal.run_seated-desk-requires-clause-enough
@@ -90,22 +108,31 @@ run_seated-desk-requires-clause-enough g c κs within =
     let posters = c.args.posters in
     let stages : ℕ = length queues - 1 in
     let run : suc (posters + stages) ≡ posters + length queues = omega (arith, c.requires.queues.0) in
-    let s = seats_of q queues c.args.lines.now posters c.len-2.result c.args.desks.now.items c.remove-desk.new.self.items c.in_ok-rooms.field-0.rooms.items
-    c.seat-waiting.result.items c.len.result (posters + stages) c.requires.good c.requires.queues.0 c.requires.queues.1 c.len-2.ensures
-    c.remove-desk.ensures.items (sym c.args.desks.now.ok.0 ∙ (c.requires.count ∙ sym run)) run (c.len.ensures ∙ (c.requires.count ∙ sym run))
-    c.in_ok-rooms.ensures.all c.requires.desks c.in_ok-rooms.ensures.rooms c.seat-waiting.ensures.seated in
-    s.are.room
+    let one : 1 + (posters + stages) ≡ posters + length queues = omega (arith, c.requires.queues.0) in
+    let s = seats_of c.args.desks.now.items c.remove-desk.new.self.items c.in_ok-rooms.field-0.rooms.items c.seat-waiting.result.items c.len.result
+    (posters + stages) c.remove-desk.ensures.items (sym c.args.desks.now.ok.0 ∙ (c.requires.count ∙ sym one)) (c.len.ensures ∙ (c.requires.count ∙ sym one))
+    c.in_ok-rooms.ensures.all c.seat-waiting.ensures.seated in
+    let many : suc (length c.remove-desk.new.self.items) ≡ posters + length queues = ap (λ (n : ℕ). suc n) s.desks ∙ run in
+    let r = seats_ready q queues c.args.lines.now posters c.len-many.result c.args.desks.now.items c.remove-desk.new.self.items _ _ c.requires.good
+    c.requires.queues.0 c.requires.queues.1 c.len-many.ensures c.requires.desks c.remove-desk.ensures.items many
+    (EachFrom-map _ (IsRoom posters c.len-many.result) (λ k x d. search rules) 1 _ c.in_ok-rooms.ensures.rooms) c.seat-waiting.ensures.seated in
+    r.room
 
 pub hand_back-requires : goal.hand_back-requires
-hand_back-requires g c = record {
-  desks = places_fit c.args.desks.now.len c.args.desks.now.cap c.remove-desk.new.self.cap c.seat-waiting.new.desks.cap c.push.new.self.cap
-      c.seat-waiting.new.desks.len _ c.push.new.self.len c.run_seated-desk.result.workers.len _ _ c.args.desks.now.ok.1
-      (omega (arith, c.requires.count, c.requires.queues.0)) c.remove-desk.ensures.capacity c.seat-waiting.ensures.desks c.in-Ok.ensures.capacity
-      c.seat-waiting.new.desks.ok.0 (ap length c.seat-waiting.ensures.none) c.in-Ok.ensures.len c.run_seated-desk.result.workers.ok.0
-      c.run_seated-desk.ensures.many;
-  posts = omega (arith, c.run_seated-desk.ensures.few.0, c.in_ok-rooms.ensures.post_room, c.len-2.ensures);
-  moves = omega (arith, c.run_seated-desk.ensures.few.1, c.in_ok-rooms.ensures.move_room, ap (λ (n : ℕ). (length c.args.queues.now - 1) * n) c.len-2.ensures);
-}
+hand_back-requires g c =
+    let W : Type 0 = StageWorker g.row.Q-Pass.Denot in
+    let posts : length (all_of (λ (w : W). w.replies.posts.items) c.run_seated-desk.result.workers.items) ≤ c.in_ok-posts.posts.spare =
+    omega (arith, c.run_seated-desk.ensures.few.0, c.in_ok-posts.ensures.1, c.len-many.ensures) in
+    let moves : length (all_of (λ (w : W). w.replies.moves.items) c.run_seated-desk.result.workers.items) ≤ c.in_ok-moves.moves.spare =
+    omega (arith, c.run_seated-desk.ensures.few.1, c.in_ok-moves.ensures.1, ap (λ (n : ℕ). (length c.args.queues.now - 1) * n) c.len-many.ensures) in
+    record {
+      desks = places_fit c.args.desks.now.len c.args.desks.now.cap c.remove-desk.new.self.cap c.seat-waiting.new.desks.cap c.push.new.self.cap
+          c.seat-waiting.new.desks.len _ c.push.new.self.len c.run_seated-desk.result.workers.len _ _ c.args.desks.now.ok.1
+          (omega (arith, c.requires.count, c.requires.queues.0)) c.remove-desk.ensures.capacity c.seat-waiting.ensures.desks c.in-Ok.ensures.capacity
+          c.seat-waiting.new.desks.ok.0 (ap length c.seat-waiting.ensures.none) c.in-Ok.ensures.len c.run_seated-desk.result.workers.ok.0
+          c.run_seated-desk.ensures.many;
+      replies = for_both _ posts moves;
+    }
 
 pub returns : goal.returns
 returns g c =
@@ -118,15 +145,15 @@ returns g c =
     let first : c.push.new.self.items ≡ c.run_seated-desk.result.desk ∷ [] =
     c.in-Ok.ensures.items ∙ ap (λ (xs : List Passes). xs ++ c.run_seated-desk.result.desk ∷ []) c.seat-waiting.ensures.none in
     let desks : c.hand_back.new.desks.items
-    ≡ (c.run_seated-desk.result.desk ∷ []) ++ map (λ (w : Worker g.row.Q-Pass.Denot). w.desk) c.run_seated-desk.result.workers.items =
+    ≡ (c.run_seated-desk.result.desk ∷ []) ++ map (λ (w : StageWorker g.row.Q-Pass.Denot). w.desk) c.run_seated-desk.result.workers.items =
     c.hand_back.ensures.desks
-    ∙ ap (λ (xs : List Passes). xs ++ map (λ (w : Worker g.row.Q-Pass.Denot). w.desk) c.run_seated-desk.result.workers.items) first in
-    let posts = c.hand_back.ensures.posts
-    ∙ ap (λ (xs : List PostReply). xs ++ all_of (λ (w : Worker g.row.Q-Pass.Denot). w.posts.items) c.run_seated-desk.result.workers.items)
-    c.in_ok-rooms.ensures.no_posts in
-    let moves = c.hand_back.ensures.moves
-    ∙ ap (λ (xs : List StageReply). xs ++ all_of (λ (w : Worker g.row.Q-Pass.Denot). w.moves.items) c.run_seated-desk.result.workers.items)
-    c.in_ok-rooms.ensures.no_moves in
+    ∙ ap (λ (xs : List Passes). xs ++ map (λ (w : StageWorker g.row.Q-Pass.Denot). w.desk) c.run_seated-desk.result.workers.items) first in
+    let posts = c.hand_back.ensures.replies false
+    ∙ ap (λ (xs : List PostReply). xs ++ all_of (λ (w : StageWorker g.row.Q-Pass.Denot). w.replies.posts.items) c.run_seated-desk.result.workers.items)
+    c.in_ok-posts.ensures.0 in
+    let moves = c.hand_back.ensures.replies true
+    ∙ ap (λ (xs : List StageReply). xs ++ all_of (λ (w : StageWorker g.row.Q-Pass.Denot). w.replies.moves.items) c.run_seated-desk.result.workers.items)
+    c.in_ok-moves.ensures.0 in
     let end = over q queues c.args.lines.now posters stages c.run_seated-desk.result.desk c.run_seated-desk.result.workers.items
     c.run_seated-desk.result.outs.items c.requires.posters c.requires.good.few c.run_seated-desk.ensures.many c.run_seated-desk.ensures.back _ _ _ desks posts moves in
     record { idle = end.0; all = end.1 ∙ run; seen = end.2; pipeline = end.3; kept = tt }

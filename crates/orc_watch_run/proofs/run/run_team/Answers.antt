@@ -4,9 +4,9 @@ use Rattle.orc_pairs_rule.specs.declared.entry.CellEntry.TheVariants.{Seen}
 use Rattle.orc_watch_run.specs.CellView.{cell_view, of_cell}
 use Rattle.orc_watch_run.specs.Follows.{IsInRun}
 use Rattle.orc_watch_run.proofs.CameBack.{Laws, all_in_run, came_back, crowd_in_run, others_after}
-use Rattle.orc_workers.proofs.CameBack.{none_at_start}
+use Rattle.orc_team.proofs.Learned.{none_at_start}
 use Rattle.orc_board.proofs.ListFacts.{AllByRecursion-map}
-use Rattle.orc_workers.proofs.Teams.{team_did}
+use Rattle.orc_team.proofs.Teams.{team_did}
 use Rattle.orc_watch_run.proofs.Over.{replies_few}
 use Rattle.orc_watch_run.proofs.run.run_team.Goals as goal
 
@@ -25,20 +25,22 @@ returns-clause-back g c =
     let e1 = c.learn_from_team.ensures in
     let e3 = c.learn_from_team-2.ensures in
     let workers = c.args.workers in
-    let p1 = c.learn_from_team.new.pass in
-    let p3 = c.learn_from_team-2.new.pass in
+    let p1 = c.learn_from_team.new.desk in
+    let p3 = c.learn_from_team-2.new.desk in
+    let known1 = c.tell_laws.ensures in
+    let known3 = c.tell_laws-2.ensures in
     let laws : Laws x (IsInRun workers) = record {
-      grows = e1.known.grows;
+      grows = known1.grows;
       few = crowd_in_run (g.L.Links.agents d) workers c.requires.agents;
-      none = none_at_start x.history e1.known.grows _ c.requires.pass.new;
+      none = none_at_start x.history known1.grows _ c.requires.pass.new;
     } in
     let read = subst (λ (a : ℕ). Stretch of_cell x a (Seen a c.read_parts-now_left.result.0 c.read_parts-now_left.result.1 ∷ []) (g.L.Links.journal p1)
-    (g.L.Links.journal c.read_parts-now_left.new.p)) e1.pass.agent_is c.read_parts-now_left.ensures.seen in
+    (g.L.Links.journal c.read_parts-now_left.new.p)) e1.desk.agent_is c.read_parts-now_left.ensures.seen in
     came_back g.L.Links d c.args.lines.now workers c.args.pass p1 c.read_parts-now_left.new.p p3 _ _ _ _ _ _
-    laws (all_in_run (g.L.Links.agents d) workers _ c.requires.agents e1.known.below) (all_in_run (g.L.Links.agents d) workers _ c.requires.agents e3.known.below)
+    laws (all_in_run (g.L.Links.agents d) workers _ c.requires.agents known1.below) (all_in_run (g.L.Links.agents d) workers _ c.requires.agents known3.below)
     c.requires.pass.new c.requires.numbered c.requires.count c.requires.begin
     (team_did _ _ _ _ _ _ (λ w v d. search rules) c.requires.room.1 c.run_workers-team.ensures.team)
-    e1.learned e1.same read e3.learned e3.same e3.pass e3.known e3.others
+    e1.learned e1.same read e3.learned e3.same e3.desk known3 e3.others
 
 pub returns-clause-many : goal.returns-clause-many
 returns-clause-many g c =

@@ -1,10 +1,12 @@
-use Rattle.std.proofs.Common.{◌≡◌, ◌++◌, ◌∷◌, [], ap, sym, ◌∙◌, length, map, arith, List}
+use Rattle.std.proofs.Common.{rules, ◌≡◌, ◌≤◌, ◌++◌, ◌∷◌, [], ap, sym, ◌∙◌, length, map, arith, List}
 use Rattle.orc_watch.specs.declared.reply.WatchReply.{WatchReply}
-use Rattle.orc_workers.specs.Seats.{all_of}
-use Rattle.orc_workers.proofs.Counts.{places_fit, room_done}
-use Rattle.orc_watch_run.specs.declared.team.Worker.{Worker}
+use Rattle.orc_team.specs.Seats.{all_of}
+use Rattle.orc_team.proofs.Numbered.{EachFrom-map, EachFrom-rest}
+use Rattle.orc_team.proofs.Seats.{places_fit, room_done, seats_of}
+use Rattle.orc_watch_run.specs.Passes.{IsFreshPass, IsUsablePassOf}
+use Rattle.orc_watch_run.specs.Team.{IsRoom, Watcher}
 use Rattle.orc_watch_run.proofs.Over.{over_of}
-use Rattle.orc_watch_run.proofs.Rooms.{seats_of, seats_ready}
+use Rattle.orc_watch_run.proofs.Rooms.{seats_ready}
 use Rattle.orc_watch_run.proofs.run.run_watch.Goals as goal
 
 pub run_team-pass-requires-clause-room : goal.run_team-pass-requires-clause-room
@@ -30,8 +32,9 @@ run_team-pass-requires-clause-ready g c κs within =
     let s = seats_of c.args.passes.now.items c.remove-pass.new.self.items c.in_ok-rooms.field-0.rooms.items c.seat-waiting.result.items c.len.result _
     c.remove-pass.ensures.items (sym c.args.passes.now.ok.0 ∙ c.requires.count) (c.len.ensures ∙ c.requires.count) c.in_ok-rooms.ensures.all
     c.seat-waiting.ensures.seated in
-    let r = seats_ready g.L.Links c.args.cell.now.links c.args.lines.now c.args.workers _ c.args.passes.now.items c.remove-pass.new.self.items _ _
-    c.requires.few c.len-2.ensures c.requires.passes c.remove-pass.ensures.items s.passes c.in_ok-rooms.ensures.rooms c.seat-waiting.ensures.seated in
+    let r = seats_ready g.L.Links c.args.cell.now.links c.args.lines.now c.args.workers c.len-many.result c.args.passes.now.items c.remove-pass.new.self.items _ _
+    c.requires.few c.len-many.ensures c.requires.passes c.remove-pass.ensures.items s.desks
+    (EachFrom-map _ (λ k r. IsRoom c.len-many.result r) (λ k r d. search rules) 1 _ c.in_ok-rooms.ensures.rooms) c.seat-waiting.ensures.seated in
     r.ready
 
 pub run_team-pass-requires-clause-begin : goal.run_team-pass-requires-clause-begin
@@ -39,8 +42,9 @@ run_team-pass-requires-clause-begin g c κs within =
     let s = seats_of c.args.passes.now.items c.remove-pass.new.self.items c.in_ok-rooms.field-0.rooms.items c.seat-waiting.result.items c.len.result _
     c.remove-pass.ensures.items (sym c.args.passes.now.ok.0 ∙ c.requires.count) (c.len.ensures ∙ c.requires.count) c.in_ok-rooms.ensures.all
     c.seat-waiting.ensures.seated in
-    let r = seats_ready g.L.Links c.args.cell.now.links c.args.lines.now c.args.workers _ c.args.passes.now.items c.remove-pass.new.self.items _ _
-    c.requires.few c.len-2.ensures c.requires.passes c.remove-pass.ensures.items s.passes c.in_ok-rooms.ensures.rooms c.seat-waiting.ensures.seated in
+    let r = seats_ready g.L.Links c.args.cell.now.links c.args.lines.now c.args.workers c.len-many.result c.args.passes.now.items c.remove-pass.new.self.items _ _
+    c.requires.few c.len-many.ensures c.requires.passes c.remove-pass.ensures.items s.desks
+    (EachFrom-map _ (λ k r. IsRoom c.len-many.result r) (λ k r d. search rules) 1 _ c.in_ok-rooms.ensures.rooms) c.seat-waiting.ensures.seated in
     r.begin
 
 pub run_team-pass-requires-clause-numbered : goal.run_team-pass-requires-clause-numbered
@@ -48,30 +52,39 @@ run_team-pass-requires-clause-numbered g c κs within =
     let s = seats_of c.args.passes.now.items c.remove-pass.new.self.items c.in_ok-rooms.field-0.rooms.items c.seat-waiting.result.items c.len.result _
     c.remove-pass.ensures.items (sym c.args.passes.now.ok.0 ∙ c.requires.count) (c.len.ensures ∙ c.requires.count) c.in_ok-rooms.ensures.all
     c.seat-waiting.ensures.seated in
-    let r = seats_ready g.L.Links c.args.cell.now.links c.args.lines.now c.args.workers _ c.args.passes.now.items c.remove-pass.new.self.items _ _
-    c.requires.few c.len-2.ensures c.requires.passes c.remove-pass.ensures.items s.passes c.in_ok-rooms.ensures.rooms c.seat-waiting.ensures.seated in
+    let r = seats_ready g.L.Links c.args.cell.now.links c.args.lines.now c.args.workers c.len-many.result c.args.passes.now.items c.remove-pass.new.self.items _ _
+    c.requires.few c.len-many.ensures c.requires.passes c.remove-pass.ensures.items s.desks
+    (EachFrom-map _ (λ k r. IsRoom c.len-many.result r) (λ k r d. search rules) 1 _ c.in_ok-rooms.ensures.rooms) c.seat-waiting.ensures.seated in
     r.numbered
+
+pub seat-waiting-requires-clause-agents : goal.seat-waiting-requires-clause-agents
+seat-waiting-requires-clause-agents g c =
+    EachFrom-map (IsFreshPass g.L.Links c.args.cell.now.links) (IsUsablePassOf g.L.Links c.args.cell.now.links) (λ k p f. f.is_pass) 1 _
+    (EachFrom-rest (IsFreshPass g.L.Links c.args.cell.now.links) 0 _ _ c.remove-pass.ensures.items c.requires.passes)
 
 pub hand_back-requires : goal.hand_back-requires
 hand_back-requires g c = record {
-  passes = places_fit c.args.passes.now.len c.args.passes.now.cap c.remove-pass.new.self.cap c.seat-waiting.new.passes.cap c.push.new.self.cap
-      c.seat-waiting.new.passes.len _ c.push.new.self.len c.run_team-pass.result.workers.len _ _ c.args.passes.now.ok.1 c.requires.count
-      c.remove-pass.ensures.capacity c.seat-waiting.ensures.passes c.in-Ok.ensures.capacity c.seat-waiting.new.passes.ok.0
+  desks = places_fit c.args.passes.now.len c.args.passes.now.cap c.remove-pass.new.self.cap c.seat-waiting.new.desks.cap c.push.new.self.cap
+      c.seat-waiting.new.desks.len _ c.push.new.self.len c.run_team-pass.result.workers.len _ _ c.args.passes.now.ok.1 c.requires.count
+      c.remove-pass.ensures.capacity c.seat-waiting.ensures.desks c.in-Ok.ensures.capacity c.seat-waiting.new.desks.ok.0
       (ap length c.seat-waiting.ensures.none) c.in-Ok.ensures.len c.run_team-pass.result.workers.ok.0 c.run_team-pass.ensures.many;
-  replies = omega (arith, c.run_team-pass.ensures.few, c.in_ok-rooms.ensures.replies.spare, c.len-2.ensures);
+  replies =
+      let few : length (all_of (λ (w : Watcher g.row.L-Pass.Denot). w.replies.items) c.run_team-pass.result.workers.items) ≤ c.in_ok-replies.replies.spare =
+      omega (arith, c.run_team-pass.ensures.few, c.in_ok-replies.ensures.1, c.len-many.ensures) in
+      λ kind. few;
 }
 
 pub returns : goal.returns
 returns g c =
     let first : c.push.new.self.items ≡ c.run_team-pass.result.pass ∷ [] =
     c.in-Ok.ensures.items ∙ ap (λ (xs : List g.row.L-Pass.Denot). xs ++ c.run_team-pass.result.pass ∷ []) c.seat-waiting.ensures.none in
-    let passes : c.hand_back.new.passes.items ≡ (c.run_team-pass.result.pass ∷ []) ++ map (λ (w : Worker g.row.L-Pass.Denot). w.pass)
+    let passes : c.hand_back.new.desks.items ≡ (c.run_team-pass.result.pass ∷ []) ++ map (λ (w : Watcher g.row.L-Pass.Denot). w.desk)
     c.run_team-pass.result.workers.items =
-    c.hand_back.ensures.passes
-    ∙ ap (λ (xs : List g.row.L-Pass.Denot). xs ++ map (λ (w : Worker g.row.L-Pass.Denot). w.pass) c.run_team-pass.result.workers.items) first in
-    let replies = c.hand_back.ensures.replies
-    ∙ ap (λ (xs : List WatchReply). xs ++ all_of (λ (w : Worker g.row.L-Pass.Denot). w.replies.items) c.run_team-pass.result.workers.items)
-    c.in_ok-rooms.ensures.replies.none in
+    c.hand_back.ensures.desks
+    ∙ ap (λ (xs : List g.row.L-Pass.Denot). xs ++ map (λ (w : Watcher g.row.L-Pass.Denot). w.desk) c.run_team-pass.result.workers.items) first in
+    let replies = c.hand_back.ensures.replies tt
+    ∙ ap (λ (xs : List WatchReply). xs ++ all_of (λ (w : Watcher g.row.L-Pass.Denot). w.replies.items) c.run_team-pass.result.workers.items)
+    c.in_ok-replies.ensures.0 in
     let over = over_of g.L.Links c.args.cell.now.links c.args.lines.now c.args.workers c.run_team-pass.result.pass c.run_team-pass.result.now_left
     c.run_team-pass.result.now_right c.run_team-pass.result.workers.items _ _ c.run_team-pass.ensures.back c.run_team-pass.ensures.many passes replies in
     record { usable = over.usable; all = over.all; seen = over.seen; follows = over.follows; kept = tt }

@@ -1,19 +1,24 @@
-use Rattle.std.proofs.Common.{◌≡◌, ◌++◌, ◌∷◌, [], ap, sym, ◌∙◌, length, map, arith, List}
+use Rattle.std.proofs.Common.{rules, ◌≡◌, ◌≤◌, ◌++◌, ◌∷◌, [], ap, sym, ◌∙◌, length, map, arith, List, false, true}
 use Rattle.orc_board.specs.declared.desk.Desk.{Desk}
 use Rattle.orc_board.specs.declared.replies.PostReply.{PostReply}
 use Rattle.orc_board.specs.declared.replies.TakeReply.{TakeReply}
-use Rattle.orc_workers.specs.declared.team.Worker.{Worker}
-use Rattle.orc_workers.specs.Seats.{all_of}
+use Rattle.orc_board.specs.Desk.{IsDesk}
+use Rattle.orc_team.specs.Seats.{all_of}
+use Rattle.orc_team.proofs.Numbered.{EachFrom-map, EachFrom-rest}
+use Rattle.orc_team.proofs.Seats.{places_fit, room_done, seats_of}
+use Rattle.orc_workers.specs.Desks.{IsFreshDesk}
+use Rattle.orc_workers.specs.Seats.{IsRoom}
+use Rattle.orc_workers.specs.Team.{BoardWorker}
 use Rattle.orc_workers.proofs.CameBack.{for_both}
 use Rattle.orc_workers.proofs.Over.{over_of}
-use Rattle.orc_workers.proofs.Counts.{seats_of, room_done, places_fit}
-use Rattle.orc_workers.proofs.Rooms.{fresh_rest, fresh_agents, seats_ready}
+use Rattle.orc_workers.proofs.Seated.{seats_ready}
 use Rattle.orc_workers.proofs.board.run_at_desks.Goals as goal
 
 pub seat-waiting-requires-clause-agents : goal.seat-waiting-requires-clause-agents
 seat-waiting-requires-clause-agents g c =
-    fresh_agents g.Q.SharedQueue g.S.SharedSet c.args.queue.now c.args.rush.now c.args.set.now 1 _
-    (fresh_rest g.Q.SharedQueue g.S.SharedSet c.args.queue.now c.args.rush.now c.args.set.now 0 _ _ c.remove-desk.ensures.items c.requires.desks)
+    let F = IsFreshDesk g.Q.SharedQueue g.S.SharedSet c.args.queue.now c.args.rush.now c.args.set.now in
+    EachFrom-map F (IsDesk g.Q.SharedQueue g.S.SharedSet c.args.queue.now c.args.rush.now c.args.set.now) (λ k d f. f.is_desk) 1 _
+    (EachFrom-rest F 0 _ _ c.remove-desk.ensures.items c.requires.desks)
 
 pub run_seated-desk-requires-clause-room : goal.run_seated-desk-requires-clause-room
 run_seated-desk-requires-clause-room g c κs within =
@@ -35,58 +40,66 @@ run_seated-desk-requires-clause-count g c κs within =
 
 pub run_seated-desk-requires-clause-ready : goal.run_seated-desk-requires-clause-ready
 run_seated-desk-requires-clause-ready g c κs within =
-    let r = seats_ready g.Q.SharedQueue g.S.SharedSet c.args.queue.now c.args.rush.now c.args.set.now c.args.lines.now c.args.posters _ _ c.args.desks.now.items
-    c.remove-desk.new.self.items _ _
-    c.requires.good c.len-2.ensures c.count_jobs.ensures c.requires.desks c.remove-desk.ensures.items c.in_ok-rooms.ensures.rooms
+    let r = seats_ready g.Q.SharedQueue g.S.SharedSet c.args.queue.now c.args.rush.now c.args.set.now c.args.lines.now c.args.posters c.len-many.result
+    c.count_jobs-jobs.result c.args.desks.now.items c.remove-desk.new.self.items _ _ c.requires.good c.len-many.ensures c.count_jobs-jobs.ensures
+    c.requires.desks c.remove-desk.ensures.items
+    (EachFrom-map _ (IsRoom c.args.posters c.len-many.result c.count_jobs-jobs.result) (λ k r d. search rules) 1 _ c.in_ok-rooms.ensures.rooms)
     c.seat-waiting.ensures.seated in
     r.ready
 
 pub run_seated-desk-requires-clause-begin : goal.run_seated-desk-requires-clause-begin
 run_seated-desk-requires-clause-begin g c κs within =
-    let r = seats_ready g.Q.SharedQueue g.S.SharedSet c.args.queue.now c.args.rush.now c.args.set.now c.args.lines.now c.args.posters _ _ c.args.desks.now.items
-    c.remove-desk.new.self.items _ _
-    c.requires.good c.len-2.ensures c.count_jobs.ensures c.requires.desks c.remove-desk.ensures.items c.in_ok-rooms.ensures.rooms
+    let r = seats_ready g.Q.SharedQueue g.S.SharedSet c.args.queue.now c.args.rush.now c.args.set.now c.args.lines.now c.args.posters c.len-many.result
+    c.count_jobs-jobs.result c.args.desks.now.items c.remove-desk.new.self.items _ _ c.requires.good c.len-many.ensures c.count_jobs-jobs.ensures
+    c.requires.desks c.remove-desk.ensures.items
+    (EachFrom-map _ (IsRoom c.args.posters c.len-many.result c.count_jobs-jobs.result) (λ k r d. search rules) 1 _ c.in_ok-rooms.ensures.rooms)
     c.seat-waiting.ensures.seated in
     r.begin
 
 pub run_seated-desk-requires-clause-numbered : goal.run_seated-desk-requires-clause-numbered
 run_seated-desk-requires-clause-numbered g c κs within =
-    let r = seats_ready g.Q.SharedQueue g.S.SharedSet c.args.queue.now c.args.rush.now c.args.set.now c.args.lines.now c.args.posters _ _ c.args.desks.now.items
-    c.remove-desk.new.self.items _ _
-    c.requires.good c.len-2.ensures c.count_jobs.ensures c.requires.desks c.remove-desk.ensures.items c.in_ok-rooms.ensures.rooms
+    let r = seats_ready g.Q.SharedQueue g.S.SharedSet c.args.queue.now c.args.rush.now c.args.set.now c.args.lines.now c.args.posters c.len-many.result
+    c.count_jobs-jobs.result c.args.desks.now.items c.remove-desk.new.self.items _ _ c.requires.good c.len-many.ensures c.count_jobs-jobs.ensures
+    c.requires.desks c.remove-desk.ensures.items
+    (EachFrom-map _ (IsRoom c.args.posters c.len-many.result c.count_jobs-jobs.result) (λ k r d. search rules) 1 _ c.in_ok-rooms.ensures.rooms)
     c.seat-waiting.ensures.seated in
     r.numbered
 
 pub append-requires : goal.append-requires
-append-requires g c = omega (arith, c.run_seated-desk.ensures.few.1, c.in_ok-rooms.ensures.take_room, c.len-2.ensures)
+append-requires g c = omega (arith, c.run_seated-desk.ensures.few.1, c.in_ok-takes.ensures.1, c.len-many.ensures)
 
 pub hand_back-requires : goal.hand_back-requires
-hand_back-requires g c = record {
-  desks = places_fit c.args.desks.now.len c.args.desks.now.cap c.remove-desk.new.self.cap c.seat-waiting.new.desks.cap c.push.new.self.cap
-      c.seat-waiting.new.desks.len _ c.push.new.self.len c.run_seated-desk.result.workers.len _ _ c.args.desks.now.ok.1 c.requires.count
-      c.remove-desk.ensures.capacity c.seat-waiting.ensures.desks c.in-Ok.ensures.capacity c.seat-waiting.new.desks.ok.0
-      (ap length c.seat-waiting.ensures.none) c.in-Ok.ensures.len c.run_seated-desk.result.workers.ok.0 c.run_seated-desk.ensures.many;
-  posts = omega (arith, c.run_seated-desk.ensures.few.0, c.in_ok-rooms.ensures.post_room, c.len-2.ensures);
-  takes = omega (arith, c.run_seated-desk.ensures.few.1, c.in_ok-rooms.ensures.take_room, c.len-2.ensures, c.append.ensures.spare);
-}
+hand_back-requires g c =
+    let W : Type 0 = BoardWorker g.row.Q-Pass.Denot g.row.S-Pass.Denot in
+    let posts : length (all_of (λ (w : W). w.replies.posts.items) c.run_seated-desk.result.workers.items) ≤ c.in_ok-posts.posts.spare =
+    omega (arith, c.run_seated-desk.ensures.few.0, c.in_ok-posts.ensures.1, c.len-many.ensures) in
+    let takes : length (all_of (λ (w : W). w.replies.takes.items) c.run_seated-desk.result.workers.items) ≤ c.append.new.self.spare =
+    omega (arith, c.run_seated-desk.ensures.few.1, c.in_ok-takes.ensures.1, c.len-many.ensures, c.append.ensures.spare) in
+    record {
+      desks = places_fit c.args.desks.now.len c.args.desks.now.cap c.remove-desk.new.self.cap c.seat-waiting.new.desks.cap c.push.new.self.cap
+          c.seat-waiting.new.desks.len _ c.push.new.self.len c.run_seated-desk.result.workers.len _ _ c.args.desks.now.ok.1 c.requires.count
+          c.remove-desk.ensures.capacity c.seat-waiting.ensures.desks c.in-Ok.ensures.capacity c.seat-waiting.new.desks.ok.0
+          (ap length c.seat-waiting.ensures.none) c.in-Ok.ensures.len c.run_seated-desk.result.workers.ok.0 c.run_seated-desk.ensures.many;
+      replies = for_both _ posts takes;
+    }
 
 pub returns : goal.returns
 returns g c =
     let first : c.push.new.self.items ≡ c.run_seated-desk.result.desk ∷ [] =
     c.in-Ok.ensures.items
     ∙ ap (λ (xs : List (Desk g.row.Q-Pass.Denot g.row.S-Pass.Denot)). xs ++ c.run_seated-desk.result.desk ∷ []) c.seat-waiting.ensures.none in
-    let desks : c.hand_back.new.desks.items ≡ (c.run_seated-desk.result.desk ∷ []) ++ map (λ (w : Worker g.row.Q-Pass.Denot g.row.S-Pass.Denot). w.desk)
+    let desks : c.hand_back.new.desks.items ≡ (c.run_seated-desk.result.desk ∷ []) ++ map (λ (w : BoardWorker g.row.Q-Pass.Denot g.row.S-Pass.Denot). w.desk)
     c.run_seated-desk.result.workers.items =
     c.hand_back.ensures.desks
-    ∙ ap (λ (xs : List (Desk g.row.Q-Pass.Denot g.row.S-Pass.Denot)). xs ++ map (λ (w : Worker g.row.Q-Pass.Denot g.row.S-Pass.Denot). w.desk)
+    ∙ ap (λ (xs : List (Desk g.row.Q-Pass.Denot g.row.S-Pass.Denot)). xs ++ map (λ (w : BoardWorker g.row.Q-Pass.Denot g.row.S-Pass.Denot). w.desk)
     c.run_seated-desk.result.workers.items) first in
-    let posts = c.hand_back.ensures.posts
-    ∙ ap (λ (xs : List PostReply). xs ++ all_of (λ (w : Worker g.row.Q-Pass.Denot g.row.S-Pass.Denot). w.posts.items)
-    c.run_seated-desk.result.workers.items) c.in_ok-rooms.ensures.no_posts in
-    let takes = c.hand_back.ensures.takes
-    ∙ ap (λ (xs : List TakeReply). xs ++ all_of (λ (w : Worker g.row.Q-Pass.Denot g.row.S-Pass.Denot). w.takes.items)
+    let posts = c.hand_back.ensures.replies false
+    ∙ ap (λ (xs : List PostReply). xs ++ all_of (λ (w : BoardWorker g.row.Q-Pass.Denot g.row.S-Pass.Denot). w.replies.posts.items)
+    c.run_seated-desk.result.workers.items) c.in_ok-posts.ensures.0 in
+    let takes = c.hand_back.ensures.replies true
+    ∙ ap (λ (xs : List TakeReply). xs ++ all_of (λ (w : BoardWorker g.row.Q-Pass.Denot g.row.S-Pass.Denot). w.replies.takes.items)
     c.run_seated-desk.result.workers.items)
-    (c.append.ensures.items ∙ ap (λ (xs : List TakeReply). xs ++ c.run_seated-desk.result.takes.items) c.in_ok-rooms.ensures.no_takes) in
+    (c.append.ensures.items ∙ ap (λ (xs : List TakeReply). xs ++ c.run_seated-desk.result.takes.items) c.in_ok-takes.ensures.0) in
     let over = over_of g.Q.SharedQueue g.S.SharedSet c.args.queue.now c.args.rush.now c.args.set.now c.args.lines.now c.args.posters c.args.takers
     c.run_seated-desk.result.desk c.run_seated-desk.result.takes.items c.run_seated-desk.result.workers.items _ _ _
     c.requires.posters c.requires.good.few (for_both _ c.requires.first.0 c.requires.first.1) c.run_seated-desk.ensures.many c.run_seated-desk.ensures.back desks posts takes in

@@ -5,8 +5,9 @@ use Rattle.orc_board.specs.Follows.{TakingRest, IsWorker}
 use Rattle.orc_workers.specs.Learning.{LawsTell}
 use Rattle.orc_board.proofs.ListFacts.{AllByRecursion-map}
 use Rattle.orc_board.proofs.Wholes.{Below}
-use Rattle.orc_workers.proofs.Teams.{team_did}
-use Rattle.orc_workers.proofs.CameBack.{for_both, Laws, others_after, came_back, none_at_start, rest_last, below_of, crowd_in_run, known_as}
+use Rattle.orc_team.proofs.Learned.{none_at_start}
+use Rattle.orc_team.proofs.Teams.{team_did}
+use Rattle.orc_workers.proofs.CameBack.{for_both, Laws, others_after, came_back, rest_last, below_of, crowd_in_run, known_as}
 use Rattle.orc_workers.proofs.Over.{few_replies}
 use Rattle.orc_workers.proofs.board.run_seated.Goals as goal
 
@@ -31,23 +32,25 @@ returns-clause-back g c =
     let e3 = c.learn_from_team-2.ensures in
     let N = c.args.posters + c.args.takers in
     let C = IsWorker c.args.posters c.args.takers in
+    let known1 = c.tell_laws.ensures in
+    let known3 = c.tell_laws-2.ensures in
     let laws : Laws qv sv C = record {
-      queues_grow = e1.known.queues_grow;
-      set_grows = e1.known.set_grows;
+      queues_grow = known1.queues_grow;
+      set_grows = known1.set_grows;
       queues_few = for_both (λ b. Below (qv b).crowd C)
-          (crowd_in_run (g.Q.SharedQueue.crowd queue) _ _ _ c.requires.agents.0 (e1.known.queues_crowd false))
-          (crowd_in_run (g.Q.SharedQueue.crowd rush) _ _ _ c.requires.agents.1 (e1.known.queues_crowd true));
-      set_few = crowd_in_run (g.S.SharedSet.crowd set) _ _ _ c.requires.agents.2 e1.known.set_crowd;
-      queues_none = λ b. none_at_start (qv b).history (e1.known.queues_grow b) _ (c.requires.desk.queues_new b);
-      set_none = none_at_start sv.history e1.known.set_grows _ c.requires.desk.set_new;
+          (crowd_in_run (g.Q.SharedQueue.crowd queue) _ _ _ c.requires.agents.0 (known1.queues_crowd false))
+          (crowd_in_run (g.Q.SharedQueue.crowd rush) _ _ _ c.requires.agents.1 (known1.queues_crowd true));
+      set_few = crowd_in_run (g.S.SharedSet.crowd set) _ _ _ c.requires.agents.2 known1.set_crowd;
+      queues_none = λ b. none_at_start (qv b).history (known1.queues_grow b) _ (c.requires.desk.queues_new b);
+      set_none = none_at_start sv.history known1.set_grows _ c.requires.desk.set_new;
     } in
     let below1 = below_of g.Q.SharedQueue g.S.SharedSet queue rush set c.args.posters c.args.takers _ _ _ d1 c.requires.agents.0 c.requires.agents.1
-    c.requires.agents.2 e1.known in
+    c.requires.agents.2 known1 in
     let below3 = below_of g.Q.SharedQueue g.S.SharedSet queue rush set c.args.posters c.args.takers _ _ _ d3 c.requires.agents.0 c.requires.agents.1
-    c.requires.agents.2 e3.known in
+    c.requires.agents.2 known3 in
     let known : LawsTell g.Q.SharedQueue g.S.SharedSet queue rush set (suc N) (suc N) (suc N) d3 =
     known_as g.Q.SharedQueue g.S.SharedSet queue rush set _ _ _ _ d3 (omega (arith, c.requires.agents.0)) (omega (arith, c.requires.agents.1))
-    (omega (arith, c.requires.agents.2)) e3.known in
+    (omega (arith, c.requires.agents.2)) known3 in
     let taking = subst (λ (a : ℕ). TakingRest qv sv c.args.lines.now 0 a c.take_rest.new.replies.items (seen_in g.Q.SharedQueue d1)
     (g.S.SharedSet.journal d1.set) (seen_in g.Q.SharedQueue c.take_rest.new.desk) (g.S.SharedSet.journal c.take_rest.new.desk.set))
     e1.desk.queue_agent c.take_rest.ensures.taking in
@@ -58,7 +61,7 @@ returns-clause-back g c =
     c.take_rest.new.replies.items _ _ _ _
     laws below1 below3 c.requires.desk.queues_new c.requires.desk.set_new c.requires.numbered c.requires.count c.requires.begin
     (team_did _ _ _ _ _ _ (λ w v d. search rules) c.requires.room.1 c.run_workers-workers.ensures.team)
-    e1.queues e1.set e1.same taking last e3.queues e3.set e3.same e3.desk known e3.others
+    e1.learned e1.same taking last e3.learned e3.same e3.desk known e3.others
 
 pub returns-clause-many : goal.returns-clause-many
 returns-clause-many g c =

@@ -8,7 +8,7 @@ pub returns-else-agent-posters : goal.returns-else-agent-posters
 returns-else-agent-posters g c =
     let r = c.requires.ready in
     let e = c.run_taker-desk.ensures in
-    let none : length c.args.worker.posts.items ≡ 0 = ap length r.no_posts in
+    let none : length c.args.worker.replies.posts.items ≡ 0 = ap length r.no_posts in
     let more : c.args.posters < c.args.worker.agent = omega (arith, c.if-agent-posters.false) in
     record {
       agent_is = refl;

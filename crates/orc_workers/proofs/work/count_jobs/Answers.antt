@@ -1,5 +1,5 @@
 use Rattle.std.proofs.Common.{arith}
-use Rattle.orc_workers.proofs.Rooms.{step_known}
+use Rattle.orc_workers.proofs.Seated.{step_known}
 use Rattle.orc_workers.proofs.work.count_jobs.Goals as goal
 
 pub loop-index-preserved : goal.loop-index-preserved

@@ -1,5 +1,0 @@
-use Rattle.std.proofs.Common.{length}
-use Rattle.orc_stages.proofs.seating.+seat.Given as goal
-
-abbrev pub decreases-seat : goal.decreases-seat
-decreases-seat g l = length l.rooms.items

@@ -1,0 +1,7 @@
+pub mod Teams
+pub mod Lessons
+pub mod Numbered
+pub mod Blocks
+pub mod Seats
+pub mod Learned
+pub mod CameBack

@@ -1,0 +1,4 @@
+pub mod Team
+pub mod Site
+pub mod Seats
+pub mod Learning
