@@ -1,53 +1,57 @@
--- What a call at a set entered, as its domain tells it, told of the same domain by its owner's name.
+-- What a call at a container entered, as its domain tells it, told of the same domain by its owner's name.
 use Rattle.std.proofs.Common.{List, [], length, refl, subst, sym, ℕ, ◌<◌, ◌≡◌}
+use Rattle.std.specs.List.{AllByRecursion}
 use Rattle.orc_core.specs.declared.records.Agent.{Agent}
+use Rattle.orc_domain.specs.Laws.Passes.{all_allowed, all_below}
+use Rattle.orc_domain.specs.Passes.{IsPassOf, domain_bounds, domain_numbers, journal_of, seat_of}
+use Rattle.orc_domain.specs.declared.domain.OrcDomain.{OrcDomain}
+use Rattle.orc_domain.specs.declared.domain.OrcPass.{OrcPass}
+use Rattle.orc_heap.specs.Heap.{HeapNumbers}
+use Rattle.orc_heap.specs.OwnEvents.{Only}
 use Rattle.orc_heap.specs.declared.discipline.Discipline as discipline
 use Rattle.orc_heap.specs.declared.events.Event.{Event}
 use Rattle.orc_history.specs.Journals.{Adds, Within}
-use Rattle.orc_history.specs.SetHistory.{IsLegalSet, agent_of_set_entry}
-use Rattle.orc_history.specs.declared.set.ListRefused.{ListRefused}
-use Rattle.orc_history.specs.declared.set.SetEntry.{SetEntry}
 use Rattle.orc_machine_board.specs.declared.machine.MachineShape.{MachineShape}
 use Rattle.orc_machine_board.specs.declared.machine.Reclaiming.{Reclaiming}
 use Rattle.orc_machine_board.specs.declared.machine.Request.{Request}
-use Rattle.orc_projection.specs.Projection.{project}
-use Rattle.orc_domain.specs.Passes.{domain_bounds, journal_of, seat_of}
-use Rattle.orc_domain.specs.declared.domain.OrcDomain.{OrcDomain}
-use Rattle.orc_domain.specs.declared.domain.OrcPass.{OrcPass}
 use Rattle.orc_shared_words.specs.declared.machine.Machine as machine
 use Rattle.orc_sound.specs.declared.steps.Step.{Step}
-use Rattle.mooringakee_c_passes.specs.SetCalls.{GoesOn, RefusesCall, CallView}
-use Rattle.mooringakee_c_passes.specs.SetViews.{set_view}
+use Rattle.mooringakee_c_passes.specs.Kinds.{Kind, calls_in, view_of}
+use Rattle.mooringakee_c_passes.specs.Views.{GoesOn, RefusesCall}
+use Rattle.mooringakee_c_passes.proofs.Quiet.{enters_none}
 
-module _ {D N : Type 0} {d : discipline.Ghosts D N} {m : machine.Ghosts Reclaiming N (MachineShape N) Request (Step N) Agent Agent}
-    (entries : List (Event N) → List SetEntry) (cause : OrcDomain D N → ℕ → ℕ → ListRefused → List (Step N) → ℕ → ℕ → Type 0)
-    (x y : OrcDomain D N) (is : x ≡ y) (turns : ℕ) (old new : OrcPass D N (MachineShape N) Request (Step N) Agent Agent d m)
-    (legal : IsLegalSet (entries (project (domain_bounds x) (journal_of new)))) (agent : (seat_of x new).agent ≡ (seat_of x old).agent)
+module _ {D N E W : Type 0} {d : discipline.Ghosts D N} {m : machine.Ghosts Reclaiming N (MachineShape N) Request (Step N) Agent Agent}
+    (kind : Kind D N E W) (x y : OrcDomain D N) (is : x ≡ y) (turns : ℕ) (old new : OrcPass D N (MachineShape N) Request (Step N) Agent Agent d m)
+    (legal : kind.IsLegal (calls_in kind x (journal_of new))) (agent : (seat_of x new).agent ≡ (seat_of x old).agent)
   where
-    -- the entries that a pass has seen
-    abbrev seen : OrcPass D N (MachineShape N) Request (Step N) Agent Agent d m → List SetEntry
-    seen p = entries (project (domain_bounds x) (journal_of p))
+    -- the call's own entries are these
+    abbrev AddsOwn : List E → Type 0
+    AddsOwn own = Adds kind.agent_of (λ (by : ℕ). by < (domain_bounds x).agents) (seat_of x old).agent (calls_in kind x (journal_of old)) own
+        (calls_in kind x (journal_of new))
 
-    -- what the pass shows before the call and after it
-    abbrev before : OrcDomain D N → CallView
-    before z = set_view entries cause z turns old
-
-    abbrev after : OrcDomain D N → CallView
-    after z = set_view entries cause z turns new
-
-    at_this : (own : List SetEntry) → Adds agent_of_set_entry (λ (by : ℕ). by < (domain_bounds x).agents) (seat_of x old).agent (seen old) own (seen new)
-        → GoesOn (before x) own (after x)
+    at_this : (own : List E) → AddsOwn own → GoesOn (view_of kind x turns old) own (view_of kind x turns new)
     at_this own adds = record { turns = refl; agent = agent; entered = adds; legal = legal }
 
-    pub entered : (own : List SetEntry) → Adds agent_of_set_entry (λ (by : ℕ). by < (domain_bounds x).agents) (seat_of x old).agent (seen old) own (seen new)
-        → GoesOn (before y) own (after y)
-    entered own adds = subst (λ (z : OrcDomain D N). GoesOn (before z) own (after z)) is (at_this own adds)
+    pub entered : (own : List E) → AddsOwn own → GoesOn (view_of kind y turns old) own (view_of kind y turns new)
+    entered own adds = subst (λ (z : OrcDomain D N). GoesOn (view_of kind z turns old) own (view_of kind z turns new)) is (at_this own adds)
 
-    pub refused : (why : ListRefused)
-        → Adds agent_of_set_entry (λ (by : ℕ). by < (domain_bounds x).agents) (seat_of x old).agent (seen old) [] (seen new)
-        → Within (length (journal_of old)) (length (journal_of new)) (cause x (seat_of x old).agent turns why (journal_of new))
-        → RefusesCall (before y) why (after y)
-    refused why adds because = subst (λ (z : OrcDomain D N). RefusesCall (before z) why (after z)) is (record {
+    pub refused : (why : W) → AddsOwn []
+        → Within (length (journal_of old)) (length (journal_of new)) (kind.cause x (seat_of x old).agent turns why (journal_of new))
+        → RefusesCall (view_of kind y turns old) why (view_of kind y turns new)
+    refused why adds because = subst (λ (z : OrcDomain D N). RefusesCall (view_of kind z turns old) why (view_of kind z turns new)) is (record {
       none = at_this [] adds;
-      cause = subst (λ (n : ℕ). Within (length (journal_of old)) (length (journal_of new)) (cause x n turns why (journal_of new))) (sym agent) because;
+      cause = subst (λ (n : ℕ). Within (length (journal_of old)) (length (journal_of new)) (kind.cause x n turns why (journal_of new))) (sym agent) because;
     })
+
+module _ {D N E W : Type 0} {d : discipline.Ghosts D N} {m : machine.Ghosts Reclaiming N (MachineShape N) Request (Step N) Agent Agent}
+    (kind : Kind D N E W)
+    (own : (n : HeapNumbers) (es : List (Event N)) (e : Event N) → d.may n es e → AllByRecursion (λ (x : E). kind.agent_of x ≡ e.agent) (kind.entries_in e.note))
+    (x : OrcDomain D N) (turns : ℕ) (old new : OrcPass D N (MachineShape N) Request (Step N) Agent Agent d m)
+  where
+    -- a pass that makes no event enters nothing
+    pub quiet : kind.IsLegal (calls_in kind x (journal_of new)) → IsPassOf x new → Only [] (seat_of x old) (seat_of x new)
+        → GoesOn (view_of kind x turns old) [] (view_of kind x turns new)
+    quiet legal belongs only =
+        entered kind x x refl turns old new legal only.puts.agent []
+        (enters_none kind.entries_in kind.agent_of (d.may (domain_numbers x)) (own (domain_numbers x)) (domain_bounds x).agents (seat_of x old)
+        (seat_of x new) only (all_allowed x new belongs) (all_below x new belongs).1)

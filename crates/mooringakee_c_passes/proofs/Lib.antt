@@ -1,13 +1,14 @@
 pub mod Entering
+pub mod Histories
 pub mod Lists
 pub mod NewPasses
+pub mod NewPlaces
 pub mod Pointers
 pub mod Powers
-pub mod QueuePlaces
+pub mod QueueAnswers
 pub mod Quiet
 pub mod Results
 pub mod SamePlaces
 pub mod Saying
 pub mod SetAnswers
-pub mod SetPlaces
-pub mod SplitPlaces
+pub mod Settled

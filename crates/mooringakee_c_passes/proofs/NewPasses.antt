@@ -1,5 +1,5 @@
 -- New places make new passes.
-use Rattle.std.proofs.Common.{Box, List, Some, [], arith, length, slice_index_or, subst, ℕ, ◌<◌, ◌∙◌, ◌∷◌, ◌≡◌}
+use Rattle.std.proofs.Common.{Box, List, Some, [], arith, length, slice_index_or, ℕ, ◌<◌, ◌∙◌, ◌∷◌, ◌≡◌}
 use Rattle.std.specs.Global.{Global}
 use Rattle.orc_domain.specs.Passes.{domain_bounds}
 use Rattle.orc_domain.specs.declared.domain.OrcDomain.{OrcDomain}
@@ -13,15 +13,6 @@ use Rattle.mooringakee_c_passes.specs.declared.seat.Seat.{Seat}
 element : {A : Type 0} (xs : List A) (i : ℕ) → i < length xs → A
 element [] i low = absurd (omega (arith, low))
 element (x ∷ xs) i low = x
-
--- places of passes that are in order are those of their agents
-pub in_order : {A : Type 0} (passes : List A) (seats : List (Box Seat Global)) (IsNew : ℕ → Seat → Type 0) (agent_of : A → ℕ) → length seats ≡ length passes
-    → EachAt (λ i p. agent_of p ≡ i) passes → EachAt (λ i b. (p : A) → IsNew (agent_of (slice_index_or passes i p)) b.value) seats
-    → EachAt (λ agent b. IsNew agent b.value) seats
-in_order passes seats IsNew agent_of many order places i b low =
-    let before : i < length passes = omega (arith, low, many) in
-    let p = element passes i before in
-    subst (λ (agent : ℕ). IsNew agent (slice_index_or seats i b).value) (order i p before) (places i b low p)
 
 -- each pass stands for the place that was made for it
 abbrev AreHeld : List (Box Seat Global) → List Pass → Type 0

@@ -11,13 +11,7 @@ use Rattle.orc_domain.specs.declared.domain.OrcDomain.{OrcDomain}
 use Rattle.orc_domain.specs.declared.domain.OrcPass.{OrcPass}
 use Rattle.orc_shared_words.specs.declared.machine.Machine as machine
 use Rattle.orc_sound.specs.declared.steps.Step.{Step}
-use Rattle.mooringakee_c_passes.specs.Ending.{ArePlacesOf}
 use Rattle.mooringakee_c_passes.specs.Usable.{CanBeUsed}
-
--- the same places, of the same domain
-pub places_later : {D N : Type 0} {d e : OrcDomain D N} {ps qs : List (OrcDomain D N)} → ArePlacesOf d ps → d ≡ e → ps ≡ qs → ArePlacesOf e qs
-places_later {D} {N} {d} {e} {ps} {qs} h domain places =
-    subst (λ (xs : List (OrcDomain D N)). ArePlacesOf e xs) places (subst (λ (x : OrcDomain D N). ArePlacesOf x ps) domain h)
 
 module _ {D N : Type 0} {d : discipline.Ghosts D N} {m : machine.Ghosts Reclaiming N (MachineShape N) Request (Step N) Agent Agent} where
   -- a pass of the same domain, as it is and with its places
@@ -28,3 +22,17 @@ module _ {D N : Type 0} {d : discipline.Ghosts D N} {m : machine.Ghosts Reclaimi
   pub used_by : {x y : OrcDomain D N} {rooms : List (OrcDomain D N)} (p : OrcPass D N (MachineShape N) Request (Step N) Agent Agent d m) → x ≡ y
       → CanBeUsed x rooms p → CanBeUsed y rooms p
   used_by {x} {y} {rooms} p is can = subst (λ (z : OrcDomain D N). CanBeUsed z rooms p) is can
+
+  -- a pass that goes on can be used as before
+  pub still_used : {x y : OrcDomain D N} {rooms : List (OrcDomain D N)} {old : OrcPass D N (MachineShape N) Request (Step N) Agent Agent d m}
+      (p : OrcPass D N (MachineShape N) Request (Step N) Agent Agent d m) → x ≡ y → CanBeUsed y rooms old → IsPassOf x p × IsIdle (seat_of x p)
+      → CanBeUsed y rooms p
+  still_used p is before now =
+      let here = usable_by p is now.0 now.1 in
+      record { belongs = here.0; idle = here.1; places = before.places }
+
+  -- and what else is true
+  pub used_after : {x y : OrcDomain D N} {rooms : List (OrcDomain D N)} {old : OrcPass D N (MachineShape N) Request (Step N) Agent Agent d m} {Z : Type 0}
+      (p : OrcPass D N (MachineShape N) Request (Step N) Agent Agent d m) → x ≡ y → CanBeUsed y rooms old × Z → IsPassOf x p × IsIdle (seat_of x p)
+      → CanBeUsed y rooms p × Z
+  used_after p is before now = (still_used p is before.0 now, before.1)

@@ -1,14 +1,13 @@
 pub mod Codes
 pub mod Ending
 pub mod Held
+pub mod Kinds
 pub mod Making
+pub mod Places
 pub mod QueueCalls
-pub mod QueueSeats
 pub mod Seats
 pub mod SetCalls
-pub mod SetSeats
-pub mod SetViews
 pub mod Settling
 pub mod SplitCalls
-pub mod SplitSeats
 pub mod Usable
+pub mod Views

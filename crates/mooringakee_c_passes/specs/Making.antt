@@ -1,5 +1,5 @@
 -- What making a container answers, by the passes at which it is to be made before it, `old`, and after it, `new`.
-use Rattle.std.specs.Prelude.{All, List, None, Some, [], length, ℕ, ◌+◌, ◌^◌, ◌≡◌, ◌≤◌}
+use Rattle.std.specs.Prelude.{All, List, None, Some, length, ℕ, ◌+◌, ◌^◌, ◌≡◌, ◌≤◌}
 use Rattle.orc_chain_rule.specs.declared.chain.Chain.{Chain}
 use Rattle.orc_chain_rule.specs.declared.chain.ChainNote.{ChainNote}
 use Rattle.orc_fifo_rule.specs.declared.fifo.Fifo.{Fifo}
@@ -11,17 +11,13 @@ use Rattle.orc_split_rule.specs.SplitDiscipline.{IsSize}
 use Rattle.orc_split_rule.specs.declared.split.Split.{Split as SplitRule}
 use Rattle.orc_split_rule.specs.declared.split.SplitNote.{SplitNote}
 use Rattle.orc_words.specs.Bounds.{Bounds, IsShape}
+use Rattle.mooringakee_c_passes.specs.Kinds.{BeginsAtZero, queue, set, split}
+use Rattle.mooringakee_c_passes.specs.Places.{IsNewPlace}
 use Rattle.mooringakee_c_passes.specs.declared.answer.Answer.{Answer}
 use Rattle.mooringakee_c_passes.specs.declared.answer.Answer.TheVariants.{Done, Live, NoMemory, Shape}
 use Rattle.mooringakee_c_passes.specs.declared.pass.Pass.{Pass}
-use Rattle.mooringakee_c_passes.specs.declared.queue.QueueSeat.{QueueSeat}
-use Rattle.mooringakee_c_passes.specs.declared.set.SetSeat.{SetSeat}
-use Rattle.mooringakee_c_passes.specs.declared.split.SplitSeat.{SplitSeat}
 use Rattle.mooringakee_c_passes.specs.declared.seat.Seat.{Seat}
 use Rattle.mooringakee_c_passes.specs.declared.seat.Seat.TheVariants.{Queue, Set, Split}
-use Rattle.mooringakee_c_passes.specs.QueueSeats.{IsQueueSeat, agent_at, calls_seen, queue_domain}
-use Rattle.mooringakee_c_passes.specs.SetSeats.{IsSetSeat, agent_at as set_agent_at, calls_seen as set_calls_seen, set_domain}
-use Rattle.mooringakee_c_passes.specs.SplitSeats.{IsSplitSeat, agent_at as split_agent_at, calls_seen as split_calls_seen, split_domain}
 
 -- the sizes of a container with so many rows, roots and agents
 abbrev pub sizes_of : ℕ → ℕ → ℕ → Bounds
@@ -45,14 +41,9 @@ AreNewPasses {D} {N} IsNew sizes passes = (domain : OrcDomain D N) × (domain_bo
     × EachAt (λ agent p. (seat : Seat) × (p.pointer.seat ≡ Some seat) × IsNew domain agent seat) passes
 
 -- the agent's place at a new queue over this domain, whose calls have so many turns
-pub record IsNewQueueSeat (domain : OrcDomain Fifo FifoNote) (turns agent : ℕ) (seat : Seat) : Type 0 where
-  pub place : QueueSeat
-  pub is : seat ≡ Queue place
-  pub usable : IsQueueSeat place
-  pub domain_is : queue_domain place ≡ domain
-  pub turns_are : place.turns ≡ turns
-  pub agent_is : agent_at place ≡ agent
-  pub none : calls_seen place ≡ []
+abbrev pub IsNewQueueSeat : OrcDomain Fifo FifoNote → ℕ → ℕ → Seat → Type 0
+IsNewQueueSeat domain turns agent (Queue s) = IsNewPlace queue domain turns agent s.container.value.links s × BeginsAtZero domain
+IsNewQueueSeat domain turns agent _ = ⊥
 
 -- a pass for each agent, in order, to one new queue
 abbrev pub AreNewQueuePasses : ℕ → ℕ → List Pass → Type 0
@@ -60,14 +51,9 @@ AreNewQueuePasses rows turns passes =
     AreNewPasses (λ domain agent seat. IsNewQueueSeat domain turns agent seat) (sizes_of rows 2 (length passes)) passes
 
 -- the agent's place at a new set over this domain, whose calls have so many turns
-pub record IsNewSetSeat (domain : OrcDomain Chain ChainNote) (turns agent : ℕ) (seat : Seat) : Type 0 where
-  pub place : SetSeat
-  pub is : seat ≡ Set place
-  pub usable : IsSetSeat place
-  pub domain_is : set_domain place ≡ domain
-  pub turns_are : place.turns ≡ turns
-  pub agent_is : set_agent_at place ≡ agent
-  pub none : set_calls_seen place ≡ []
+abbrev pub IsNewSetSeat : OrcDomain Chain ChainNote → ℕ → ℕ → Seat → Type 0
+IsNewSetSeat domain turns agent (Set s) = IsNewPlace set domain turns agent s.container.value.list.links s
+IsNewSetSeat domain turns agent _ = ⊥
 
 -- a pass for each agent, in order, to one new set
 abbrev pub AreNewSetPasses : ℕ → ℕ → ℕ → List Pass → Type 0
@@ -75,14 +61,9 @@ AreNewSetPasses rows buckets turns passes =
     AreNewPasses (λ domain agent seat. IsNewSetSeat domain turns agent seat) (sizes_of rows buckets (length passes)) passes
 
 -- the agent's place at a new split-ordered set over this domain, whose calls have so many turns
-pub record IsNewSplitSeat (domain : OrcDomain SplitRule SplitNote) (turns agent : ℕ) (seat : Seat) : Type 0 where
-  pub place : SplitSeat
-  pub is : seat ≡ Split place
-  pub usable : IsSplitSeat place
-  pub domain_is : split_domain place ≡ domain
-  pub turns_are : place.turns ≡ turns
-  pub agent_is : split_agent_at place ≡ agent
-  pub none : split_calls_seen place ≡ []
+abbrev pub IsNewSplitSeat : OrcDomain SplitRule SplitNote → ℕ → ℕ → Seat → Type 0
+IsNewSplitSeat domain turns agent (Split s) = IsNewPlace split domain turns agent s.container.value.links s
+IsNewSplitSeat domain turns agent _ = ⊥
 
 -- a pass for each agent, in order, to one new split-ordered set
 abbrev pub AreNewSplitPasses : ℕ → ℕ → ℕ → List Pass → Type 0

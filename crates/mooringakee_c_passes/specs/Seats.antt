@@ -1,39 +1,42 @@
 -- An agent's place at a container of any kind, and what a call through a pass answers.
 use Rattle.std.specs.Prelude.{None, Option, Some, ◌≡◌}
+use Rattle.mooringakee_c_passes.specs.Kinds.{BeginsAtZero, queue, set, split, view_of}
+use Rattle.mooringakee_c_passes.specs.Places.{IsPlace}
+use Rattle.mooringakee_c_passes.specs.QueueCalls.{QueueView}
+use Rattle.mooringakee_c_passes.specs.SetCalls.{SetView}
+use Rattle.mooringakee_c_passes.specs.SplitCalls.{SplitView, split_view}
 use Rattle.mooringakee_c_passes.specs.declared.answer.Answer.{Answer}
 use Rattle.mooringakee_c_passes.specs.declared.answer.Answer.TheVariants.{Kind, NoPass}
-use Rattle.mooringakee_c_passes.specs.declared.queue.QueueSeat.{QueueSeat}
-use Rattle.mooringakee_c_passes.specs.declared.split.SplitSeat.{SplitSeat}
 use Rattle.mooringakee_c_passes.specs.declared.seat.Seat.{Seat}
 use Rattle.mooringakee_c_passes.specs.declared.seat.Seat.TheVariants.{Queue, Set, Split}
-use Rattle.mooringakee_c_passes.specs.QueueSeats.{IsQueueSeat}
-use Rattle.mooringakee_c_passes.specs.SetCalls.{CallView}
-use Rattle.mooringakee_c_passes.specs.SetSeats.{IsSetSeat, chain_view}
-use Rattle.mooringakee_c_passes.specs.SplitSeats.{IsSplitSeat, split_view}
 
--- it can be used
+-- it can be used, and positions of a queue begin with 0
 abbrev pub IsSeat : Seat → Type 0
-IsSeat (Queue s) = IsQueueSeat s
-IsSeat (Set s) = IsSetSeat s
-IsSeat (Split s) = IsSplitSeat s
+IsSeat (Queue s) = IsPlace s.container.value.links s × BeginsAtZero s.container.value.links
+IsSeat (Set s) = IsPlace s.container.value.list.links s
+IsSeat (Split s) = IsPlace s.container.value.links s
 
--- a call at a queue: a place at a set of any kind stays as it is
-abbrev pub AtQueue : (QueueSeat → Answer → QueueSeat → Type 0) → Seat → Answer → Seat → Type 0
-AtQueue call (Queue old) answer (Queue new) = call old answer new
+-- a call at a queue: the queue is the same, and a place at a set of any kind stays as it is
+abbrev pub AtQueue : (QueueView → Answer → QueueView → Type 0) → Seat → Answer → Seat → Type 0
+AtQueue call (Queue old) answer (Queue new) = (new.container ≡ old.container)
+    × call (view_of queue old.container.value.links old.turns old.pass) answer (view_of queue new.container.value.links new.turns new.pass)
 AtQueue call (Set old) Kind (Set new) = new ≡ old
 AtQueue call (Split old) Kind (Split new) = new ≡ old
 AtQueue call _ _ _ = ⊥
 
 -- a call at a set of any kind: the set is the same, and a place at a queue stays as it is
-abbrev pub AtSet : (CallView → Answer → CallView → Type 0) → Seat → Answer → Seat → Type 0
-AtSet call (Set old) answer (Set new) = (new.share ≡ old.share) × call (chain_view old) answer (chain_view new)
-AtSet call (Split old) answer (Split new) = (new.share ≡ old.share) × call (split_view old) answer (split_view new)
+abbrev pub AtSet : (SetView → Answer → SetView → Type 0) → Seat → Answer → Seat → Type 0
+AtSet call (Set old) answer (Set new) = (new.container ≡ old.container)
+    × call (view_of set old.container.value.list.links old.turns old.pass) answer (view_of set new.container.value.list.links new.turns new.pass)
+AtSet call (Split old) answer (Split new) = (new.container ≡ old.container)
+    × call (view_of split old.container.value.links old.turns old.pass) answer (view_of split new.container.value.links new.turns new.pass)
 AtSet call (Queue old) Kind (Queue new) = new ≡ old
 AtSet call _ _ _ = ⊥
 
--- a call at a split-ordered set: a place at another container stays as it is
-abbrev pub AtSplit : (SplitSeat → Answer → SplitSeat → Type 0) → Seat → Answer → Seat → Type 0
-AtSplit call (Split old) answer (Split new) = call old answer new
+-- a call at a split-ordered set: the set is the same, and a place at another container stays as it is
+abbrev pub AtSplit : (SplitView → Answer → SplitView → Type 0) → Seat → Answer → Seat → Type 0
+AtSplit call (Split old) answer (Split new) = (new.container ≡ old.container)
+    × call (split_view old.container.value.links old.turns old.pass) answer (split_view new.container.value.links new.turns new.pass)
 AtSplit call (Queue old) Kind (Queue new) = new ≡ old
 AtSplit call (Set old) Kind (Set new) = new ≡ old
 AtSplit call _ _ _ = ⊥

@@ -19,7 +19,7 @@ use std::alloc::Global;
 use std::sync::Arc;
 
 /// The rule of passes that are given back: each is one of the domain, and idle.
-pub(crate) struct Idle;
+pub struct Idle;
 
 impl<D: Discipline> Keeps<OrcPass<D>> for Idle {
     type Tag = OrcDomain<D>;

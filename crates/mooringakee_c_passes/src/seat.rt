@@ -8,20 +8,22 @@ ghost use Rattle.mooringakee_c_passes.specs.Settling.{SettlesPass, TellsCounts, 
 ghost use Rattle.mooringakee_c_passes.specs.SplitCalls.{CountsBuckets};
 
 use crate::answer::Answer;
-use crate::queue::QueueSeat;
-use crate::set::SetSeat;
+use crate::on_domain::ReclaimingSet;
+use crate::place::PlaceOn;
+use crate::queue::QueuePlace;
 use crate::set_calls::KeyCall;
-use crate::split::SplitSeat;
+use crate::split::SplitPlace;
 use given_back::Unfinished;
 use orc_any_domain::RowCounts;
+use orc_chain_rule::Chain;
 use std::alloc::Global;
 
 /// An agent's place at a queue, at a bucketed set or at a split-ordered one.
 #[derive(Drop)]
 pub enum Seat {
-    Queue(QueueSeat),
-    Set(SetSeat),
-    Split(SplitSeat),
+    Queue(QueuePlace),
+    Set(PlaceOn<Chain, ReclaimingSet>),
+    Split(SplitPlace),
 }
 
 impl Seat {
@@ -32,7 +34,7 @@ impl Seat {
         ensures answer { AtQueue (AnswersPut value) self.old result self.new }
     {
         match self {
-            Seat::Queue(seat) => seat.put(value),
+            Seat::Queue(place) => place.put(value),
             Seat::Set(_) | Seat::Split(_) => Answer::Kind,
         }
     }
@@ -45,7 +47,7 @@ impl Seat {
         ensures kept { (result ≡ Answer.Done) ⊎ (value.new ≡ value.old) }
     {
         match self {
-            Seat::Queue(seat) => seat.take(value),
+            Seat::Queue(place) => place.take(value),
             Seat::Set(_) | Seat::Split(_) => Answer::Kind,
         }
     }
@@ -59,8 +61,8 @@ impl Seat {
     {
         match self {
             Seat::Queue(_) => Answer::Kind,
-            Seat::Set(seat) => seat.call(call, key, yes),
-            Seat::Split(seat) => seat.call(call, key, yes),
+            Seat::Set(place) => place.call(call, key, yes),
+            Seat::Split(place) => place.call(call, key, yes),
         }
     }
 
@@ -103,7 +105,7 @@ impl Seat {
     {
         match self {
             Seat::Queue(_) | Seat::Set(_) => Answer::Kind,
-            Seat::Split(seat) => seat.buckets(count),
+            Seat::Split(place) => place.buckets(count),
         }
     }
 
@@ -113,15 +115,10 @@ impl Seat {
         ensures seat { IsSeat self.new }
         ensures answer { SettlesPass self.old result self.new }
     {
-        let none_left = match self {
-            Seat::Queue(seat) => seat.settle(),
-            Seat::Set(seat) => seat.settle(),
-            Seat::Split(seat) => seat.settle(),
-        };
-        if none_left {
-            Answer::Done
-        } else {
-            Answer::Kept
+        match self {
+            Seat::Queue(place) => place.settle(),
+            Seat::Set(place) => place.settle(),
+            Seat::Split(place) => place.settle(),
         }
     }
 
@@ -131,9 +128,9 @@ impl Seat {
         ensures { result ≡ backlog_at self.now }
     {
         match self {
-            Seat::Queue(seat) => seat.backlog(),
-            Seat::Set(seat) => seat.backlog(),
-            Seat::Split(seat) => seat.backlog(),
+            Seat::Queue(place) => place.backlog(),
+            Seat::Set(place) => place.backlog(),
+            Seat::Split(place) => place.backlog(),
         }
     }
 
@@ -142,9 +139,9 @@ impl Seat {
         requires { IsSeat self }
     {
         match self {
-            Seat::Queue(seat) => seat.leave(),
-            Seat::Set(seat) => seat.leave(),
-            Seat::Split(seat) => seat.leave(),
+            Seat::Queue(place) => place.leave(),
+            Seat::Set(place) => place.leave(),
+            Seat::Split(place) => place.leave(),
         }
     }
 
@@ -154,9 +151,9 @@ impl Seat {
         ensures { IfOk result (λ told. IfSome told (λ counts. TellsCounts self counts)) }
     {
         match self {
-            Seat::Queue(seat) => seat.close(alloc),
-            Seat::Set(seat) => seat.close(alloc),
-            Seat::Split(seat) => seat.close(alloc),
+            Seat::Queue(place) => place.close(alloc),
+            Seat::Set(place) => place.close(alloc),
+            Seat::Split(place) => place.close(alloc),
         }
     }
 }

@@ -1,39 +1,24 @@
 //! How the passes of a new container get their places.
 
-ghost use Rattle.std.specs.Prelude.{◌≡◌, [], All, IfOk, length, slice_index_or};
+ghost use Rattle.std.specs.Prelude.{◌≡◌, [], All, IfOk, length};
 ghost use Rattle.given_back.specs.Places.{tags};
 ghost use Rattle.orc_heap.specs.Seeds.{SeedAllowed, opening_events};
 ghost use Rattle.orc_projection.specs.Mirror.{numbers_of};
 ghost use Rattle.orc_domain.specs.Passes.{domain_bounds, domain_opening, seat_of};
 ghost use Rattle.orc_shared_words.specs.Lists.{EachAt};
 ghost use Rattle.orc_words.specs.Bounds.{bounds_of};
+ghost use Rattle.mooringakee_c_passes.specs.Places.{GetsPlace};
 ghost use Rattle.mooringakee_c_passes.specs.Usable.{CanBeUsed};
-ghost use Rattle.mooringakee_c_passes.specs.declared.seat.Seat.{Seat};
 
 use crate::ending::Places;
+use crate::place::Place;
 use crate::seat::Seat;
 use orc_domain::{OrcDomain, OrcPass};
 use orc_fault::NoMemory;
 use orc_heap::{Discipline, Seed};
 use orc_words::Shape;
 use std::alloc::Global;
-
-/// What gives the passes of a new container their places.
-pub(crate) trait Seating {
-    /// An agent's pass to the container.
-    type Pass: Drop;
-
-    // the pass is a new one of the container
-    ghost is_new: { Self → Self.Pass → Type 0 };
-
-    // this is its place
-    ghost is_place: { Self → Self.Pass → Seat → Type 0 };
-
-    // The place of a new pass.
-    fn seat(&self, pass: Self::Pass) -> Result<Seat, NoMemory>
-        requires { is_new self.now pass }
-        ensures { IfOk result (λ seat. is_place self.now pass seat) };
-}
+use std::sync::Arc;
 
 // A domain of this shape, its passes, and places to which they are given back.
 pub(crate) fn new_domain<D: Discipline>(
@@ -58,21 +43,32 @@ pub(crate) fn new_domain<D: Discipline>(
 // Has the check show that a value may go to another thread.
 fn may_cross<T: Send>(_value: &T) {}
 
-// The places of all passes, in their order.
-pub(crate) fn seat_all<S: Seating>(
+// The places of all passes to a container, in their order, each as a seat.
+pub(crate) fn seat_all<C: Drop, G: Drop, P: Drop, F: Fn(Place<C, G, P>) -> Seat>(
     alloc: Global,
-    seating: &S,
-    passes: Vec<S::Pass>,
+    container: C,
+    places: G,
+    passes: Vec<P>,
+    turns: u64,
+    seat: &F,
 ) -> Result<Vec<Box<Seat>>, NoMemory>
-    requires { All (λ p. S.is_new seating.now p) passes.items }
+    requires { F.IsAlwaysCallable seat.now }
     ensures many { IfOk result (λ seats. length seats.items ≡ length passes.items) }
-    ensures places { IfOk result (λ seats. EachAt (λ i b. (p : S.Pass) → S.is_place seating.now (slice_index_or passes.items i p) b.value) seats.items) }
+    ensures places { IfOk result (λ seats. EachAt (λ i b. GetsPlace (F.post seat.now) container places passes.items turns i b.value) seats.items) }
 {
+    let container = Arc::new(alloc, container)?;
+    let places = Arc::new(alloc, places)?;
     let mut seats = Vec::new(alloc);
     for pass in passes {
-        let seat = seating.seat(pass)?;
-        may_cross(&seat);
-        seats.push(Box::new(alloc, seat)?)?;
+        let place = Place {
+            container: container.clone()?,
+            places: places.clone()?,
+            pass,
+            turns,
+        };
+        let made = seat(place);
+        may_cross(&made);
+        seats.push(Box::new(alloc, made)?)?;
     }
     Ok(seats)
 }

@@ -1,8 +1,7 @@
 //! The calls of any set that agents share, as they are answered to C.
 
 ghost use Rattle.std.specs.Prelude.{◌≡◌, ◌⊎◌};
-ghost use Rattle.mooringakee_c_passes.specs.SetCalls.{AnswersCall, AnswersQuestion, AnswersInsert, AnswersRemove};
-ghost use Rattle.mooringakee_c_passes.specs.SetViews.{view_over};
+ghost use Rattle.mooringakee_c_passes.specs.SetCalls.{AnswersCall, AnswersQuestion, AnswersInsert, AnswersRemove, view_over};
 
 use crate::answer::Answer;
 use orc_history::{ListRefused, SharedSet};

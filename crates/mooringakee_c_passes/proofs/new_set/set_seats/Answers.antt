@@ -1,53 +1,43 @@
 -- The set stands on the new domain, and each pass of that gets its place.
-use Rattle.std.proofs.Common.{[], ap, arith, slice_index_or, subst, sym, ◌∙◌, ◌≡◌}
+use Rattle.std.proofs.Common.{ap, arith, sym, rules, ◌∙◌}
 use Rattle.orc_chain_rule.proofs.Later.{nothing_yet}
 use Rattle.orc_chain_rule.specs.ChainDiscipline.{entries_of}
 use Rattle.orc_chain_rule.specs.declared.chain.Chain.{Chain}
 use Rattle.orc_chain_rule.specs.declared.chain.ChainNote.{ChainNote}
-use Rattle.given_back.specs.Places.{tags}
-use Rattle.orc_domain.specs.Passes.{domain_bounds, domain_numbers, journal_of, seat_of}
+use Rattle.orc_domain.specs.Passes.{domain_numbers}
 use Rattle.orc_domain.specs.declared.domain.OrcDomain.{OrcDomain}
 use Rattle.orc_projection.specs.Mirror.{numbers_of}
-use Rattle.orc_projection.specs.Projection.{project}
 use Rattle.orc_words.specs.Bounds.{Bounds, bounds_of}
+use Rattle.mooringakee_c_passes.specs.Kinds.{set}
 use Rattle.mooringakee_c_passes.specs.Making.{IsNewSetSeat}
-use Rattle.mooringakee_c_passes.specs.Usable.{CanBeUsed}
-use Rattle.mooringakee_c_passes.proofs.NewPasses.{in_order}
+use Rattle.mooringakee_c_passes.specs.declared.seat.Seat.TheVariants.{Set}
+use Rattle.mooringakee_c_passes.proofs.NewPlaces.{new_seats}
 use Rattle.mooringakee_c_passes.proofs.Results.{if_ok, if_ok_both}
-use Rattle.mooringakee_c_passes.proofs.SamePlaces.{used_by}
 use Rattle.mooringakee_c_passes.proofs.new_set.set_seats.Goals as goal
 
 pub new_domain-requires-clause-holds : goal.new_domain-requires-clause-holds
 new_domain-requires-clause-holds c = nothing_yet (numbers_of (bounds_of c.args.shape.now))
 
-pub new-made-requires-clause-some : goal.new-made-requires-clause-some
-new-made-requires-clause-some c = omega (arith, c.roots.ensures, c.args.shape.now.some_roots)
+pub new-set-requires-clause-some : goal.new-set-requires-clause-some
+new-set-requires-clause-some c = omega (arith, c.roots.ensures, c.args.shape.now.some_roots)
 
-pub new-made-requires-clause-all : goal.new-made-requires-clause-all
-new-made-requires-clause-all c =
-    ap (λ (x : OrcDomain Chain ChainNote). (domain_numbers x).roots) c.new-list.ensures
+pub new-set-requires-clause-all : goal.new-set-requires-clause-all
+new-set-requires-clause-all c =
+    ap (λ (x : OrcDomain Chain ChainNote). (domain_numbers x).roots) c.new.ensures
     ∙ (ap (λ (b : Bounds). b.roots) c.in_ok-domain.ensures.bounds ∙ sym c.roots.ensures)
-
-pub seat_all-requires : goal.seat_all-requires
-seat_all-requires c k d low =
-    let p = slice_index_or c.in_ok-domain.passes.items k d in
-    let made = c.in_ok-domain.ensures in
-    let here : c.in_ok-set.set.value.list.links ≡ c.in_ok-domain.domain = (λ j. (c.in_ok-set.ensures.ok j).list.links) ∙ ((λ j. (c.new-made.ensures j).links) ∙ c.new-list.ensures) in (
-      used_by p (sym here) (subst (λ z. CanBeUsed c.in_ok-domain.domain (tags z) p) (sym c.in_ok-places.ensures.ok) (made.usable k d low)),
-      subst (λ (x : OrcDomain Chain ChainNote). entries_of (project (domain_bounds x) (journal_of p)) ≡ []) (sym here) (ap entries_of (made.seen k d low)),
-    )
 
 pub returns-clause-many : goal.returns-clause-many
 returns-clause-many c = if_ok c.seat_all.result _ _ (λ seats many. many ∙ c.in_ok-domain.ensures.many) c.seat_all.ensures.many
 
 pub returns-clause-places : goal.returns-clause-places
 returns-clause-places c =
-    let x = c.in_ok-set.set.value.list.links in
-    let here : x ≡ c.in_ok-domain.domain = (λ j. (c.in_ok-set.ensures.ok j).list.links) ∙ ((λ j. (c.new-made.ensures j).links) ∙ c.new-list.ensures) in
+    let made = c.in_ok-domain.ensures in
+    let domain = c.in_ok-domain.domain in
     if_ok_both c.seat_all.result _ _ _ c.seat_all.ensures.many c.seat_all.ensures.places
     (λ seats many each. (
-      x,
-      ap domain_bounds here ∙ c.in_ok-domain.ensures.bounds,
-      in_order c.in_ok-domain.passes.items seats.items
-          (λ agent seat. IsNewSetSeat x c.args.turns agent seat) (λ p. (seat_of x p).agent) many c.in_ok-domain.ensures.agents each,
+      domain,
+      made.bounds,
+      new_seats set c.new-set.result (λ s. s.list.links) domain ((λ j. (c.new-set.ensures j).links) ∙ c.new.ensures) c.in_ok-domain.places c.args.turns (λ place. Set place)
+          (λ agent seat. IsNewSetSeat domain c.args.turns agent seat) c.in_ok-domain.passes.items seats.items many made.usable made.agents
+          (λ k p low. ap entries_of (made.seen k p low)) _ each (λ place s is. search rules) (λ agent place new. new),
     ))

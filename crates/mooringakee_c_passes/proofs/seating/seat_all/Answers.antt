@@ -1,26 +1,15 @@
 -- The pass that comes next gets its place.
-use Rattle.std.proofs.Common.{[], suc, ap, arith, length, slice_index_or, subst, sym, ◌+◌, ◌∙◌, ◌∷◌, ◌≡◌}
+use Rattle.std.proofs.Common.{[], suc, ap, arith, length, refl, subst, sym, ℕ, ◌+◌, ◌∙◌, ◌∷◌, ◌≡◌}
 use Rattle.std.proofs.lemmas.List.{length-append}
 use Rattle.orc_shared_words.specs.Lists.{EachAt}
+use Rattle.mooringakee_c_passes.specs.Places.{GetsPlace}
+use Rattle.mooringakee_c_passes.specs.declared.seat.Seat.{Seat}
 use Rattle.mooringakee_c_passes.proofs.Lists.{EachAt-push, here_at, rest_after}
 use Rattle.mooringakee_c_passes.proofs.seating.seat_all.Goals as goal
-
-pub seat-requires : goal.seat-requires
-seat-requires g c =
-    let old = c.loop-pass.invariant in
-    let seats = c.loop-pass.seats.items in
-    let rest = c.loop-pass.pass-iterator.rest.items in
-    let xs = c.next.new.self.rest.items in
-    let x = c.in-Some.pass in
-    let head = c.in-Some.ensures.steps.0 in
-    let long : length rest ≡ suc (length xs) = ap length head in
-    subst (λ p. g.S.Seating.is_new c.args.seating.now p) (here_at c.args.passes.items rest xs x (length seats) x head old.2)
-    (c.requires (length seats) x (omega (arith, long, old.1)))
 
 pub loop-pass-preserved : goal.loop-pass-preserved
 loop-pass-preserved g c =
     let old = c.loop-pass.invariant in
-    let is_place = g.S.Seating.is_place c.args.seating.now in
     let all = c.args.passes.items in
     let seats = c.loop-pass.seats.items in
     let rest = c.loop-pass.pass-iterator.rest.items in
@@ -30,11 +19,19 @@ loop-pass-preserved g c =
     let head = c.in-Some.ensures.steps.0 in
     let items = c.in_ok-push.ensures.items in
     let more : length c.push.new.self.items ≡ length seats + 1 = ap length items ∙ length-append seats (box ∷ []) in
-    let long : length rest ≡ suc (length xs) = ap length head in (
-      subst (λ z. EachAt (λ i b. (p : _) → is_place (slice_index_or all i p) b.value) z) (sym items)
-          (EachAt-push (λ i b. (p : _) → is_place (slice_index_or all i p) b.value) seats box old.0
-          (λ p. subst (λ y. is_place y box.value) (sym (here_at all rest xs x (length seats) p head old.2))
-          (subst (λ s. is_place x s) (sym c.in_ok-new.ensures.ok) c.in_ok-seat.ensures))),
+    let long : length rest ≡ suc (length xs) = ap length head in
+    let Gets : ℕ → Seat → Type 0 =
+    λ i s. GetsPlace (λ place t. g.F.Fn.post c.args.seat.now (place, tt) t) c.args.container c.args.places all c.args.turns i s in
+    let got : Gets (length seats) c.seat-made.result = record {
+      place = record { container = c.in_ok-clone.field-0; places = c.in_ok-clone-2.field-0; pass = x; turns = c.args.turns };
+      is = c.seat-made.ensures;
+      container_is = c.in_ok-clone.ensures.cases ∙ c.in_ok-container.ensures.ok;
+      places_are = c.in_ok-clone-2.ensures.cases ∙ c.in_ok-places.ensures.ok;
+      pass_is = λ p. here_at all rest xs x (length seats) p head old.2;
+      turns_are = refl;
+    } in (
+      subst (λ z. EachAt (λ i b. Gets i b.value) z) (sym items)
+          (EachAt-push (λ i b. Gets i b.value) seats box old.0 (subst (λ s. Gets (length seats) s) (sym c.in_ok-new.ensures.ok) got)),
       omega (arith, more, long, old.1),
       rest_after all rest xs x (length seats) (length c.push.new.self.items) head more old.2,
     )

@@ -2,7 +2,8 @@
 use Rattle.std.proofs.Common.{[], subst, ◌∷◌}
 use Rattle.orc_history.specs.declared.set.ListRefused.TheVariants.{Again}
 use Rattle.orc_history.specs.declared.set.SetEntry.TheVariants.{Asked}
-use Rattle.mooringakee_c_passes.specs.SetCalls.{AnswersQuestion, RefusesCall}
+use Rattle.mooringakee_c_passes.specs.SetCalls.{AnswersQuestion}
+use Rattle.mooringakee_c_passes.specs.Views.{RefusesCall}
 use Rattle.mooringakee_c_passes.specs.declared.answer.Answer.TheVariants.{Done}
 use Rattle.mooringakee_c_passes.proofs.SetAnswers.{entered, named, refused}
 use Rattle.mooringakee_c_passes.proofs.set_calls.find_key.Goals as goal

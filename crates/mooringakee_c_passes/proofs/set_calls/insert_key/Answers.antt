@@ -3,8 +3,8 @@ use Rattle.std.proofs.Common.{[], subst, ◌∷◌}
 use Rattle.orc_history.specs.declared.set.ListRefused.{ListRefused}
 use Rattle.orc_history.specs.declared.set.ListRefused.TheVariants.{Again, NoNode, Spent}
 use Rattle.orc_history.specs.declared.set.SetEntry.TheVariants.{Added}
-use Rattle.mooringakee_c_passes.specs.SetCalls.{AnswersInsert, RefusesCall}
-use Rattle.mooringakee_c_passes.specs.SetViews.{view_over}
+use Rattle.mooringakee_c_passes.specs.SetCalls.{AnswersInsert, view_over}
+use Rattle.mooringakee_c_passes.specs.Views.{RefusesCall}
 use Rattle.mooringakee_c_passes.specs.declared.answer.Answer.TheVariants.{Done}
 use Rattle.mooringakee_c_passes.proofs.SetAnswers.{entered, named, refused}
 use Rattle.mooringakee_c_passes.proofs.set_calls.insert_key.Goals as goal

@@ -2,7 +2,8 @@
 use Rattle.std.proofs.Common.{[], subst, ◌∷◌}
 use Rattle.orc_history.specs.declared.set.ListRefused.TheVariants.{Again}
 use Rattle.orc_history.specs.declared.set.SetEntry.TheVariants.{Removed}
-use Rattle.mooringakee_c_passes.specs.SetCalls.{AnswersRemove, RefusesCall}
+use Rattle.mooringakee_c_passes.specs.SetCalls.{AnswersRemove}
+use Rattle.mooringakee_c_passes.specs.Views.{RefusesCall}
 use Rattle.mooringakee_c_passes.specs.declared.answer.Answer.TheVariants.{Done}
 use Rattle.mooringakee_c_passes.proofs.SetAnswers.{entered, named, refused}
 use Rattle.mooringakee_c_passes.proofs.set_calls.remove_key.Goals as goal

@@ -1,0 +1,54 @@
+//! Containers that stand on a domain.
+
+ghost use Rattle.std.specs.Prelude.{◌≡◌};
+
+use orc_chain_rule::Chain;
+use orc_domain::OrcDomain;
+use orc_fifo_rule::Fifo;
+use orc_queue::Queue;
+use orc_set::Set;
+use orc_split_rule::Split;
+use orc_split_set::SplitSet;
+
+/// A container that stands on a domain.
+pub trait OnDomain<L> {
+    // the domain that it stands on
+    ghost domain_of: { Self → L };
+
+    // The domain that it stands on.
+    fn domain(&self) -> &L
+        ensures { result.now ≡ domain_of self.now };
+}
+
+/// Michael and Scott's queue over a domain whose rows are reclaimed.
+pub(crate) type ReclaimingQueue = Queue<OrcDomain<Fifo>>;
+
+/// The bucketed set over a domain whose rows are reclaimed.
+pub(crate) type ReclaimingSet = Set<OrcDomain<Chain>>;
+
+/// The split-ordered set over a domain whose rows are reclaimed.
+pub(crate) type ReclaimingSplit = SplitSet<OrcDomain<Split>>;
+
+impl OnDomain<OrcDomain<Fifo>> for ReclaimingQueue {
+    ghost domain_of = { λ c. c.links };
+
+    fn domain(&self) -> &OrcDomain<Fifo> {
+        self.links()
+    }
+}
+
+impl OnDomain<OrcDomain<Chain>> for ReclaimingSet {
+    ghost domain_of = { λ c. c.list.links };
+
+    fn domain(&self) -> &OrcDomain<Chain> {
+        self.links()
+    }
+}
+
+impl OnDomain<OrcDomain<Split>> for ReclaimingSplit {
+    ghost domain_of = { λ c. c.links };
+
+    fn domain(&self) -> &OrcDomain<Split> {
+        self.links()
+    }
+}

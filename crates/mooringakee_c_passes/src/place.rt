@@ -1,0 +1,99 @@
+//! One agent's place at a container.
+
+ghost use Rattle.std.specs.Prelude.{◌≡◌, ◌⊎◌, IfOk, IfSome};
+ghost use Rattle.mooringakee_c_passes.specs.Ending.{TellsRows};
+ghost use Rattle.mooringakee_c_passes.specs.Places.{IsPlace, SettlesPlace, backlog_of};
+ghost use Rattle.mooringakee_c_passes.specs.SetCalls.{AnswersCall, view_over};
+
+use crate::answer::Answer;
+use crate::ending::{Places, close, leave};
+use crate::on_domain::OnDomain;
+use crate::set_calls::{KeyCall, make_call};
+use given_back::Unfinished;
+use orc_any_domain::RowCounts;
+use orc_domain::{OrcDomain, OrcPass};
+use orc_heap::Discipline;
+use orc_history::SharedSet;
+use std::alloc::Global;
+use std::sync::Arc;
+
+/// An agent's place at a container: its share of it and of the places to which passes are given back, its pass, and how many turns
+/// a call has.
+#[derive(Drop)]
+pub struct Place<C, G, P> {
+    pub(crate) container: Arc<C, Global>,
+    pub(crate) places: Arc<G, Global>,
+    pub(crate) pass: P,
+    pub(crate) turns: u64,
+}
+
+/// A place at a container over a domain whose rows are reclaimed.
+pub(crate) type PlaceOn<D, C> = Place<C, Places<D>, OrcPass<D>>;
+
+impl<D: Discipline, C: OnDomain<OrcDomain<D>>> PlaceOn<D, C> {
+    // Takes in what was handed over to the pass, and works through its retired rows.
+    pub(crate) fn settle(&mut self) -> Answer
+        requires { IsPlace (C.domain_of self.old.container.value) self.old }
+        ensures place { IsPlace (C.domain_of self.old.container.value) self.new }
+        ensures answer { SettlesPlace (C.domain_of self.old.container.value) self.old result self.new }
+    {
+        let domain = self.container.domain();
+        domain.drain(&mut self.pass);
+        if domain.backlog(&self.pass) == 0 {
+            Answer::Done
+        } else {
+            Answer::Kept
+        }
+    }
+
+    // How many retired rows the pass has to work through.
+    pub(crate) fn backlog(&self) -> u32
+        requires { IsPlace (C.domain_of self.now.container.value) self.now }
+        ensures { result ≡ backlog_of self.now.pass }
+    {
+        self.container.domain().backlog(&self.pass)
+    }
+}
+
+impl<D: Discipline, C: OnDomain<OrcDomain<D>> + Drop> PlaceOn<D, C> {
+    // Gives the pass up.
+    pub(crate) fn leave(self)
+        requires { IsPlace (C.domain_of self.container.value) self }
+    {
+        let Place {
+            container,
+            places,
+            pass,
+            turns: _,
+        } = self;
+        leave(container.domain(), places, pass);
+    }
+
+    // Gives the pass up. The last one to do so brings the container to rest, and tells of its rows.
+    pub(crate) fn close(self, alloc: Global) -> Result<Option<RowCounts>, Unfinished>
+        requires { IsPlace (C.domain_of self.container.value) self }
+        ensures { IfOk result (λ told. IfSome told (λ counts. TellsRows (C.domain_of self.container.value) self.places.value counts)) }
+    {
+        let Place {
+            container,
+            places,
+            pass,
+            turns: _,
+        } = self;
+        close(alloc, container.domain(), places, pass)
+    }
+}
+
+impl<S: SharedSet, G> Place<S, G, S::Pass> {
+    // Makes a call with a key.
+    pub(crate) fn call(&mut self, call: KeyCall, key: u64, yes: &mut bool) -> Answer
+        requires { S.usable self.old.container.value self.old.pass }
+        ensures place { self.new ≡ record self.old { pass = self.new.pass } }
+        ensures usable { S.usable self.old.container.value self.new.pass }
+        ensures answer { AnswersCall call key yes.new (view_over S.SharedSet self.old.container.value self.old.turns self.old.pass) result
+            (view_over S.SharedSet self.old.container.value self.old.turns self.new.pass) }
+        ensures kept { (result ≡ Answer.Done) ⊎ (yes.new ≡ yes.old) }
+    {
+        make_call(&self.container, &mut self.pass, self.turns, call, key, yes)
+    }
+}
