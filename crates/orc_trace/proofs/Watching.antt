@@ -18,7 +18,7 @@ use Rattle.orc_trace.specs.Audit.{IsFirstLeak, IsWorst, Leaks, after_steps}
 use Rattle.orc_trace.specs.Replay.{BeginsWithSteps}
 use Rattle.orc_trace.specs.Watched.{LeakOn, SeesSteps, WorseOf, waiting}
 use Rattle.orc_trace.specs.declared.answers.Leak.{Leak}
-use Rattle.orc_trace.specs.declared.auditing.Seen.{Seen}
+use Rattle.orc_trace.specs.declared.auditing.SeenSoFar.{SeenSoFar}
 use Rattle.orc_trace_text.specs.FirstLines.{HasStepLine}
 use Rattle.orc_trace_text.specs.TraceText.{IsReadable, step_line, steps_text}
 
@@ -149,13 +149,13 @@ leak-more b front s None (Some f) h on = record {
 -- ---- the steps so far
 
 -- these steps lead to this state and to the bytes that are left, and this is seen of them
-pub record SoFar (b : Bounds) (lines bytes : List ℕ) (now : Machine) (seen : Seen) : Type 0 where
+pub record SoFar (b : Bounds) (lines bytes : List ℕ) (now : Machine) (seen : SeenSoFar) : Type 0 where
   pub front : List (ℕ × Op)
   pub begins : BeginsWithSteps b (new_machine b) front bytes lines
   pub there : now ≡ run (new_machine b) front
   pub sees : SeesSteps b front seen
 
-pub so-far-first : (b : Bounds) (lines : List ℕ) (m : Machine) (seen : Seen) → IsShape b → m ≡ new_machine b → seen.steps ≡ 0 → seen.most ≡ waiting m
+pub so-far-first : (b : Bounds) (lines : List ℕ) (m : Machine) (seen : SeenSoFar) → IsShape b → m ≡ new_machine b → seen.steps ≡ 0 → seen.most ≡ waiting m
     → seen.after ≡ 0 → LeakOn m 0 None seen.leak → SoFar b lines lines m seen
 so-far-first b lines m seen shape new steps most after leak = record {
   front = [];
@@ -168,7 +168,7 @@ so-far-first b lines m seen shape new steps most after leak = record {
   };
 }
 
-pub so-far-more : (b : Bounds) (lines bytes : List ℕ) (now next : Machine) (seen more_seen : Seen) (a : ℕ) (op : Op) (more : List ℕ) → IsShape b
+pub so-far-more : (b : Bounds) (lines bytes : List ℕ) (now next : Machine) (seen more_seen : SeenSoFar) (a : ℕ) (op : Op) (more : List ℕ) → IsShape b
     → SoFar b lines bytes now seen → HasStepLine b (a, op) more bytes → is_allowed now a op ≡ true → next ≡ step now a op
     → more_seen.steps ≡ seen.steps + 1 → WorseOf (waiting next) (seen.steps + 1) seen.most seen.after more_seen.most more_seen.after
     → LeakOn next (seen.steps + 1) seen.leak more_seen.leak → SoFar b lines more next more_seen
@@ -196,10 +196,10 @@ so-far-more b lines bytes now next seen more_seen a op more shape h line made st
     there = stepped ∙ ap (λ (x : Machine). step x a op) h.there ∙ sym (run-append (new_machine b) h.front ((a, op) ∷ []))
 
 -- the next step leaves its agent's work list room
-pub room-so-far : (b : Bounds) (lines bytes : List ℕ) (now : Machine) (seen : Seen) (a : ℕ) (op : Op) → IsShape b → SoFar b lines bytes now seen
+pub room-so-far : (b : Bounds) (lines bytes : List ℕ) (now : Machine) (seen : SeenSoFar) (a : ℕ) (op : Op) → IsShape b → SoFar b lines bytes now seen
     → LeavesRoom now a op
 room-so-far b lines bytes now seen a op shape h =
     subst (λ (x : Machine). LeavesRoom x a op) (sym h.there) (room_left b h.front a op shape h.begins.lawful)
 
-pub so-far-bounds : (b : Bounds) (lines bytes : List ℕ) (now : Machine) (seen : Seen) → SoFar b lines bytes now seen → now.bounds ≡ b
+pub so-far-bounds : (b : Bounds) (lines bytes : List ℕ) (now : Machine) (seen : SeenSoFar) → SoFar b lines bytes now seen → now.bounds ≡ b
 so-far-bounds b lines bytes now seen h = ap (λ (m : Machine). m.bounds) h.there ∙ run_bounds (new_machine b) h.front

@@ -15,7 +15,7 @@ use Rattle.orc_sound.specs.Decisions.{all_below}
 use Rattle.orc_trace.specs.Audit.{IsFirstLeak, IsWorst, Leaks}
 use Rattle.orc_trace.specs.Reaching.{is_marked}
 use Rattle.orc_trace.specs.declared.answers.Leak.{Leak}
-use Rattle.orc_trace.specs.declared.auditing.Seen.{Seen}
+use Rattle.orc_trace.specs.declared.auditing.SeenSoFar.{SeenSoFar}
 
 -- the doomed row has its retired bit still
 abbrev pub has_bit : Option Doom → Bool
@@ -71,7 +71,7 @@ LeakOn m k None None = IsLeastLeak m None
 LeakOn m k None (Some l) = (l.after ≡ k) × IsLeastLeak m (Some l.row)
 
 -- what is seen of these steps
-pub record SeesSteps (b : Bounds) (steps : List (ℕ × Op)) (s : Seen) : Type 0 where
+pub record SeesSteps (b : Bounds) (steps : List (ℕ × Op)) (s : SeenSoFar) : Type 0 where
   pub number : s.steps ≡ length steps
   pub worst : IsWorst b steps s.most s.after
   pub leak : IsFirstLeak b steps s.leak

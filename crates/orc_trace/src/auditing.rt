@@ -51,7 +51,7 @@ fn audit_trace(alloc: Global, bytes: &[u8]) -> Result<Audit, TraceFault>
     };
     let mut state = State::new(alloc, &shape)?;
     let mut reach = Reach::new(alloc, &shape)?;
-    let seen = watch(&shape, &mut state, lines, &mut reach)?;
+    let seen = watch_steps(&shape, &mut state, lines, &mut reach)?;
     let lives = lives_of(alloc, &state)?;
     Ok(Audit {
         steps: seen.steps,
@@ -64,7 +64,7 @@ fn audit_trace(alloc: Global, bytes: &[u8]) -> Result<Audit, TraceFault>
 
 // What was seen of the steps so far.
 #[derive(Clone, Copy)]
-struct Seen {
+struct SeenSoFar {
     steps: u64,
     most: u32,
     after: u64,
@@ -72,12 +72,12 @@ struct Seen {
 }
 
 // Makes the steps of these lines on a new table, and looks at each state from the first on.
-fn watch(
+fn watch_steps(
     shape: &Shape,
     state: &mut State,
     lines: &[u8],
     reach: &mut Reach,
-) -> Result<Seen, TraceFault>
+) -> Result<SeenSoFar, TraceFault>
     requires new { state.old ≡ new_machine (bounds_of shape.now) }
     requires room { HasMarks reach.old (bounds_of shape.now).rows }
     ensures ok { IfOk result (λ seen. (steps : List (ℕ × Op)) × BeginsWithSteps (bounds_of shape.now) state.old steps [] lines.now
@@ -100,7 +100,7 @@ fn watch(
 }
 
 // What is seen of the first state.
-fn first_look(state: &State, reach: &mut Reach) -> Seen
+fn first_look(state: &State, reach: &mut Reach) -> SeenSoFar
     requires { HasMarks reach.old state.now.bounds.rows }
     ensures room { HasMarks reach.new state.now.bounds.rows }
     ensures steps { result.steps ≡ 0 }
@@ -108,7 +108,7 @@ fn first_look(state: &State, reach: &mut Reach) -> Seen
     ensures after { result.after ≡ 0 }
     ensures leak { LeakOn state.now 0 None result.leak }
 {
-    Seen {
+    SeenSoFar {
         steps: 0,
         most: waiting_of(state),
         after: 0,
@@ -117,7 +117,7 @@ fn first_look(state: &State, reach: &mut Reach) -> Seen
 }
 
 // What has been seen with this state, which one more step left.
-fn look(state: &State, reach: &mut Reach, seen: Seen) -> Seen
+fn look(state: &State, reach: &mut Reach, seen: SeenSoFar) -> SeenSoFar
     requires room { HasMarks reach.old state.now.bounds.rows }
     requires few { seen.steps + 1 < 2 ^ 64 }
     ensures room { HasMarks reach.new state.now.bounds.rows }
@@ -128,7 +128,7 @@ fn look(state: &State, reach: &mut Reach, seen: Seen) -> Seen
     let steps = seen.steps + 1;
     let (most, after) = worse_of(waiting_of(state), steps, seen.most, seen.after);
     let leak = first_leak(state, reach, seen.leak, steps);
-    Seen {
+    SeenSoFar {
         steps,
         most,
         after,

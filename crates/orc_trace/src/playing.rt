@@ -42,13 +42,13 @@ fn play_trace(alloc: Global, bytes: &[u8]) -> Result<Replayed, TraceFault>
         Err(word) => return Err(TraceFault::Shape(word)),
     };
     let mut state = State::new(alloc, &shape)?;
-    let steps = play(&shape, &mut state, lines)?;
+    let steps = play_lines(&shape, &mut state, lines)?;
     let census = census(&state);
     Ok(Replayed { steps, census })
 }
 
 // Makes the steps of these lines on a new table, and answers how many they are.
-fn play(shape: &Shape, state: &mut State, lines: &[u8]) -> Result<u64, TraceFault>
+fn play_lines(shape: &Shape, state: &mut State, lines: &[u8]) -> Result<u64, TraceFault>
     requires { state.old ≡ new_machine (bounds_of shape.now) }
     ensures ok { IfOk result (λ number. (steps : List (ℕ × Op)) × BeginsWithSteps (bounds_of shape.now) state.old steps [] lines.now
         × (number ≡ length steps) × (state.new ≡ run state.old steps)) }

@@ -9,13 +9,13 @@ use Rattle.orc_core.specs.declared.ops.Op.{Op}
 use Rattle.orc_core.specs.declared.ops.Op.TheVariants as op
 use Rattle.orc_trace_text.specs.Reading.{Spells, kind_word}
 use Rattle.orc_trace_text.specs.TraceText.{IsLink, IsPlace, IsReadableOp, IsWide, link_text, place_text, words_of}
-use Rattle.orc_trace_text.specs.declared.kind.Kind.{Kind}
-use Rattle.orc_trace_text.specs.declared.kind.Kind.TheVariants as kind
+use Rattle.orc_trace_text.specs.declared.kind.StepKind.{StepKind}
+use Rattle.orc_trace_text.specs.declared.kind.StepKind.TheVariants as kind
 use Rattle.orc_trace_text.proofs.Arguments.{link-same, number-same, place-same}
 use Rattle.orc_trace_text.proofs.KindWords.{kind_word-injective}
 
 -- the kind whose word an op has
-abbrev pub kind_for : Op → Kind
+abbrev pub kind_for : Op → StepKind
 kind_for op.Enroll = kind.Enroll
 kind_for (op.GateLook r) = kind.Look
 kind_for (op.GateTake r) = kind.Take
@@ -68,7 +68,7 @@ OfCas b ws o = (p : Word) × (f : RowLink) × (t : RowLink) × IsPlace b p × Is
 abbrev pub OfStore : Bounds → ℕ → List (List ℕ) → Op → Type 0
 OfStore b n ws o = (r : ℕ) × (l : RowLink) × (r < b.rows) × (n < b.links) × IsLink b l × (ws ≡ decimal r ∷ link_text l ∷ []) × (o ≡ op.LinkStore r l n)
 
-abbrev pub Spelled : Bounds → Kind → List (List ℕ) → Op → Type 0
+abbrev pub Spelled : Bounds → StepKind → List (List ℕ) → Op → Type 0
 Spelled b kind.Enroll ws o = (ws ≡ []) × (o ≡ op.Enroll)
 Spelled b kind.Look ws o = OfNumber b.rows (λ r. op.GateLook r) ws o
 Spelled b kind.Take ws o = OfNumber b.rows (λ r. op.GateTake r) ws o
@@ -127,13 +127,13 @@ own b (op.HandoverLook k) h = (_, refl, (k, h, refl, refl))
 own b (op.DecHeld r) h = (_, refl, (r, h, refl, refl))
 
 -- an op that is spelled by the word of a kind has the numbers, places and links of that kind
-pub spelled : (b : Bounds) (k : Kind) (ws : List (List ℕ)) (o : Op) → Spells b k ws o → Spelled b k ws o
+pub spelled : (b : Bounds) (k : StepKind) (ws : List (List ℕ)) (o : Op) → Spells b k ws o → Spelled b k ws o
 spelled b k ws o h =
     let mine = own b o h.0 in
     let same : kind_word (kind_for o) ∷ mine.0 ≡ kind_word k ∷ ws = sym mine.1 ∙ h.1 in
     let kinds : kind_for o ≡ k = kind_word-injective (kind_for o) k (cc same) in
     let words : mine.0 ≡ ws = cc same in
-    subst (λ (j : Kind). Spelled b j ws o) kinds (subst (λ (w : List (List ℕ)). Spelled b (kind_for o) w o) words mine.2)
+    subst (λ (j : StepKind). Spelled b j ws o) kinds (subst (λ (w : List (List ℕ)). Spelled b (kind_for o) w o) words mine.2)
 
 -- ---- the same words spell one op
 
@@ -184,7 +184,7 @@ one-store b m n ws o p s number h k =
     let link : h.1 ≡ k.1 = link-same b h.1 k.1 s h.4 k.4 (cc same) in
     h.6 ∙ (cc (row, number, link)) ∙ sym k.6
 
-one-op : (b : Bounds) (k : Kind) (ws : List (List ℕ)) (o p : Op) → IsShape b → Spelled b k ws o → Spelled b k ws p → o ≡ p
+one-op : (b : Bounds) (k : StepKind) (ws : List (List ℕ)) (o p : Op) → IsShape b → Spelled b k ws o → Spelled b k ws p → o ≡ p
 one-op b kind.Enroll ws o p s h i = h.1 ∙ sym i.1
 one-op b kind.Look ws o p s h i = let few = s.rows in one-number b.rows (λ r. op.GateLook r) ws o p (omega arith) h i
 one-op b kind.Take ws o p s h i = let few = s.rows in one-number b.rows (λ r. op.GateTake r) ws o p (omega arith) h i

@@ -4,8 +4,8 @@ use Rattle.std.specs.Fmt.{decimal}
 use Rattle.std.specs.List.{slice_split}
 use Rattle.orc_words.specs.Bounds.{Bounds}
 use Rattle.orc_core.specs.declared.ops.Op.{Op}
-use Rattle.orc_trace_text.specs.declared.kind.Kind.{Kind}
-use Rattle.orc_trace_text.specs.declared.kind.Kind.TheVariants as kind
+use Rattle.orc_trace_text.specs.declared.kind.StepKind.{StepKind}
+use Rattle.orc_trace_text.specs.declared.kind.StepKind.TheVariants as kind
 use Rattle.orc_trace_text.specs.TraceText.{IsReadableOp, words_of}
 
 -- a text, cut at its first such byte where it has one
@@ -26,7 +26,7 @@ abbrev pub EndsInLinks : ℕ → List (List ℕ) → Type 0
 EndsInLinks links words = (words ≡ decimal links ∷ []) ⊎ ((links ≡ 1) × (words ≡ []))
 
 -- the word behind the agent's number
-abbrev pub kind_word : Kind → List ℕ
+abbrev pub kind_word : StepKind → List ℕ
 kind_word kind.Enroll = codes "enroll"
 kind_word kind.Look = codes "look"
 kind_word kind.Take = codes "take"
@@ -55,5 +55,5 @@ kind_word kind.Handover = codes "handover"
 kind_word kind.DecHeld = codes "decheld"
 
 -- an op that can be read is spelled by the word of this kind and these others
-abbrev pub Spells : Bounds → Kind → List (List ℕ) → Op → Type 0
+abbrev pub Spells : Bounds → StepKind → List (List ℕ) → Op → Type 0
 Spells b k words op = IsReadableOp b op × (words_of op ≡ kind_word k ∷ words)

@@ -10,7 +10,7 @@ ghost use Rattle.orc_trace_text.specs.Reading.{words_left};
 ghost use Rattle.orc_trace_text.specs.TraceText.{IsLink, IsPlace, link_text, place_text, target_text};
 
 use crate::cut::{cut, one_word, two_words};
-use crate::kind::is_word;
+use crate::kind::is_the_word;
 use orc_decimal::number_of;
 use orc_words::{RowLink, Shape, Word};
 
@@ -75,7 +75,7 @@ fn read_target(shape: &Shape, text: &[u8]) -> Option<Option<u32>>
     ensures some { IfSome result (λ to. ForSome to (λ row. row < (bounds_of shape.now).rows) × (text.now ≡ target_text to)) }
     ensures none { IfNone result ((to : Option ℕ) → ForSome to (λ row. row < (bounds_of shape.now).rows) → text.now ≢ target_text to) }
 {
-    if is_word(text, b"-") {
+    if is_the_word(text, b"-") {
         return Some(None);
     }
     let row = number_below(text, shape.rows())?;

@@ -2,11 +2,11 @@
 
 ghost use Rattle.std.specs.Prelude.{◌≡◌, ◌≢◌, IfNone, IfSome, true, false};
 ghost use Rattle.orc_trace_text.specs.Reading.{kind_word};
-ghost use Rattle.orc_trace_text.specs.declared.kind.Kind.{Kind};
+ghost use Rattle.orc_trace_text.specs.declared.kind.StepKind.{StepKind};
 
 /// What a word asks for: a kind of step, or one of the three uses of a counter's load.
 #[derive(Clone, Copy)]
-pub enum Kind {
+pub enum StepKind {
     Enroll,
     Look,
     Take,
@@ -36,73 +36,73 @@ pub enum Kind {
 }
 
 // All of them.
-const KINDS: [Kind; 26] = [
-    Kind::Enroll,
-    Kind::Look,
-    Kind::Take,
-    Kind::Fill,
-    Kind::Read,
-    Kind::Load,
-    Kind::Publish,
-    Kind::Clear,
-    Kind::Arm,
-    Kind::Cas,
-    Kind::Store,
-    Kind::Side,
-    Kind::Inc,
-    Kind::Dec,
-    Kind::Set,
-    Kind::Count,
-    Kind::Start,
-    Kind::End,
-    Kind::Unretire,
-    Kind::Slot,
-    Kind::Hand,
-    Kind::TakeIn,
-    Kind::Free,
-    Kind::MoveOn,
-    Kind::Handover,
-    Kind::DecHeld,
+const KINDS: [StepKind; 26] = [
+    StepKind::Enroll,
+    StepKind::Look,
+    StepKind::Take,
+    StepKind::Fill,
+    StepKind::Read,
+    StepKind::Load,
+    StepKind::Publish,
+    StepKind::Clear,
+    StepKind::Arm,
+    StepKind::Cas,
+    StepKind::Store,
+    StepKind::Side,
+    StepKind::Inc,
+    StepKind::Dec,
+    StepKind::Set,
+    StepKind::Count,
+    StepKind::Start,
+    StepKind::End,
+    StepKind::Unretire,
+    StepKind::Slot,
+    StepKind::Hand,
+    StepKind::TakeIn,
+    StepKind::Free,
+    StepKind::MoveOn,
+    StepKind::Handover,
+    StepKind::DecHeld,
 ];
 
-impl Kind {
+impl StepKind {
     // The word that names it.
     fn word(self) -> &'static [u8]
         ensures { result.now ≡ kind_word self }
     {
         match self {
-            Kind::Enroll => b"enroll",
-            Kind::Look => b"look",
-            Kind::Take => b"take",
-            Kind::Fill => b"fill",
-            Kind::Read => b"read",
-            Kind::Load => b"load",
-            Kind::Publish => b"publish",
-            Kind::Clear => b"clear",
-            Kind::Arm => b"arm",
-            Kind::Cas => b"cas",
-            Kind::Store => b"store",
-            Kind::Side => b"side",
-            Kind::Inc => b"inc",
-            Kind::Dec => b"dec",
-            Kind::Set => b"set",
-            Kind::Count => b"count",
-            Kind::Start => b"start",
-            Kind::End => b"end",
-            Kind::Unretire => b"unretire",
-            Kind::Slot => b"slot",
-            Kind::Hand => b"hand",
-            Kind::TakeIn => b"takein",
-            Kind::Free => b"free",
-            Kind::MoveOn => b"moveon",
-            Kind::Handover => b"handover",
-            Kind::DecHeld => b"decheld",
+            StepKind::Enroll => b"enroll",
+            StepKind::Look => b"look",
+            StepKind::Take => b"take",
+            StepKind::Fill => b"fill",
+            StepKind::Read => b"read",
+            StepKind::Load => b"load",
+            StepKind::Publish => b"publish",
+            StepKind::Clear => b"clear",
+            StepKind::Arm => b"arm",
+            StepKind::Cas => b"cas",
+            StepKind::Store => b"store",
+            StepKind::Side => b"side",
+            StepKind::Inc => b"inc",
+            StepKind::Dec => b"dec",
+            StepKind::Set => b"set",
+            StepKind::Count => b"count",
+            StepKind::Start => b"start",
+            StepKind::End => b"end",
+            StepKind::Unretire => b"unretire",
+            StepKind::Slot => b"slot",
+            StepKind::Hand => b"hand",
+            StepKind::TakeIn => b"takein",
+            StepKind::Free => b"free",
+            StepKind::MoveOn => b"moveon",
+            StepKind::Handover => b"handover",
+            StepKind::DecHeld => b"decheld",
         }
     }
 }
 
 /// Whether a text is this word.
-pub fn is_word(text: &[u8], word: &[u8]) -> bool
+pub fn is_the_word(text: &[u8], word: &[u8]) -> bool
     ensures same { result ≡ true → text.now ≡ word.now }
     ensures other { result ≡ false → text.now ≢ word.now }
 {
@@ -110,12 +110,12 @@ pub fn is_word(text: &[u8], word: &[u8]) -> bool
 }
 
 /// The kind that a word names.
-pub fn kind_of(word: &[u8]) -> Option<Kind>
+pub fn kind_of(word: &[u8]) -> Option<StepKind>
     ensures some { IfSome result (λ kind. word.now ≡ kind_word kind) }
-    ensures none { IfNone result ((kind : Kind) → word.now ≢ kind_word kind) }
+    ensures none { IfNone result ((kind : StepKind) → word.now ≢ kind_word kind) }
 {
     for kind in KINDS {
-        if is_word(word, kind.word()) {
+        if is_the_word(word, kind.word()) {
             return Some(kind);
         }
     }

@@ -10,15 +10,15 @@ ghost use Rattle.orc_trace_text.specs.TraceText.{IsReadable, step_line};
 
 use crate::argument::{number_below, one_number, read_link, read_place, row_and_link, two_numbers};
 use crate::cut::{cut, first_word, three_words, two_words};
-use crate::kind::{Kind, kind_of};
+use crate::kind::{StepKind, kind_of};
 use orc_core::{CounterUse, Op};
 use orc_decimal::number_of;
 use orc_words::Shape;
 
 // A row, 0 or 1, and a value.
 fn read_fill(shape: &Shape, left: Option<&[u8]>) -> Option<Op>
-    ensures some { IfSome result (Spells (bounds_of shape.now) Kind.Fill (words_left (option_copied left.entry))) }
-    ensures none { IfNone result ((op : Op) → ¬ Spells (bounds_of shape.now) Kind.Fill (words_left (option_copied left.entry)) op) }
+    ensures some { IfSome result (Spells (bounds_of shape.now) StepKind.Fill (words_left (option_copied left.entry))) }
+    ensures none { IfNone result ((op : Op) → ¬ Spells (bounds_of shape.now) StepKind.Fill (words_left (option_copied left.entry)) op) }
 {
     let (row, which, value) = three_words(left)?;
     let row = number_below(row, shape.rows())?;
@@ -29,8 +29,8 @@ fn read_fill(shape: &Shape, left: Option<&[u8]>) -> Option<Op>
 
 // A place, and a slot or none.
 fn read_load(shape: &Shape, left: Option<&[u8]>) -> Option<Op>
-    ensures some { IfSome result (Spells (bounds_of shape.now) Kind.Load (words_left (option_copied left.entry))) }
-    ensures none { IfNone result ((op : Op) → ¬ Spells (bounds_of shape.now) Kind.Load (words_left (option_copied left.entry)) op) }
+    ensures some { IfSome result (Spells (bounds_of shape.now) StepKind.Load (words_left (option_copied left.entry))) }
+    ensures none { IfNone result ((op : Op) → ¬ Spells (bounds_of shape.now) StepKind.Load (words_left (option_copied left.entry)) op) }
 {
     let (place, left) = first_word(left)?;
     let place = read_place(shape, place)?;
@@ -46,8 +46,8 @@ fn read_load(shape: &Shape, left: Option<&[u8]>) -> Option<Op>
 
 // A place and two links.
 fn read_cas(shape: &Shape, left: Option<&[u8]>) -> Option<Op>
-    ensures some { IfSome result (Spells (bounds_of shape.now) Kind.Cas (words_left (option_copied left.entry))) }
-    ensures none { IfNone result ((op : Op) → ¬ Spells (bounds_of shape.now) Kind.Cas (words_left (option_copied left.entry)) op) }
+    ensures some { IfSome result (Spells (bounds_of shape.now) StepKind.Cas (words_left (option_copied left.entry))) }
+    ensures none { IfNone result ((op : Op) → ¬ Spells (bounds_of shape.now) StepKind.Cas (words_left (option_copied left.entry)) op) }
 {
     let (place, from, to) = three_words(left)?;
     let place = read_place(shape, place)?;
@@ -58,8 +58,8 @@ fn read_cas(shape: &Shape, left: Option<&[u8]>) -> Option<Op>
 
 // A row and its first link.
 fn read_store(shape: &Shape, left: Option<&[u8]>) -> Option<Op>
-    ensures some { IfSome result (Spells (bounds_of shape.now) Kind.Store (words_left (option_copied left.entry))) }
-    ensures none { IfNone result ((op : Op) → ¬ Spells (bounds_of shape.now) Kind.Store (words_left (option_copied left.entry)) op) }
+    ensures some { IfSome result (Spells (bounds_of shape.now) StepKind.Store (words_left (option_copied left.entry))) }
+    ensures none { IfNone result ((op : Op) → ¬ Spells (bounds_of shape.now) StepKind.Store (words_left (option_copied left.entry)) op) }
 {
     let (row, link) = row_and_link(shape, left)?;
     Some(Op::LinkStore {
@@ -71,8 +71,8 @@ fn read_store(shape: &Shape, left: Option<&[u8]>) -> Option<Op>
 
 // A row and its second link, where it has one.
 fn read_side(shape: &Shape, left: Option<&[u8]>) -> Option<Op>
-    ensures some { IfSome result (Spells (bounds_of shape.now) Kind.Side (words_left (option_copied left.entry))) }
-    ensures none { IfNone result ((op : Op) → ¬ Spells (bounds_of shape.now) Kind.Side (words_left (option_copied left.entry)) op) }
+    ensures some { IfSome result (Spells (bounds_of shape.now) StepKind.Side (words_left (option_copied left.entry))) }
+    ensures none { IfNone result ((op : Op) → ¬ Spells (bounds_of shape.now) StepKind.Side (words_left (option_copied left.entry)) op) }
 {
     if shape.links() < 2 {
         return None;
@@ -87,8 +87,8 @@ fn read_side(shape: &Shape, left: Option<&[u8]>) -> Option<Op>
 
 // A row and a sequence.
 fn read_set(shape: &Shape, left: Option<&[u8]>) -> Option<Op>
-    ensures some { IfSome result (Spells (bounds_of shape.now) Kind.Set (words_left (option_copied left.entry))) }
-    ensures none { IfNone result ((op : Op) → ¬ Spells (bounds_of shape.now) Kind.Set (words_left (option_copied left.entry)) op) }
+    ensures some { IfSome result (Spells (bounds_of shape.now) StepKind.Set (words_left (option_copied left.entry))) }
+    ensures none { IfNone result ((op : Op) → ¬ Spells (bounds_of shape.now) StepKind.Set (words_left (option_copied left.entry)) op) }
 {
     let (row, sequence) = two_words(left)?;
     let row = number_below(row, shape.rows())?;
@@ -98,8 +98,8 @@ fn read_set(shape: &Shape, left: Option<&[u8]>) -> Option<Op>
 
 // A row, and 0 or 1.
 fn read_value(shape: &Shape, left: Option<&[u8]>) -> Option<Op>
-    ensures some { IfSome result (Spells (bounds_of shape.now) Kind.Read (words_left (option_copied left.entry))) }
-    ensures none { IfNone result ((op : Op) → ¬ Spells (bounds_of shape.now) Kind.Read (words_left (option_copied left.entry)) op) }
+    ensures some { IfSome result (Spells (bounds_of shape.now) StepKind.Read (words_left (option_copied left.entry))) }
+    ensures none { IfNone result ((op : Op) → ¬ Spells (bounds_of shape.now) StepKind.Read (words_left (option_copied left.entry)) op) }
 {
     let (row, which) = two_numbers(left, shape.rows(), 2)?;
     Some(Op::Read { row, which })
@@ -107,8 +107,8 @@ fn read_value(shape: &Shape, left: Option<&[u8]>) -> Option<Op>
 
 // A slot and a row.
 fn read_publish(shape: &Shape, left: Option<&[u8]>) -> Option<Op>
-    ensures some { IfSome result (Spells (bounds_of shape.now) Kind.Publish (words_left (option_copied left.entry))) }
-    ensures none { IfNone result ((op : Op) → ¬ Spells (bounds_of shape.now) Kind.Publish (words_left (option_copied left.entry)) op) }
+    ensures some { IfSome result (Spells (bounds_of shape.now) StepKind.Publish (words_left (option_copied left.entry))) }
+    ensures none { IfNone result ((op : Op) → ¬ Spells (bounds_of shape.now) StepKind.Publish (words_left (option_copied left.entry)) op) }
 {
     let (slot, row) = two_numbers(left, 8, shape.rows())?;
     Some(Op::Publish { slot, row })
@@ -116,79 +116,79 @@ fn read_publish(shape: &Shape, left: Option<&[u8]>) -> Option<Op>
 
 // A slot and the row that it moves on to.
 fn read_move(shape: &Shape, left: Option<&[u8]>) -> Option<Op>
-    ensures some { IfSome result (Spells (bounds_of shape.now) Kind.MoveOn (words_left (option_copied left.entry))) }
-    ensures none { IfNone result ((op : Op) → ¬ Spells (bounds_of shape.now) Kind.MoveOn (words_left (option_copied left.entry)) op) }
+    ensures some { IfSome result (Spells (bounds_of shape.now) StepKind.MoveOn (words_left (option_copied left.entry))) }
+    ensures none { IfNone result ((op : Op) → ¬ Spells (bounds_of shape.now) StepKind.MoveOn (words_left (option_copied left.entry)) op) }
 {
     let (slot, row) = two_numbers(left, 8, shape.rows())?;
     Some(Op::MoveOn { slot, row })
 }
 
 // The op of a kind, by the words that are left behind its own.
-fn op_of(shape: &Shape, kind: Kind, left: Option<&[u8]>) -> Option<Op>
+fn read_op(shape: &Shape, kind: StepKind, left: Option<&[u8]>) -> Option<Op>
     ensures some { IfSome result (Spells (bounds_of shape.now) kind (words_left (option_copied left.entry))) }
     ensures none { IfNone result ((op : Op) → ¬ Spells (bounds_of shape.now) kind (words_left (option_copied left.entry)) op) }
 {
     match kind {
-        Kind::Enroll if left.is_none() => Some(Op::Enroll),
-        Kind::Enroll => None,
-        Kind::Look => Some(Op::GateLook {
+        StepKind::Enroll if left.is_none() => Some(Op::Enroll),
+        StepKind::Enroll => None,
+        StepKind::Look => Some(Op::GateLook {
             row: one_number(left, shape.rows())?,
         }),
-        Kind::Take => Some(Op::GateTake {
+        StepKind::Take => Some(Op::GateTake {
             row: one_number(left, shape.rows())?,
         }),
-        Kind::Fill => read_fill(shape, left),
-        Kind::Read => read_value(shape, left),
-        Kind::Load => read_load(shape, left),
-        Kind::Publish => read_publish(shape, left),
-        Kind::Clear => Some(Op::Clear {
+        StepKind::Fill => read_fill(shape, left),
+        StepKind::Read => read_value(shape, left),
+        StepKind::Load => read_load(shape, left),
+        StepKind::Publish => read_publish(shape, left),
+        StepKind::Clear => Some(Op::Clear {
             slot: one_number(left, 8)?,
         }),
-        Kind::Arm => Some(Op::Arm {
+        StepKind::Arm => Some(Op::Arm {
             row: one_number(left, shape.rows())?,
         }),
-        Kind::Cas => read_cas(shape, left),
-        Kind::Store => read_store(shape, left),
-        Kind::Side => read_side(shape, left),
-        Kind::Inc => Some(Op::Inc {
+        StepKind::Cas => read_cas(shape, left),
+        StepKind::Store => read_store(shape, left),
+        StepKind::Side => read_side(shape, left),
+        StepKind::Inc => Some(Op::Inc {
             row: one_number(left, shape.rows())?,
         }),
-        Kind::Dec => Some(Op::Dec {
+        StepKind::Dec => Some(Op::Dec {
             row: one_number(left, shape.rows())?,
         }),
-        Kind::Set => read_set(shape, left),
-        Kind::Count => Some(Op::CounterLoad {
+        StepKind::Set => read_set(shape, left),
+        StepKind::Count => Some(Op::CounterLoad {
             row: one_number(left, shape.rows())?,
             how: CounterUse::Check,
         }),
-        Kind::Start => Some(Op::CounterLoad {
+        StepKind::Start => Some(Op::CounterLoad {
             row: one_number(left, shape.rows())?,
             how: CounterUse::Start,
         }),
-        Kind::End => Some(Op::CounterLoad {
+        StepKind::End => Some(Op::CounterLoad {
             row: one_number(left, shape.rows())?,
             how: CounterUse::End,
         }),
-        Kind::Unretire => Some(Op::Unretire {
+        StepKind::Unretire => Some(Op::Unretire {
             row: one_number(left, shape.rows())?,
         }),
-        Kind::Slot => Some(Op::SlotLook {
+        StepKind::Slot => Some(Op::SlotLook {
             k: one_number(left, 8 * shape.agents())?,
         }),
-        Kind::Hand => Some(Op::Hand {
+        StepKind::Hand => Some(Op::Hand {
             k: one_number(left, 8 * shape.agents())?,
         }),
-        Kind::TakeIn => Some(Op::TakeIn {
+        StepKind::TakeIn => Some(Op::TakeIn {
             slot: one_number(left, 8)?,
         }),
-        Kind::Free => Some(Op::Free {
+        StepKind::Free => Some(Op::Free {
             row: one_number(left, shape.rows())?,
         }),
-        Kind::MoveOn => read_move(shape, left),
-        Kind::Handover => Some(Op::HandoverLook {
+        StepKind::MoveOn => read_move(shape, left),
+        StepKind::Handover => Some(Op::HandoverLook {
             slot: one_number(left, 8)?,
         }),
-        Kind::DecHeld => Some(Op::DecHeld {
+        StepKind::DecHeld => Some(Op::DecHeld {
             row: one_number(left, shape.rows())?,
         }),
     }
@@ -203,7 +203,7 @@ fn step_of(shape: &Shape, line: &[u8]) -> Option<(u32, Op)>
     let agent = number_below(agent, shape.agents())?;
     let (word, left) = first_word(left)?;
     let kind = kind_of(word)?;
-    let op = op_of(shape, kind, left)?;
+    let op = read_op(shape, kind, left)?;
     Some((agent, op))
 }
 

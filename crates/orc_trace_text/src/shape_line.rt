@@ -10,7 +10,7 @@ ghost use Rattle.orc_trace_text.specs.Reading.{EndsInLinks, words_left};
 ghost use Rattle.orc_trace_text.specs.TraceText.{AreWide, IsShapeText, IsWide};
 
 use crate::cut::{cut, first_word, one_word};
-use crate::kind::is_word;
+use crate::kind::is_the_word;
 use orc_decimal::number_of;
 use orc_words::{Shape, ShapeFault};
 
@@ -60,12 +60,12 @@ fn links_of(left: Option<&[u8]>) -> Option<u64>
 }
 
 // The numbers that a first line spells.
-fn numbers_of(line: &[u8]) -> Option<Asked>
+fn read_numbers(line: &[u8]) -> Option<Asked>
     ensures some { IfSome result (λ asked. AreWide (bounds_asked asked) × IsShapeText (bounds_asked asked) line.now) }
     ensures none { IfNone result ((b : Bounds) → AreWide b → ¬ IsShapeText b line.now) }
 {
     let (word, left) = cut(line, b' ');
-    if !is_word(word, b"shape") {
+    if !is_the_word(word, b"shape") {
         return None;
     }
     let (rows, left) = first_number(left)?;
@@ -120,7 +120,7 @@ pub fn read_shape(bytes: &[u8]) -> Result<(Shape, &[u8]), ShapeWord>
     let Some(lines) = rest else {
         return Err(ShapeWord::Unreadable);
     };
-    let Some(asked) = numbers_of(line) else {
+    let Some(asked) = read_numbers(line) else {
         return Err(ShapeWord::Unreadable);
     };
     let shape = shape_of(&asked)?;

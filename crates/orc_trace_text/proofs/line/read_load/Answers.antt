@@ -2,7 +2,7 @@ use Rattle.std.proofs.Common.{◌∙◌, sym, inl, inr}
 use Rattle.std.specs.Option.{option_copied}
 use Rattle.orc_words.specs.Bounds.{bounds_of}
 use Rattle.orc_trace_text.specs.Reading.{words_left}
-use Rattle.orc_trace_text.specs.declared.kind.Kind.TheVariants as kind
+use Rattle.orc_trace_text.specs.declared.kind.StepKind.TheVariants as kind
 use Rattle.orc_trace_text.proofs.Spelled.{spelled}
 use Rattle.orc_trace_text.proofs.Words.{words-some}
 use Rattle.orc_trace_text.proofs.line.read_load.Goals as goal

@@ -9,8 +9,8 @@ returns-in_default-clause-err c b rest h =
     let cut = rw c.in_default.is at c.cut.ensures in
     cut-none 10 c.cut.result.0.now h.line rest cut.1 (sym cut.0 ∙ h.text)
 
-pub returns-in_default-numbers_of-clause-err : goal.returns-in_default-numbers_of-clause-err
-returns-in_default-numbers_of-clause-err c b rest h =
+pub returns-in_default-read_numbers-clause-err : goal.returns-in_default-read_numbers-clause-err
+returns-in_default-read_numbers-clause-err c b rest h =
     let cut = rw c.in-Some.is at c.cut.ensures in
     let same = cut-unique 10 c.cut.result.0.now h.line c.in-Some.lines.now rest cut.1 (Lacks-shape b h.line h.wide h.spells) (sym cut.0 ∙ h.text) in
-    c.in_default-numbers_of.ensures.none b h.wide (subst (IsShapeText b) (sym same.0) h.spells)
+    c.in_default-read_numbers.ensures.none b h.wide (subst (IsShapeText b) (sym same.0) h.spells)

@@ -4,7 +4,7 @@ use Rattle.orc_core.specs.Machine.{Machine, is_allowed, step}
 use Rattle.orc_trace.specs.Replay.{BeginsWithSteps}
 use Rattle.orc_trace_text.proofs.Lines.{shape-in_range}
 use Rattle.orc_trace.proofs.Plays.{Continues, Continues-here, Continues-start, Continues-step, none-left, room-here, some-left, step-shorter}
-use Rattle.orc_trace.proofs.playing.play.Goals as goal
+use Rattle.orc_trace.proofs.playing.play_lines.Goals as goal
 
 pub loop-rest-init : goal.loop-rest-init
 loop-rest-init c = record { short = omega arith; so = Continues-start (bounds_of c.args.shape.now) c.args.state.now c.args.lines.now }

@@ -5,12 +5,12 @@ use Rattle.orc_words.specs.Bounds.{Bounds}
 use Rattle.orc_trace_text.specs.Reading.{words_in, words_left}
 use Rattle.orc_trace_text.proofs.Lines.{shape-parts, shape-spelled, shape_words}
 use Rattle.orc_trace_text.proofs.Words.{text-of_words, words-cut}
-use Rattle.orc_trace_text.proofs.shape_line.numbers_of.Goals as goal
+use Rattle.orc_trace_text.proofs.shape_line.read_numbers.Goals as goal
 
-pub returns-then-not-is_word-clause-none : goal.returns-then-not-is_word-clause-none
-returns-then-not-is_word-clause-none c b wide h =
+pub returns-then-not-is_the_word-clause-none : goal.returns-then-not-is_the_word-clause-none
+returns-then-not-is_the_word-clause-none c b wide h =
     let parts = shape-parts b c.args.line.now c.cut.result.0.now (option_copied c.cut.result.1) wide h c.cut.ensures in
-    c.if-not-is_word.ensures.other refl parts.2
+    c.if-not-is_the_word.ensures.other refl parts.2
 
 pub returns-in_err-rows-clause-none : goal.returns-in_err-rows-clause-none
 returns-in_err-rows-clause-none c = rw c.from_residual.ensures (λ b wide h.
@@ -51,7 +51,7 @@ returns-in_err-links-clause-none c = rw c.from_residual-in_err-links.ensures (λ
 pub returns-clause-some : goal.returns-clause-some
 returns-clause-some c =
     let cut = words-cut c.args.line.now c.cut.result.0.now (option_copied c.cut.result.1) c.cut.ensures in
-    let name = c.if-not-is_word.ensures.same refl in
+    let name = c.if-not-is_the_word.ensures.same refl in
     let rows = c.in_ok-rows.ensures.some in
     let roots = c.in_ok-roots.ensures.some in
     let agents = c.in_ok-agents.ensures.some in

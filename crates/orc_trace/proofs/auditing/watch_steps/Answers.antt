@@ -5,7 +5,7 @@ use Rattle.orc_trace.specs.Reaching.{HasMarks}
 use Rattle.orc_trace.proofs.Plays.{step-shorter}
 use Rattle.orc_trace.proofs.Watching.{room-so-far, so-far-bounds, so-far-first, so-far-more}
 use Rattle.orc_trace_text.proofs.Lines.{shape-in_range}
-use Rattle.orc_trace.proofs.auditing.watch.Goals as goal
+use Rattle.orc_trace.proofs.auditing.watch_steps.Goals as goal
 
 pub loop-rest-init : goal.loop-rest-init
 loop-rest-init c =

@@ -1,7 +1,7 @@
 use Rattle.std.proofs.Common.{◌+◌, ◌≤◌, length}
 use Rattle.orc_words.specs.Bounds.{bounds_of}
 use Rattle.orc_trace.proofs.Plays.{Continues}
-use Rattle.orc_trace.proofs.playing.play.Given as goal
+use Rattle.orc_trace.proofs.playing.play_lines.Given as goal
 
 abbrev pub decreases-loop-rest : goal.decreases-loop-rest
 decreases-loop-rest l = length l.rest

@@ -2,7 +2,7 @@ use Rattle.std.proofs.Common.{◌+◌, ◌≤◌, length}
 use Rattle.orc_words.specs.Bounds.{bounds_of}
 use Rattle.orc_trace.specs.Reaching.{HasMarks}
 use Rattle.orc_trace.proofs.Watching.{SoFar}
-use Rattle.orc_trace.proofs.auditing.watch.Given as goal
+use Rattle.orc_trace.proofs.auditing.watch_steps.Given as goal
 
 abbrev pub decreases-loop-rest : goal.decreases-loop-rest
 decreases-loop-rest l = length l.rest
