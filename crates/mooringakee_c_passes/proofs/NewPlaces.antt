@@ -14,18 +14,18 @@ use Rattle.orc_machine_board.specs.declared.machine.Request.{Request}
 use Rattle.orc_shared_words.specs.Lists.{EachAt}
 use Rattle.orc_shared_words.specs.declared.machine.Machine as machine
 use Rattle.orc_sound.specs.declared.steps.Step.{Step}
-use Rattle.mooringakee_c_passes.specs.Kinds.{Kind, calls_in}
+use Rattle.mooringakee_c_passes.specs.Kinds.{ContainerKind, calls_in}
 use Rattle.mooringakee_c_passes.specs.Places.{GetsPlace, IsNewPlace}
 use Rattle.mooringakee_c_passes.specs.Usable.{CanBeUsed}
-use Rattle.mooringakee_c_passes.specs.declared.place.Place.{Place}
+use Rattle.mooringakee_c_passes.specs.declared.place.AgentPlace.{AgentPlace}
 use Rattle.mooringakee_c_passes.specs.declared.seat.Seat.{Seat}
 
 module _ {D N E W C T K : Type 0} {d : discipline.Ghosts D N} {m : machine.Ghosts Reclaiming N (MachineShape N) Request (Step N) Agent Agent}
-    (kind : Kind D N E W) (container : C) (domain_of : C → OrcDomain D N) (domain : OrcDomain D N) (here : domain_of container ≡ domain)
+    (kind : ContainerKind D N E W) (container : C) (domain_of : C → OrcDomain D N) (domain : OrcDomain D N) (here : domain_of container ≡ domain)
     (rooms : GivenBack T K (OrcDomain D N)) (turns : ℕ)
   where
     -- the place of a new pass is a new place
-    new_place : (agent : ℕ) (p : OrcPass D N (MachineShape N) Request (Step N) Agent Agent d m) (place : Place C (GivenBack T K (OrcDomain D N)) (OrcPass D N (MachineShape N) Request (Step N) Agent Agent d m)) → place.container.value ≡ container → place.places.value ≡ rooms → p ≡ place.pass
+    new_place : (agent : ℕ) (p : OrcPass D N (MachineShape N) Request (Step N) Agent Agent d m) (place : AgentPlace C (GivenBack T K (OrcDomain D N)) (OrcPass D N (MachineShape N) Request (Step N) Agent Agent d m)) → place.container.value ≡ container → place.places.value ≡ rooms → p ≡ place.pass
         → place.turns ≡ turns → CanBeUsed domain (tags rooms) p → (seat_of domain p).agent ≡ agent → calls_in kind domain (journal_of p) ≡ []
         → IsNewPlace kind domain turns agent (domain_of place.container.value) place
     new_place agent p place same places is turns_are can agent_is none =
@@ -42,14 +42,14 @@ module _ {D N E W C T K : Type 0} {d : discipline.Ghosts D N} {m : machine.Ghost
         }
 
     -- and so of all passes, in order
-    pub new_seats : (seat : Place C (GivenBack T K (OrcDomain D N)) (OrcPass D N (MachineShape N) Request (Step N) Agent Agent d m) → Seat) (IsNew : ℕ → Seat → Type 0)
+    pub new_seats : (seat : AgentPlace C (GivenBack T K (OrcDomain D N)) (OrcPass D N (MachineShape N) Request (Step N) Agent Agent d m) → Seat) (IsNew : ℕ → Seat → Type 0)
         (passes : List (OrcPass D N (MachineShape N) Request (Step N) Agent Agent d m)) (seats : List (Box Seat Global)) → length seats ≡ length passes
         → All (λ p. CanBeUsed domain (tags rooms) p) passes → EachAt (λ i p. (seat_of domain p).agent ≡ i) passes
         → All (λ p. calls_in kind domain (journal_of p) ≡ []) passes
-        → (made : Place C (GivenBack T K (OrcDomain D N)) (OrcPass D N (MachineShape N) Request (Step N) Agent Agent d m) → Seat → Type 0)
+        → (made : AgentPlace C (GivenBack T K (OrcDomain D N)) (OrcPass D N (MachineShape N) Request (Step N) Agent Agent d m) → Seat → Type 0)
         → EachAt (λ i b. GetsPlace made container rooms passes turns i b.value) seats
-        → ((place : Place C (GivenBack T K (OrcDomain D N)) (OrcPass D N (MachineShape N) Request (Step N) Agent Agent d m)) (s : Seat) → made place s → s ≡ seat place)
-        → ((agent : ℕ) (place : Place C (GivenBack T K (OrcDomain D N)) (OrcPass D N (MachineShape N) Request (Step N) Agent Agent d m))
+        → ((place : AgentPlace C (GivenBack T K (OrcDomain D N)) (OrcPass D N (MachineShape N) Request (Step N) Agent Agent d m)) (s : Seat) → made place s → s ≡ seat place)
+        → ((agent : ℕ) (place : AgentPlace C (GivenBack T K (OrcDomain D N)) (OrcPass D N (MachineShape N) Request (Step N) Agent Agent d m))
         → IsNewPlace kind domain turns agent (domain_of place.container.value) place → IsNew agent (seat place))
         → EachAt (λ agent b. IsNew agent b.value) seats
     new_seats seat IsNew passes seats many can order none made gets seated is_new i b low =

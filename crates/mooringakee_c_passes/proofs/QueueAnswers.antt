@@ -23,7 +23,7 @@ use Rattle.orc_queue.specs.Causes.{Cause}
 use Rattle.orc_queue.specs.Turns.{HasDummy}
 use Rattle.orc_shared_words.specs.declared.machine.Machine as machine
 use Rattle.orc_sound.specs.declared.steps.Step.{Step}
-use Rattle.mooringakee_c_passes.specs.Kinds.{BeginsAtZero, calls_in, queue, view_of}
+use Rattle.mooringakee_c_passes.specs.Kinds.{BeginsAtZero, calls_in, queue, calls_view}
 use Rattle.mooringakee_c_passes.specs.Views.{GoesOn, RefusesCall}
 use Rattle.mooringakee_c_passes.proofs.Entering as entering
 use Rattle.mooringakee_c_passes.proofs.Histories.{legal_queue}
@@ -47,13 +47,13 @@ module _ {m : machine.Ghosts Reclaiming FifoNote (MachineShape FifoNote) Request
     zero_here : BeginsAtZero x
     zero_here = subst (λ (z : OrcDomain Fifo FifoNote). BeginsAtZero z) (sym is) zero
 
-    pub entered : (own : List QueueEntry) → AddsOwn own → GoesOn (view_of queue y turns old) own (view_of queue y turns new)
+    pub entered : (own : List QueueEntry) → AddsOwn own → GoesOn (calls_view queue y turns old) own (calls_view queue y turns new)
     entered own adds = entering.entered queue x y is turns old new (legal_queue x new made zero_here u.0) agent own adds
 
     pub refused : (why : QueueRefused) → AddsOwn []
         → Within (length (journal_of old)) (length (journal_of new))
         (cause_over x (position_of (run_heap (domain_numbers x) (domain_opening x)) 0) (seat_of x old).agent turns why (journal_of new))
-        → RefusesCall (view_of queue y turns old) why (view_of queue y turns new)
+        → RefusesCall (calls_view queue y turns old) why (calls_view queue y turns new)
     refused why adds cause =
         entering.refused queue x y is turns old new (legal_queue x new made zero_here u.0) agent why adds
         (subst (λ (n : ℕ). Within (length (journal_of old)) (length (journal_of new)) (cause_over x n (seat_of x old).agent turns why (journal_of new)))

@@ -5,12 +5,12 @@ use Rattle.orc_history.specs.SetHistory.{IsLegalSet, agent_of_set_entry}
 use Rattle.orc_history.specs.declared.set.ListRefused.{ListRefused}
 use Rattle.orc_history.specs.declared.set.SetEntry.{SetEntry}
 use Rattle.orc_history.specs.declared.set.SharedSet.{Ghosts as SetOf}
-use Rattle.mooringakee_c_passes.specs.SetCalls.{SetView, view_over}
+use Rattle.mooringakee_c_passes.specs.SetCalls.{SetCallView, view_over}
 use Rattle.mooringakee_c_passes.specs.Views.{GoesOn, RefusesCall}
 
 module _ {S P J : Type 0} (m : SetOf S P J) (turns : ℕ) (old new : P) where
   -- what is told of a set is told of the same one by its owner's name
-  pub named : (x y : S) → x ≡ y → (Claim : SetView → SetView → Type 0) → Claim (view_over m x turns old) (view_over m x turns new)
+  pub named : (x y : S) → x ≡ y → (Claim : SetCallView → SetCallView → Type 0) → Claim (view_over m x turns old) (view_over m x turns new)
       → Claim (view_over m y turns old) (view_over m y turns new)
   named x y is Claim = subst (λ (s : S). Claim (view_over m s turns old) (view_over m s turns new)) is
 

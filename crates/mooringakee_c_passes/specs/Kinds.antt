@@ -32,24 +32,24 @@ use Rattle.orc_sound.specs.declared.steps.Step.{Step}
 use Rattle.orc_split_rule.specs.SplitDiscipline.{entries_in as split_entries}
 use Rattle.orc_split_rule.specs.declared.split.Split.{Split}
 use Rattle.orc_split_rule.specs.declared.split.SplitNote.{SplitNote}
-use Rattle.mooringakee_c_passes.specs.Views.{View}
+use Rattle.mooringakee_c_passes.specs.Views.{CallView}
 
 -- the entries that a note stands for, whose an entry is, which histories are legal, and the cause of a refusal of a call by this agent
 -- with so many turns, between two places of a journal
-pub record Kind (D N E W : Type 0) : Type 1 where
+pub record ContainerKind (D N E W : Type 0) : Type 1 where
   pub entries_in : Option N → List E
   pub agent_of : E → ℕ
   pub IsLegal : List E → Type 0
   pub cause : OrcDomain D N → ℕ → ℕ → W → List (Step N) → ℕ → ℕ → Type 0
 
 -- the calls of the container that stand in a journal of this domain
-abbrev pub calls_in : {D N E W : Type 0} → Kind D N E W → OrcDomain D N → List (Step N) → List E
+abbrev pub calls_in : {D N E W : Type 0} → ContainerKind D N E W → OrcDomain D N → List (Step N) → List E
 calls_in kind domain journal = noted_entries kind.entries_in (project (domain_bounds domain) journal)
 
-module _ {D N E W : Type 0} {d : discipline.Ghosts D N} {m : machine.Ghosts Reclaiming N (MachineShape N) Request (Step N) Agent Agent} (kind : Kind D N E W) where
+module _ {D N E W : Type 0} {d : discipline.Ghosts D N} {m : machine.Ghosts Reclaiming N (MachineShape N) Request (Step N) Agent Agent} (kind : ContainerKind D N E W) where
   -- what a pass to this domain shows of the container, before a call with so many turns or after it
-  abbrev pub view_of : OrcDomain D N → ℕ → OrcPass D N (MachineShape N) Request (Step N) Agent Agent d m → View E W
-  view_of domain turns p = record {
+  abbrev pub calls_view : OrcDomain D N → ℕ → OrcPass D N (MachineShape N) Request (Step N) Agent Agent d m → CallView E W
+  calls_view domain turns p = record {
     agent_of = kind.agent_of;
     IsLegal = kind.IsLegal;
     seen = calls_in kind domain (journal_of p);
@@ -65,7 +65,7 @@ abbrev pub BeginsAtZero : OrcDomain Fifo FifoNote → Type 0
 BeginsAtZero domain = position_of (run_heap (domain_numbers domain) (domain_opening domain)) 0 ≡ 0
 
 -- queues
-abbrev pub queue : Kind Fifo FifoNote QueueEntry QueueRefused
+abbrev pub queue : ContainerKind Fifo FifoNote QueueEntry QueueRefused
 queue = record {
   entries_in = queue_entries;
   agent_of = agent_of_entry;
@@ -76,7 +76,7 @@ queue = record {
 }
 
 -- bucketed sets
-abbrev pub set : Kind Chain ChainNote SetEntry ListRefused
+abbrev pub set : ContainerKind Chain ChainNote SetEntry ListRefused
 set = record {
   entries_in = chain_entries;
   agent_of = agent_of_set_entry;
@@ -88,7 +88,7 @@ set = record {
 }
 
 -- split-ordered sets
-abbrev pub split : Kind Split SplitNote SetEntry ListRefused
+abbrev pub split : ContainerKind Split SplitNote SetEntry ListRefused
 split = record {
   entries_in = split_entries;
   agent_of = agent_of_set_entry;

@@ -16,17 +16,17 @@ use Rattle.orc_machine_board.specs.declared.machine.Reclaiming.{Reclaiming}
 use Rattle.orc_machine_board.specs.declared.machine.Request.{Request}
 use Rattle.orc_shared_words.specs.declared.machine.Machine as machine
 use Rattle.orc_sound.specs.declared.steps.Step.{Step}
-use Rattle.mooringakee_c_passes.specs.Kinds.{Kind, calls_in}
+use Rattle.mooringakee_c_passes.specs.Kinds.{ContainerKind, calls_in}
 use Rattle.mooringakee_c_passes.specs.Usable.{CanBeUsed}
 use Rattle.mooringakee_c_passes.specs.declared.answer.Answer.{Answer}
 use Rattle.mooringakee_c_passes.specs.declared.answer.Answer.TheVariants.{Done, Kept}
-use Rattle.mooringakee_c_passes.specs.declared.place.Place.{Place}
+use Rattle.mooringakee_c_passes.specs.declared.place.AgentPlace.{AgentPlace}
 use Rattle.mooringakee_c_passes.specs.declared.seat.Seat.{Seat}
 
 -- the seat of the i-th of these passes: its place is at this container, and has these places to give passes back to
-pub record GetsPlace {C G P : Type 0} (seats : Place C G P → Seat → Type 0) (container : C) (places : G) (passes : List P) (turns i : ℕ)
+pub record GetsPlace {C G P : Type 0} (seats : AgentPlace C G P → Seat → Type 0) (container : C) (places : G) (passes : List P) (turns i : ℕ)
     (seat : Seat) : Type 0 where
-  pub place : Place C G P
+  pub place : AgentPlace C G P
   pub is : seats place seat
   pub container_is : place.container.value ≡ container
   pub places_are : place.places.value ≡ places
@@ -34,10 +34,10 @@ pub record GetsPlace {C G P : Type 0} (seats : Place C G P → Seat → Type 0) 
   pub turns_are : place.turns ≡ turns
 
 -- nothing is left, or some rows, which is so only where other agents made steps meanwhile; and the rest is quiet
-abbrev pub Settles : (Quiet Alone : Type 0) → ℕ → Answer → Type 0
-Settles Quiet Alone left Done = Quiet × (left ≡ 0)
-Settles Quiet Alone left Kept = Quiet × (¬ Alone)
-Settles Quiet Alone left _ = ⊥
+abbrev pub SettlesQuietly : (Quiet Alone : Type 0) → ℕ → Answer → Type 0
+SettlesQuietly Quiet Alone left Done = Quiet × (left ≡ 0)
+SettlesQuietly Quiet Alone left Kept = Quiet × (¬ Alone)
+SettlesQuietly Quiet Alone left _ = ⊥
 
 module _ {D N : Type 0} {d : discipline.Ghosts D N} {m : machine.Ghosts Reclaiming N (MachineShape N) Request (Step N) Agent Agent} where
   -- how many retired rows a pass has to work through: those in its work list, and one that it has in hand or scanned
@@ -50,26 +50,26 @@ module _ {D N : Type 0} {d : discipline.Ghosts D N} {m : machine.Ghosts Reclaimi
 
   module _ {C T K : Type 0} where
     -- the place can be used over this domain
-    abbrev pub IsPlace : OrcDomain D N
-        → Place C (GivenBack T K (OrcDomain D N)) (OrcPass D N (MachineShape N) Request (Step N) Agent Agent d m) → Type 0
-    IsPlace domain s = CanBeUsed domain (tags s.places.value) s.pass
+    abbrev pub IsUsablePlace : OrcDomain D N
+        → AgentPlace C (GivenBack T K (OrcDomain D N)) (OrcPass D N (MachineShape N) Request (Step N) Agent Agent d m) → Type 0
+    IsUsablePlace domain s = CanBeUsed domain (tags s.places.value) s.pass
 
     -- the place is the same, and its pass made no event
-    pub record MakesNoEvent (domain : OrcDomain D N)
-        (old new : Place C (GivenBack T K (OrcDomain D N)) (OrcPass D N (MachineShape N) Request (Step N) Agent Agent d m)) : Type 0 where
+    pub record StaysWithoutEvent (domain : OrcDomain D N)
+        (old new : AgentPlace C (GivenBack T K (OrcDomain D N)) (OrcPass D N (MachineShape N) Request (Step N) Agent Agent d m)) : Type 0 where
       pub container : new.container ≡ old.container
       pub turns : new.turns ≡ old.turns
       pub nothing : Only [] (seat_of domain old.pass) (seat_of domain new.pass)
 
     -- settling: the place is the same, and its pass made no event
-    abbrev pub SettlesPlace : OrcDomain D N → Place C (GivenBack T K (OrcDomain D N)) (OrcPass D N (MachineShape N) Request (Step N) Agent Agent d m)
-        → Answer → Place C (GivenBack T K (OrcDomain D N)) (OrcPass D N (MachineShape N) Request (Step N) Agent Agent d m) → Type 0
-    SettlesPlace domain old answer new = Settles (MakesNoEvent domain old new) (WasAloneAt domain old.pass new.pass) (backlog_of new.pass) answer
+    abbrev pub SettlesPlace : OrcDomain D N → AgentPlace C (GivenBack T K (OrcDomain D N)) (OrcPass D N (MachineShape N) Request (Step N) Agent Agent d m)
+        → Answer → AgentPlace C (GivenBack T K (OrcDomain D N)) (OrcPass D N (MachineShape N) Request (Step N) Agent Agent d m) → Type 0
+    SettlesPlace domain old answer new = SettlesQuietly (StaysWithoutEvent domain old new) (WasAloneAt domain old.pass new.pass) (backlog_of new.pass) answer
 
     -- the agent's place at a new container over this domain, by the domain that its own container stands on
-    pub record IsNewPlace {E W : Type 0} (kind : Kind D N E W) (domain : OrcDomain D N) (turns agent : ℕ) (own : OrcDomain D N)
-        (s : Place C (GivenBack T K (OrcDomain D N)) (OrcPass D N (MachineShape N) Request (Step N) Agent Agent d m)) : Type 0 where
-      pub usable : IsPlace own s
+    pub record IsNewPlace {E W : Type 0} (kind : ContainerKind D N E W) (domain : OrcDomain D N) (turns agent : ℕ) (own : OrcDomain D N)
+        (s : AgentPlace C (GivenBack T K (OrcDomain D N)) (OrcPass D N (MachineShape N) Request (Step N) Agent Agent d m)) : Type 0 where
+      pub usable : IsUsablePlace own s
       pub domain_is : own ≡ domain
       pub turns_are : s.turns ≡ turns
       pub agent_is : (seat_of own s.pass).agent ≡ agent

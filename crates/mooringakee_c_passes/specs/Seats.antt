@@ -1,9 +1,9 @@
 -- An agent's place at a container of any kind, and what a call through a pass answers.
 use Rattle.std.specs.Prelude.{None, Option, Some, ◌≡◌}
-use Rattle.mooringakee_c_passes.specs.Kinds.{BeginsAtZero, queue, set, split, view_of}
-use Rattle.mooringakee_c_passes.specs.Places.{IsPlace}
-use Rattle.mooringakee_c_passes.specs.QueueCalls.{QueueView}
-use Rattle.mooringakee_c_passes.specs.SetCalls.{SetView}
+use Rattle.mooringakee_c_passes.specs.Kinds.{BeginsAtZero, queue, set, split, calls_view}
+use Rattle.mooringakee_c_passes.specs.Places.{IsUsablePlace}
+use Rattle.mooringakee_c_passes.specs.QueueCalls.{QueueCallView}
+use Rattle.mooringakee_c_passes.specs.SetCalls.{SetCallView}
 use Rattle.mooringakee_c_passes.specs.SplitCalls.{SplitView, split_view}
 use Rattle.mooringakee_c_passes.specs.declared.answer.Answer.{Answer}
 use Rattle.mooringakee_c_passes.specs.declared.answer.Answer.TheVariants.{Kind, NoPass}
@@ -12,24 +12,24 @@ use Rattle.mooringakee_c_passes.specs.declared.seat.Seat.TheVariants.{Queue, Set
 
 -- it can be used, and positions of a queue begin with 0
 abbrev pub IsSeat : Seat → Type 0
-IsSeat (Queue s) = IsPlace s.container.value.links s × BeginsAtZero s.container.value.links
-IsSeat (Set s) = IsPlace s.container.value.list.links s
-IsSeat (Split s) = IsPlace s.container.value.links s
+IsSeat (Queue s) = IsUsablePlace s.container.value.links s × BeginsAtZero s.container.value.links
+IsSeat (Set s) = IsUsablePlace s.container.value.list.links s
+IsSeat (Split s) = IsUsablePlace s.container.value.links s
 
 -- a call at a queue: the queue is the same, and a place at a set of any kind stays as it is
-abbrev pub AtQueue : (QueueView → Answer → QueueView → Type 0) → Seat → Answer → Seat → Type 0
+abbrev pub AtQueue : (QueueCallView → Answer → QueueCallView → Type 0) → Seat → Answer → Seat → Type 0
 AtQueue call (Queue old) answer (Queue new) = (new.container ≡ old.container)
-    × call (view_of queue old.container.value.links old.turns old.pass) answer (view_of queue new.container.value.links new.turns new.pass)
+    × call (calls_view queue old.container.value.links old.turns old.pass) answer (calls_view queue new.container.value.links new.turns new.pass)
 AtQueue call (Set old) Kind (Set new) = new ≡ old
 AtQueue call (Split old) Kind (Split new) = new ≡ old
 AtQueue call _ _ _ = ⊥
 
 -- a call at a set of any kind: the set is the same, and a place at a queue stays as it is
-abbrev pub AtSet : (SetView → Answer → SetView → Type 0) → Seat → Answer → Seat → Type 0
+abbrev pub AtSet : (SetCallView → Answer → SetCallView → Type 0) → Seat → Answer → Seat → Type 0
 AtSet call (Set old) answer (Set new) = (new.container ≡ old.container)
-    × call (view_of set old.container.value.list.links old.turns old.pass) answer (view_of set new.container.value.list.links new.turns new.pass)
+    × call (calls_view set old.container.value.list.links old.turns old.pass) answer (calls_view set new.container.value.list.links new.turns new.pass)
 AtSet call (Split old) answer (Split new) = (new.container ≡ old.container)
-    × call (view_of split old.container.value.links old.turns old.pass) answer (view_of split new.container.value.links new.turns new.pass)
+    × call (calls_view split old.container.value.links old.turns old.pass) answer (calls_view split new.container.value.links new.turns new.pass)
 AtSet call (Queue old) Kind (Queue new) = new ≡ old
 AtSet call _ _ _ = ⊥
 

@@ -2,8 +2,8 @@
 use Rattle.std.specs.Prelude.{None, Option, Some, [], ℕ, ◌≡◌}
 use Rattle.orc_any_domain.specs.declared.domain.RowCounts.{RowCounts}
 use Rattle.mooringakee_c_passes.specs.Ending.{TellsRows}
-use Rattle.mooringakee_c_passes.specs.Kinds.{queue, set, split, view_of}
-use Rattle.mooringakee_c_passes.specs.Places.{Settles, WasAloneAt, backlog_of}
+use Rattle.mooringakee_c_passes.specs.Kinds.{queue, set, split, calls_view}
+use Rattle.mooringakee_c_passes.specs.Places.{SettlesQuietly, WasAloneAt, backlog_of}
 use Rattle.mooringakee_c_passes.specs.Seats.{IsSeat}
 use Rattle.mooringakee_c_passes.specs.Views.{GoesOn}
 use Rattle.mooringakee_c_passes.specs.declared.answer.Answer.{Answer}
@@ -27,16 +27,16 @@ WasAlone _ _ = ⊥
 -- the container is the same, and the place's agent entered nothing
 abbrev pub StaysWithoutEntry : Seat → Seat → Type 0
 StaysWithoutEntry (Queue old) (Queue new) = (new.container ≡ old.container)
-    × GoesOn (view_of queue old.container.value.links old.turns old.pass) [] (view_of queue new.container.value.links new.turns new.pass)
+    × GoesOn (calls_view queue old.container.value.links old.turns old.pass) [] (calls_view queue new.container.value.links new.turns new.pass)
 StaysWithoutEntry (Set old) (Set new) = (new.container ≡ old.container)
-    × GoesOn (view_of set old.container.value.list.links old.turns old.pass) [] (view_of set new.container.value.list.links new.turns new.pass)
+    × GoesOn (calls_view set old.container.value.list.links old.turns old.pass) [] (calls_view set new.container.value.list.links new.turns new.pass)
 StaysWithoutEntry (Split old) (Split new) = (new.container ≡ old.container)
-    × GoesOn (view_of split old.container.value.links old.turns old.pass) [] (view_of split new.container.value.links new.turns new.pass)
+    × GoesOn (calls_view split old.container.value.links old.turns old.pass) [] (calls_view split new.container.value.links new.turns new.pass)
 StaysWithoutEntry _ _ = ⊥
 
 -- nothing is left, or some rows, which is so only where other agents made steps meanwhile
 abbrev pub SettlesPass : Seat → Answer → Seat → Type 0
-SettlesPass old answer new = Settles (StaysWithoutEntry old new) (WasAlone old new) (backlog_at new) answer
+SettlesPass old answer new = SettlesQuietly (StaysWithoutEntry old new) (WasAlone old new) (backlog_at new) answer
 
 -- a question how many rows are left
 abbrev pub CountsBacklog : ℕ → Seat → Answer → Seat → Type 0

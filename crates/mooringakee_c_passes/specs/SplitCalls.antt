@@ -14,8 +14,8 @@ use Rattle.orc_sound.specs.declared.steps.Step.{Step}
 use Rattle.orc_split_rule.specs.SplitDiscipline.{IsSize, greatest, size_of}
 use Rattle.orc_split_rule.specs.declared.split.Split.{Split}
 use Rattle.orc_split_rule.specs.declared.split.SplitNote.{SplitNote}
-use Rattle.mooringakee_c_passes.specs.Kinds.{split, view_of}
-use Rattle.mooringakee_c_passes.specs.SetCalls.{SetView}
+use Rattle.mooringakee_c_passes.specs.Kinds.{split, calls_view}
+use Rattle.mooringakee_c_passes.specs.SetCalls.{SetCallView}
 use Rattle.mooringakee_c_passes.specs.Views.{GoesOn, RefusesCall}
 use Rattle.mooringakee_c_passes.specs.declared.answer.Answer.{Answer}
 use Rattle.mooringakee_c_passes.specs.declared.answer.Answer.TheVariants.{Again, Done}
@@ -23,7 +23,7 @@ use Rattle.mooringakee_c_passes.specs.declared.answer.Answer.TheVariants.{Again,
 -- what an agent's place at a split-ordered set shows: its calls; the number of buckets after the steps that its pass has seen; and to how
 -- many the set grows at most
 pub record SplitView : Type 1 where
-  pub calls : SetView
+  pub calls : SetCallView
   pub buckets : ℕ
   pub most : ℕ
 
@@ -31,7 +31,7 @@ module _ {d : discipline.Ghosts Split SplitNote} {m : machine.Ghosts Reclaiming 
   -- what a pass to this domain shows, before a call with so many turns or after it
   abbrev pub split_view : OrcDomain Split SplitNote → ℕ → OrcPass Split SplitNote (MachineShape SplitNote) Request (Step SplitNote) Agent Agent d m → SplitView
   split_view domain turns p = record {
-    calls = view_of split domain turns p;
+    calls = calls_view split domain turns p;
     buckets = size_of (domain_numbers domain) (seat_of domain p).seen;
     most = greatest (domain_numbers domain);
   }

@@ -2,7 +2,7 @@
 
 ghost use Rattle.std.specs.Prelude.{◌≡◌, ◌⊎◌, IfOk, IfSome};
 ghost use Rattle.mooringakee_c_passes.specs.Ending.{TellsRows};
-ghost use Rattle.mooringakee_c_passes.specs.Places.{IsPlace, SettlesPlace, backlog_of};
+ghost use Rattle.mooringakee_c_passes.specs.Places.{IsUsablePlace, SettlesPlace, backlog_of};
 ghost use Rattle.mooringakee_c_passes.specs.SetCalls.{AnswersCall, view_over};
 
 use crate::answer::Answer;
@@ -20,7 +20,7 @@ use std::sync::Arc;
 /// An agent's place at a container: its share of it and of the places to which passes are given back, its pass, and how many turns
 /// a call has.
 #[derive(Drop)]
-pub struct Place<C, G, P> {
+pub struct AgentPlace<C, G, P> {
     pub(crate) container: Arc<C, Global>,
     pub(crate) places: Arc<G, Global>,
     pub(crate) pass: P,
@@ -28,13 +28,13 @@ pub struct Place<C, G, P> {
 }
 
 /// A place at a container over a domain whose rows are reclaimed.
-pub(crate) type PlaceOn<D, C> = Place<C, Places<D>, OrcPass<D>>;
+pub(crate) type AgentPlaceOn<D, C> = AgentPlace<C, Places<D>, OrcPass<D>>;
 
-impl<D: Discipline, C: OnDomain<OrcDomain<D>>> PlaceOn<D, C> {
+impl<D: Discipline, C: OnDomain<OrcDomain<D>>> AgentPlaceOn<D, C> {
     // Takes in what was handed over to the pass, and works through its retired rows.
     pub(crate) fn settle(&mut self) -> Answer
-        requires { IsPlace (C.domain_of self.old.container.value) self.old }
-        ensures place { IsPlace (C.domain_of self.old.container.value) self.new }
+        requires { IsUsablePlace (C.domain_of self.old.container.value) self.old }
+        ensures place { IsUsablePlace (C.domain_of self.old.container.value) self.new }
         ensures answer { SettlesPlace (C.domain_of self.old.container.value) self.old result self.new }
     {
         let domain = self.container.domain();
@@ -48,19 +48,19 @@ impl<D: Discipline, C: OnDomain<OrcDomain<D>>> PlaceOn<D, C> {
 
     // How many retired rows the pass has to work through.
     pub(crate) fn backlog(&self) -> u32
-        requires { IsPlace (C.domain_of self.now.container.value) self.now }
+        requires { IsUsablePlace (C.domain_of self.now.container.value) self.now }
         ensures { result ≡ backlog_of self.now.pass }
     {
         self.container.domain().backlog(&self.pass)
     }
 }
 
-impl<D: Discipline, C: OnDomain<OrcDomain<D>> + Drop> PlaceOn<D, C> {
+impl<D: Discipline, C: OnDomain<OrcDomain<D>> + Drop> AgentPlaceOn<D, C> {
     // Gives the pass up.
     pub(crate) fn leave(self)
-        requires { IsPlace (C.domain_of self.container.value) self }
+        requires { IsUsablePlace (C.domain_of self.container.value) self }
     {
-        let Place {
+        let AgentPlace {
             container,
             places,
             pass,
@@ -71,10 +71,10 @@ impl<D: Discipline, C: OnDomain<OrcDomain<D>> + Drop> PlaceOn<D, C> {
 
     // Gives the pass up. The last one to do so brings the container to rest, and tells of its rows.
     pub(crate) fn close(self, alloc: Global) -> Result<Option<RowCounts>, Unfinished>
-        requires { IsPlace (C.domain_of self.container.value) self }
+        requires { IsUsablePlace (C.domain_of self.container.value) self }
         ensures { IfOk result (λ told. IfSome told (λ counts. TellsRows (C.domain_of self.container.value) self.places.value counts)) }
     {
-        let Place {
+        let AgentPlace {
             container,
             places,
             pass,
@@ -84,7 +84,7 @@ impl<D: Discipline, C: OnDomain<OrcDomain<D>> + Drop> PlaceOn<D, C> {
     }
 }
 
-impl<S: SharedSet, G> Place<S, G, S::Pass> {
+impl<S: SharedSet, G> AgentPlace<S, G, S::Pass> {
     // Makes a call with a key.
     pub(crate) fn call(&mut self, call: KeyCall, key: u64, yes: &mut bool) -> Answer
         requires { S.usable self.old.container.value self.old.pass }

@@ -7,12 +7,12 @@ ghost use Rattle.mooringakee_c_passes.specs.declared.seat.Seat.{Seat};
 
 use crate::answer::Answer;
 use crate::on_domain::ReclaimingQueue;
-use crate::place::PlaceOn;
+use crate::place::AgentPlaceOn;
 use orc_fifo_rule::Fifo;
 use orc_history::{QueueRefused, SharedQueue};
 
 /// An agent's place at a queue.
-pub(crate) type QueuePlace = PlaceOn<Fifo, ReclaimingQueue>;
+pub(crate) type QueuePlace = AgentPlaceOn<Fifo, ReclaimingQueue>;
 
 impl QueuePlace {
     // Puts a value at the back.

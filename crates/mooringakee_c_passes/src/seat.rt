@@ -9,10 +9,10 @@ ghost use Rattle.mooringakee_c_passes.specs.SplitCalls.{CountsBuckets};
 
 use crate::answer::Answer;
 use crate::on_domain::ReclaimingSet;
-use crate::place::PlaceOn;
+use crate::place::AgentPlaceOn;
 use crate::queue::QueuePlace;
 use crate::set_calls::KeyCall;
-use crate::split::SplitPlace;
+use crate::split::SplitSetPlace;
 use given_back::Unfinished;
 use orc_any_domain::RowCounts;
 use orc_chain_rule::Chain;
@@ -22,8 +22,8 @@ use std::alloc::Global;
 #[derive(Drop)]
 pub enum Seat {
     Queue(QueuePlace),
-    Set(PlaceOn<Chain, ReclaimingSet>),
-    Split(SplitPlace),
+    Set(AgentPlaceOn<Chain, ReclaimingSet>),
+    Split(SplitSetPlace),
 }
 
 impl Seat {

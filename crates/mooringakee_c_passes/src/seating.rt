@@ -11,7 +11,7 @@ ghost use Rattle.mooringakee_c_passes.specs.Places.{GetsPlace};
 ghost use Rattle.mooringakee_c_passes.specs.Usable.{CanBeUsed};
 
 use crate::ending::Places;
-use crate::place::Place;
+use crate::place::AgentPlace;
 use crate::seat::Seat;
 use orc_domain::{OrcDomain, OrcPass};
 use orc_fault::NoMemory;
@@ -44,7 +44,7 @@ pub(crate) fn new_domain<D: Discipline>(
 fn may_cross<T: Send>(_value: &T) {}
 
 // The places of all passes to a container, in their order, each as a seat.
-pub(crate) fn seat_all<C: Drop, G: Drop, P: Drop, F: Fn(Place<C, G, P>) -> Seat>(
+pub(crate) fn seat_all<C: Drop, G: Drop, P: Drop, F: Fn(AgentPlace<C, G, P>) -> Seat>(
     alloc: Global,
     container: C,
     places: G,
@@ -60,7 +60,7 @@ pub(crate) fn seat_all<C: Drop, G: Drop, P: Drop, F: Fn(Place<C, G, P>) -> Seat>
     let places = Arc::new(alloc, places)?;
     let mut seats = Vec::new(alloc);
     for pass in passes {
-        let place = Place {
+        let place = AgentPlace {
             container: container.clone()?,
             places: places.clone()?,
             pass,

@@ -7,13 +7,13 @@ ghost use Rattle.mooringakee_c_passes.specs.declared.seat.Seat.{Seat};
 
 use crate::answer::Answer;
 use crate::on_domain::ReclaimingSplit;
-use crate::place::PlaceOn;
+use crate::place::AgentPlaceOn;
 use orc_split_rule::Split;
 
 /// An agent's place at a split-ordered set.
-pub(crate) type SplitPlace = PlaceOn<Split, ReclaimingSplit>;
+pub(crate) type SplitSetPlace = AgentPlaceOn<Split, ReclaimingSplit>;
 
-impl SplitPlace {
+impl SplitSetPlace {
     // Tells how many buckets there are.
     pub(crate) fn buckets(&mut self, count: &mut u32) -> Answer
         requires { IsSeat (Seat.Split self.old) }

@@ -3,7 +3,7 @@ use Rattle.std.proofs.Common.{[], refl, subst, sym, ◌∷◌}
 use Rattle.orc_domain.specs.Passes.{seat_of}
 use Rattle.orc_history.specs.declared.queue.QueueEntry.TheVariants.{Put}
 use Rattle.orc_history.specs.declared.queue.QueueRefused.{QueueRefused}
-use Rattle.mooringakee_c_passes.specs.Kinds.{queue, view_of}
+use Rattle.mooringakee_c_passes.specs.Kinds.{queue, calls_view}
 use Rattle.mooringakee_c_passes.specs.Views.{RefusesCall}
 use Rattle.mooringakee_c_passes.proofs.QueueAnswers.{entered, refused}
 use Rattle.mooringakee_c_passes.proofs.SamePlaces.{usable_by, used_after}
@@ -26,8 +26,8 @@ returns-in-Ok-clause-answer c = (
 pub returns-in-Err-Again-clause-answer : goal.returns-in-Err-Again-clause-answer
 returns-in-Err-Again-clause-answer c = (
   refl,
-  subst (λ (why : QueueRefused). RefusesCall (view_of queue c.args.self.now.container.value.links c.args.self.now.turns c.args.self.now.pass) why
-      (view_of queue c.args.self.now.container.value.links c.args.self.now.turns c.enqueue.new.p)) c.in-Err-Again.field-0-is
+  subst (λ (why : QueueRefused). RefusesCall (calls_view queue c.args.self.now.container.value.links c.args.self.now.turns c.args.self.now.pass) why
+      (calls_view queue c.args.self.now.container.value.links c.args.self.now.turns c.enqueue.new.p)) c.in-Err-Again.field-0-is
       (refused c.deref.result.now.links c.args.self.now.container.value.links (λ j. (c.deref.ensures j).links) c.requires.1 c.deref.result.now.made
       c.args.self.now.turns c.args.self.now.pass c.enqueue.new.p c.in-Err-Again.ensures.usable c.in-Err-Again.ensures.agent c.in-Err-Again.field-0
       c.in-Err-Again.ensures.none c.in-Err-Again.ensures.licence),
@@ -36,8 +36,8 @@ returns-in-Err-Again-clause-answer c = (
 pub returns-in-Err-NoNode-clause-answer : goal.returns-in-Err-NoNode-clause-answer
 returns-in-Err-NoNode-clause-answer c = (
   refl,
-  subst (λ (why : QueueRefused). RefusesCall (view_of queue c.args.self.now.container.value.links c.args.self.now.turns c.args.self.now.pass) why
-      (view_of queue c.args.self.now.container.value.links c.args.self.now.turns c.enqueue.new.p)) c.in-Err-NoNode.field-0-is
+  subst (λ (why : QueueRefused). RefusesCall (calls_view queue c.args.self.now.container.value.links c.args.self.now.turns c.args.self.now.pass) why
+      (calls_view queue c.args.self.now.container.value.links c.args.self.now.turns c.enqueue.new.p)) c.in-Err-NoNode.field-0-is
       (refused c.deref.result.now.links c.args.self.now.container.value.links (λ j. (c.deref.ensures j).links) c.requires.1 c.deref.result.now.made
       c.args.self.now.turns c.args.self.now.pass c.enqueue.new.p c.in-Err-NoNode.ensures.usable c.in-Err-NoNode.ensures.agent c.in-Err-NoNode.field-0
       c.in-Err-NoNode.ensures.none c.in-Err-NoNode.ensures.licence),
@@ -46,8 +46,8 @@ returns-in-Err-NoNode-clause-answer c = (
 pub returns-in-Err-Positions-clause-answer : goal.returns-in-Err-Positions-clause-answer
 returns-in-Err-Positions-clause-answer c = (
   refl,
-  subst (λ (why : QueueRefused). RefusesCall (view_of queue c.args.self.now.container.value.links c.args.self.now.turns c.args.self.now.pass) why
-      (view_of queue c.args.self.now.container.value.links c.args.self.now.turns c.enqueue.new.p)) c.in-Err-Positions.field-0-is
+  subst (λ (why : QueueRefused). RefusesCall (calls_view queue c.args.self.now.container.value.links c.args.self.now.turns c.args.self.now.pass) why
+      (calls_view queue c.args.self.now.container.value.links c.args.self.now.turns c.enqueue.new.p)) c.in-Err-Positions.field-0-is
       (refused c.deref.result.now.links c.args.self.now.container.value.links (λ j. (c.deref.ensures j).links) c.requires.1 c.deref.result.now.made
       c.args.self.now.turns c.args.self.now.pass c.enqueue.new.p c.in-Err-Positions.ensures.usable c.in-Err-Positions.ensures.agent c.in-Err-Positions.field-0
       c.in-Err-Positions.ensures.none c.in-Err-Positions.ensures.licence),

@@ -3,7 +3,7 @@ use Rattle.std.proofs.Common.{Option, [], refl, subst, sym, ℕ, ◌∷◌}
 use Rattle.orc_domain.specs.Passes.{seat_of}
 use Rattle.orc_history.specs.QueueHistory.{entry_of_dequeue}
 use Rattle.orc_history.specs.declared.queue.QueueRefused.TheVariants.{Again}
-use Rattle.mooringakee_c_passes.specs.Kinds.{queue, view_of}
+use Rattle.mooringakee_c_passes.specs.Kinds.{queue, calls_view}
 use Rattle.mooringakee_c_passes.specs.Views.{GoesOn}
 use Rattle.mooringakee_c_passes.proofs.QueueAnswers.{entered, refused}
 use Rattle.mooringakee_c_passes.proofs.SamePlaces.{usable_by, used_after}
@@ -17,9 +17,9 @@ returns-in-Ok-Some-clause-answer c = (
   refl,
   (
     c.in-Ok-Some.field-0-0-1,
-    subst (λ (got : Option (ℕ × ℕ)). GoesOn (view_of queue c.args.self.now.container.value.links c.args.self.now.turns c.args.self.now.pass)
+    subst (λ (got : Option (ℕ × ℕ)). GoesOn (calls_view queue c.args.self.now.container.value.links c.args.self.now.turns c.args.self.now.pass)
         (entry_of_dequeue (seat_of c.deref.result.now.links c.args.self.now.pass).agent got ∷ [])
-        (view_of queue c.args.self.now.container.value.links c.args.self.now.turns c.dequeue.new.p)) c.in-Ok-Some.field-0-is
+        (calls_view queue c.args.self.now.container.value.links c.args.self.now.turns c.dequeue.new.p)) c.in-Ok-Some.field-0-is
         (entered c.deref.result.now.links c.args.self.now.container.value.links (λ j. (c.deref.ensures j).links) c.requires.1 c.deref.result.now.made
         c.args.self.now.turns c.args.self.now.pass c.dequeue.new.p c.in-Ok-Some.ensures.usable c.in-Ok-Some.ensures.agent
         (entry_of_dequeue (seat_of c.deref.result.now.links c.args.self.now.pass).agent c.in-Ok-Some.field-0 ∷ []) c.in-Ok-Some.ensures.took),
@@ -29,9 +29,9 @@ returns-in-Ok-Some-clause-answer c = (
 pub returns-in-Ok-None-clause-answer : goal.returns-in-Ok-None-clause-answer
 returns-in-Ok-None-clause-answer c = (
   refl,
-  subst (λ (got : Option (ℕ × ℕ)). GoesOn (view_of queue c.args.self.now.container.value.links c.args.self.now.turns c.args.self.now.pass)
+  subst (λ (got : Option (ℕ × ℕ)). GoesOn (calls_view queue c.args.self.now.container.value.links c.args.self.now.turns c.args.self.now.pass)
       (entry_of_dequeue (seat_of c.deref.result.now.links c.args.self.now.pass).agent got ∷ [])
-      (view_of queue c.args.self.now.container.value.links c.args.self.now.turns c.dequeue.new.p)) c.in-Ok-None.field-0-is
+      (calls_view queue c.args.self.now.container.value.links c.args.self.now.turns c.dequeue.new.p)) c.in-Ok-None.field-0-is
       (entered c.deref.result.now.links c.args.self.now.container.value.links (λ j. (c.deref.ensures j).links) c.requires.1 c.deref.result.now.made
       c.args.self.now.turns c.args.self.now.pass c.dequeue.new.p c.in-Ok-None.ensures.usable c.in-Ok-None.ensures.agent
       (entry_of_dequeue (seat_of c.deref.result.now.links c.args.self.now.pass).agent c.in-Ok-None.field-0 ∷ []) c.in-Ok-None.ensures.took),

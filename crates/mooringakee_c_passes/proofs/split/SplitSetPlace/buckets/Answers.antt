@@ -12,7 +12,7 @@ use Rattle.mooringakee_c_passes.specs.Kinds.{split}
 use Rattle.mooringakee_c_passes.proofs.Entering.{entered, refused}
 use Rattle.mooringakee_c_passes.proofs.Histories.{legal_split}
 use Rattle.mooringakee_c_passes.proofs.SamePlaces.{still_used}
-use Rattle.mooringakee_c_passes.proofs.split.SplitPlace.buckets.Goals as goal
+use Rattle.mooringakee_c_passes.proofs.split.SplitSetPlace.buckets.Goals as goal
 
 pub returns-in_default-clause-seat : goal.returns-in_default-clause-seat
 returns-in_default-clause-seat c = still_used c.size.new.p (λ j. (c.deref.ensures j).links) c.requires c.in_default.ensures.usable
