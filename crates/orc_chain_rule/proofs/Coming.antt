@@ -17,11 +17,12 @@ use Rattle.orc_chain_rule.specs.declared.chain.ChainNote.{ChainNote}
 use Rattle.orc_chain_rule.specs.declared.chain.ChainNote.TheVariants.{Entry, Unlink}
 use Rattle.orc_ordered_chains.specs.Chains.{IsRun, link_over}
 use Rattle.orc_ordered_chains.proofs.Later.{chain_place_later, follows_on_chain, run_target}
+use Rattle.orc_ordered_chains.proofs.Linking.{may_link}
 use Rattle.orc_ordered_chains.proofs.Paths.{absent}
 use Rattle.orc_chain_rule.specs.ChainDiscipline.{ChainHolds, ChainMay, FollowsOn, HasKey, IsAbove, IsChainPlace, chain_order, set_after}
 use Rattle.orc_chain_rule.specs.Watches.{node_to_add}
 use Rattle.orc_chain_rule.specs.Laws.Kinds.{keyed_place}
-use Rattle.orc_chain_rule.specs.Laws.Kept.{chain_fits, chain_keeps, chain_moves_linked, marked_next}
+use Rattle.orc_chain_rule.specs.Laws.Kept.{chain_keeps, chain_moves_linked, marked_next}
 use Rattle.orc_chain_rule.specs.Laws.Sets.{live_present, present_live}
 use Rattle.orc_chain_rule.proofs.Later.{above_later, follows_later, holds_later, key_later, may_fits, run_later}
 
@@ -58,30 +59,17 @@ added_allowed n agent place from over to key second fresh seen holds f plain run
     let h : Heap = run_heap n es in
     let now = holds_later n seen more holds later.allowed in
     let node =
-    node_later n (ChainHolds n) (ChainMay n) (chain_keeps n) (chain_fits n) (chain_moves_linked n) agent fresh
+    node_later n (ChainHolds n) (ChainMay n) (chain_keeps n) (λ es e holds may. may.fits) (chain_moves_linked n) agent fresh
     (node_to_add agent key second to) seen more holds there refl refl refl later in
-    let (on, under) =
-    follows_on_chain (chain_order n.roots) h now.chains.ordered place from key (follows_later n seen more n.roots place key f later.allowed) at plain in
+    let o = chain_order n.roots in
     record {
       fits = (at, record { node = node_to_add agent key second to; there = node; known = inl refl });
       may_act = (
         refl,
-        record {
-          on_chain = on;
-          below = under;
-          plain = plain;
-          id = fresh;
-          to_is = refl;
-          node = node_to_add agent key second to;
-          there = node;
-          unlinked = refl;
-          rank_is = refl;
-          own_plain = refl;
-          over = over;
-          run = run_later n seen more from over to run later.allowed;
-          above = above_later n seen more to key above later.allowed;
-          side_null = null_side h fresh (node_to_add agent key second to) node refl;
-        },
+        may_link o h place from over key fresh (node_to_add agent key second to)
+            (follows_on_chain o h now.chains.ordered place from key (follows_later n seen more n.roots place key f later.allowed) at plain)
+            plain node refl refl refl (run_later n seen more from over to run later.allowed) (above_later n seen more to key above later.allowed)
+            (null_side h fresh (node_to_add agent key second to) node refl),
       );
       own = refl;
     }
@@ -147,18 +135,20 @@ asked_absent_allowed n agent place from over to key seen holds f plain run above
     record { fits = at; may_act = sym (absent_later n agent place from over to key seen holds f plain run above more later at); own = refl }
 
 -- the answer that a key is present
+present_later : (n : HeapNumbers) (agent id key : ℕ) (link : Link) (seen : List (Event ChainNote)) → ChainHolds n seen → HasKey (run_heap n seen) id key
+    → link.mark ≡ false → (more : List (Event ChainNote)) → Later (ChainMay n) agent seen more → shown (run_heap n (seen ++ more)) (Next id) ≡ Some link
+    → has key (set_after (seen ++ more)) ≡ true
+present_later n agent id key link seen holds own plain more later at =
+    key_present n (seen ++ more) id key link (holds_later n seen more holds later.allowed) (key_later n seen more id key own later.allowed) at plain
+
 pub added_present_allowed : (n : HeapNumbers) (agent id key : ℕ) (link : Link) (seen : List (Event ChainNote)) → ChainHolds n seen
     → HasKey (run_heap n seen) id key → link.mark ≡ false
     → AllowedLater (ChainMay n) n agent seen (Next id) link (event_by agent (Look (Next id) link) (Some (Entry (Added agent key false))))
 added_present_allowed n agent id key link seen holds own plain = λ more later at.
-    let now = holds_later n seen more holds later.allowed in
-    let there = key_present n (seen ++ more) id key link now (key_later n seen more id key own later.allowed) at plain in
-    record { fits = at; may_act = (refl, there); own = refl }
+    record { fits = at; may_act = (refl, present_later n agent id key link seen holds own plain more later at); own = refl }
 
 pub asked_present_allowed : (n : HeapNumbers) (agent id key : ℕ) (link : Link) (seen : List (Event ChainNote)) → ChainHolds n seen
     → HasKey (run_heap n seen) id key → link.mark ≡ false
     → AllowedLater (ChainMay n) n agent seen (Next id) link (event_by agent (Look (Next id) link) (Some (Entry (Asked agent key true))))
 asked_present_allowed n agent id key link seen holds own plain = λ more later at.
-    let now = holds_later n seen more holds later.allowed in
-    let there = key_present n (seen ++ more) id key link now (key_later n seen more id key own later.allowed) at plain in
-    record { fits = at; may_act = sym there; own = refl }
+    record { fits = at; may_act = sym (present_later n agent id key link seen holds own plain more later at); own = refl }

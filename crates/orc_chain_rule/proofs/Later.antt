@@ -1,5 +1,5 @@
 -- What stays true over all events that the discipline allows.
-use Rattle.std.proofs.Common.{List, Option, [], ap, false, true, ℕ, ◌++◌, ◌∷◌, ◌≡◌}
+use Rattle.std.proofs.Common.{List, Option, [], ap, false, true, ℕ, ◌++◌, ◌≡◌}
 use Rattle.orc_heap.proofs.Stays.{stays}
 use Rattle.orc_heap.specs.Allowed.{AllAllowed, HasLink, IsLinkedNode}
 use Rattle.orc_heap.specs.Heap.{HeapNumbers}
@@ -8,16 +8,12 @@ use Rattle.orc_heap.specs.declared.events.Event.{Event}
 use Rattle.orc_heap.specs.declared.events.Link.{Link}
 use Rattle.orc_heap.specs.declared.events.Place.{Place}
 use Rattle.orc_ordered_chains.specs.Chains.{IsRun}
+use Rattle.orc_ordered_chains.proofs.Frozen.{nothing_marked}
 use Rattle.orc_ordered_chains.proofs.Later.{above_later as above_allowed, follows_later as follows_allowed, linked_later as linked_allowed, marked_later as marked_allowed, no_chains, no_node, null_root, rank_later, run_later as run_allowed}
 use Rattle.orc_chain_rule.specs.declared.chain.ChainNote.{ChainNote}
 use Rattle.orc_chain_rule.specs.ChainDiscipline.{ChainHolds, ChainMay, FollowsOn, HasKey, IsAbove, chain_order}
 use Rattle.orc_chain_rule.specs.Watches.{LeavesOut}
 use Rattle.orc_chain_rule.specs.Laws.Kept.{chain_keeps, marked_next}
-
-no_frozen : (n : HeapNumbers) (before after : List (Event ChainNote)) (id : ℕ) (link : Link) → [] ≡ before ++ after → HasLink (run_heap n before) id link
-    → HasLink (run_heap {N = ChainNote} n []) id link
-no_frozen n [] after id link split l = l
-no_frozen n (e ∷ before) after id link split l = let bad : ⊥ = cc in absurd bad
 
 -- the empty list obeys the discipline
 pub nothing_yet : (n : HeapNumbers) → ChainHolds n []
@@ -30,7 +26,7 @@ nothing_yet n = record {
     plain_roots = λ r link at. ap (λ (x : Link). x.mark) (null_root n.roots r link at);
     set = λ key. ((λ is. let bad : false ≡ true = is in cc), (λ y. absurd (no_node y.id y.has_key.node y.has_key.there)));
   };
-  frozen = λ before after id link split l mark. no_frozen n before after id link split l;
+  frozen = nothing_marked n;
   sides = λ id l. absurd (no_node id l.node l.there);
 }
 

@@ -20,6 +20,7 @@ use Rattle.orc_chain_rule.specs.declared.chain.ChainNote.TheVariants.{Entry, Unl
 use Rattle.orc_heap.proofs.SingleActs.{link_shown, linked_node, shown_link, some_same}
 use Rattle.orc_ordered_chains.specs.Chains.{AreChains as AreOrderedChains, FollowsOn as RankFollowsOn, HasRank, IsChainPlace as IsRankedPlace, IsOnChain, IsPath, IsPlaceOnChain, IsRun, Order, link_over}
 use Rattle.orc_ordered_chains.proofs.Acts.{IsMoved, act_unmoved, move_moves, place_either, rank_one, rank_stays}
+use Rattle.orc_ordered_chains.proofs.Linking.{link_way}
 use Rattle.orc_ordered_chains.proofs.Marking.{chain_before}
 use Rattle.orc_ordered_chains.proofs.Paths.{below, chain_root, from_low, leads_one, leads_same, path_follows, path_join, run_follows, run_path}
 use Rattle.orc_ordered_chains.proofs.Still.{IsStill, unmoved_still}
@@ -234,8 +235,7 @@ on_before n es e root id holds may linked =
     let k : Heap = heap_after e.agent (Move p from to) h in
     let m = move_moves e.agent p from to h fits in
     let new = add_links n.roots h keys c e.agent p from to key fits a in
-    let way : IsPath k p (a.id ∷ []) a.node.link.to =
-    (record { link = to; at = m.moved; to_is = ap (λ (x : Link). x.to) a.to_is }, record { link = a.node.link; at = new.shows; to_is = refl }) in
+    let way = link_way o h k p from to key c.ordered m a new in
     elim (chain_back h k root p from a.over (a.id ∷ []) a.node.link.to m.at a.run way m.others id on) [
       | inl is_new ↦ absurd (unlinked_apart h a.id id a.node a.there a.unlinked linked is_new)
       | inr before ↦ before

@@ -18,10 +18,11 @@ use Rattle.orc_history.specs.declared.set.SetEntry.TheVariants.{Added, Asked, Re
 use Rattle.orc_chain_rule.specs.declared.chain.ChainNote.{ChainNote}
 use Rattle.orc_heap.proofs.SingleActs.{has_link, shown_link, some_same}
 use Rattle.orc_ordered_chains.specs.Answers.{MayAnswer}
-use Rattle.orc_ordered_chains.specs.Chains.{AreChains as AreOrderedChains, IsChainPlace as IsRankedPlace, IsOnChain, IsPath, LeadsTo}
+use Rattle.orc_ordered_chains.specs.Chains.{AreChains as AreOrderedChains, IsChainPlace as IsRankedPlace, IsOnChain, LeadsTo}
 use Rattle.orc_ordered_chains.proofs.Acts.{IsMoved, act_unmoved, move_moves, place_either}
 use Rattle.orc_ordered_chains.proofs.Keys.{filter_less, has_kept}
 use Rattle.orc_ordered_chains.proofs.Later.{follows_on_chain}
+use Rattle.orc_ordered_chains.proofs.Linking.{link_way}
 use Rattle.orc_ordered_chains.proofs.Marking.{chain_before}
 use Rattle.orc_ordered_chains.proofs.Paths.{chain_linked}
 use Rattle.orc_ordered_chains.proofs.Still.{IsStill, unmoved_still}
@@ -99,8 +100,7 @@ left_next n es e ids holds may left =
     let k : Heap = heap_after e.agent (Move p from to) h in
     let m = move_moves e.agent p from to h fits in
     let new = add_links n.roots h keys c e.agent p from to key fits a in
-    let way : IsPath k p (a.id ∷ []) a.node.link.to =
-    (record { link = to; at = m.moved; to_is = ap (λ (x : Link). x.to) a.to_is }, record { link = a.node.link; at = new.shows; to_is = refl }) in
+    let way = link_way o h k p from to key c.ordered m a new in
     record {
       now = ids;
       all = λ id w. elim (chain_back h k w.root p from a.over (a.id ∷ []) a.node.link.to m.at a.run way m.others id w.on_chain) [

@@ -1,7 +1,7 @@
 -- The chain discipline: what the events of sorted lists of linked nodes obey. After Harris 2001.
-use Rattle.std.specs.Prelude.{List, None, Option, Some, [], false, refl, slice_get, true, unwrap_or, ℕ, ◌%◌, ◌++◌, ◌↔◌, ◌∷◌, ◌≡◌}
+use Rattle.std.specs.Prelude.{List, None, Option, Some, [], false, refl, slice_get, true, unwrap_or, ℕ, ◌%◌, ◌↔◌, ◌∷◌, ◌≡◌}
 use Rattle.orc_heap.specs.Heap.{Heap, HeapNumbers, Node, shown}
-use Rattle.orc_heap.specs.Allowed.{AreSidesNull, HasLink, IsLinkedNode}
+use Rattle.orc_heap.specs.Allowed.{AreSidesNull, IsLinkedNode}
 use Rattle.orc_heap.specs.Journals.{FitsAfter, IsLawful, noted_entries, run_heap}
 use Rattle.orc_heap.specs.Moves.{move_with}
 use Rattle.orc_heap.specs.declared.events.Act.{Act}
@@ -14,15 +14,14 @@ use Rattle.orc_history.specs.SetHistory.{IsLegalSet, agent_of_set_entry, has, ke
 use Rattle.orc_history.specs.declared.set.SetEntry.{SetEntry}
 use Rattle.orc_history.specs.declared.set.SetEntry.TheVariants.{Added, Removed}
 use Rattle.orc_ordered_chains.specs.Answers.{MayAnswer}
-use Rattle.orc_ordered_chains.specs.Chains.{AreChains as AreOrderedChains, FollowsOn as RankFollowsOn, HasRankBy, IsAboveBy, IsOnChain, MayLink, MayUnlink as MayLeadPast, Order}
+use Rattle.orc_ordered_chains.specs.Chains.{AreChains as AreOrderedChains, FollowsOn as RankFollowsOn, HasRankBy, IsAboveBy, IsOnChain, MarksStay, MayLink, MayUnlink as MayLeadPast, Order}
 use Rattle.orc_chain_rule.specs.declared.chain.ChainNote.{ChainNote}
 use Rattle.orc_chain_rule.specs.declared.chain.ChainNote.TheVariants.{Entry, Unlink}
 
 -- what a note enters in the history
 abbrev pub entries_in : Option ChainNote → List SetEntry
 entries_in (Some (Entry entry)) = entry ∷ []
-entries_in (Some Unlink) = []
-entries_in None = []
+entries_in noted = []
 
 -- the set history of the events
 abbrev pub entries_of : List (Event ChainNote) → List SetEntry
@@ -88,8 +87,7 @@ pub record ChainHolds (n : HeapNumbers) (es : List (Event ChainNote)) : Type 0 w
   pub legal : IsLegalSet (entries_of es)
   pub chains : AreChains n.roots (run_heap n es) (set_after es)
   -- a marked link never changes
-  pub frozen : (before after : List (Event ChainNote)) (id : ℕ) (link : Link) → es ≡ before ++ after
-      → HasLink (run_heap n before) id link → link.mark ≡ true → HasLink (run_heap n es) id link
+  pub frozen : MarksStay n es
   -- the second link of a once linked node, if there is one, is null
   pub sides : AreSidesNull (run_heap n es)
 

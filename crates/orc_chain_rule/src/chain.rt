@@ -1,7 +1,7 @@
 //! The discipline as an implementation of the traits of disciplines.
 
 ghost use Rattle.orc_chain_rule.specs.ChainDiscipline.{ChainHolds, ChainMay, chain_rank};
-ghost use Rattle.orc_chain_rule.specs.Laws.Kept.{chain_allows_plain, chain_fits, chain_keeps, chain_moves_linked, chain_rises};
+ghost use Rattle.orc_chain_rule.specs.Laws.Kept.{chain_allows_plain, chain_keeps, chain_moves_linked, chain_rises};
 
 use orc_heap::{Discipline, Ranked};
 use orc_history::SetEntry;
@@ -28,7 +28,7 @@ impl Discipline for Chain {
 
     ghost keeps = { chain_keeps };
 
-    ghost fits = { chain_fits };
+    ghost fits = { λ n seen e holds may. may.fits };
 
     ghost allows_plain = { chain_allows_plain };
 

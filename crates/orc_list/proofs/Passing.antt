@@ -21,7 +21,7 @@ use Rattle.orc_chain_rule.proofs.Later.{holds_later, linked_later, run_later}
 use Rattle.orc_chain_rule.proofs.Leaving.{added_off, off_later}
 use Rattle.orc_ordered_chains.specs.Chains.{IsRun, link_over}
 use Rattle.orc_chain_rule.specs.ChainDiscipline.{ChainHolds, ChainMay, IsOnNoChain}
-use Rattle.orc_chain_rule.specs.Laws.Kept.{chain_fits, chain_keeps, chain_moves_linked}
+use Rattle.orc_chain_rule.specs.Laws.Kept.{chain_keeps, chain_moves_linked}
 use Rattle.orc_chain_rule.specs.Watches.{node_to_add}
 use Rattle.orc_chain_rule.specs.declared.chain.ChainNote.{ChainNote}
 use Rattle.orc_chain_rule.specs.declared.chain.ChainNote.TheVariants.{Entry}
@@ -50,7 +50,7 @@ linked_off n key second fresh to t u place from over p holds all node run id amo
     let m = Puts-stood (ChainMay n) t u [] e [] p all in
     let es : List (Event ChainNote) = t.seen ++ m.before in
     let now = holds_later n t.seen m.before holds m.first in
-    let there = node_later n (ChainHolds n) (ChainMay n) (chain_keeps n) (chain_fits n) (chain_moves_linked n) t.agent fresh
+    let there = node_later n (ChainHolds n) (ChainMay n) (chain_keeps n) (λ es e holds may. may.fits) (chain_moves_linked n) t.agent fresh
     (node_to_add t.agent key second to) t.seen m.before holds node refl refl refl (record { allowed = m.first; others = m.own_before }) in
     let at : shown (run_heap n es) (Next fresh) ≡ Some (link_over to) = ap (λ (o : Option Node). option_map (λ (x : Node). x.link) o) there in
     let here = run_later n t.seen m.before from over to run m.first in

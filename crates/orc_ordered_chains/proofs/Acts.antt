@@ -14,7 +14,7 @@ use Rattle.orc_heap.specs.Heap.{Heap, Node, change, null, shown}
 use Rattle.orc_heap.specs.Journals.{IsPlainAct, moves_to, names_node}
 use Rattle.orc_heap.specs.Moves.{IsLinkedPlace, move_with}
 use Rattle.orc_heap.specs.declared.events.Act.{Act}
-use Rattle.orc_heap.specs.declared.events.Act.TheVariants.{Aim, AimSide, Fill, Give, Look, Miss, Move}
+use Rattle.orc_heap.specs.declared.events.Act.TheVariants.{Move}
 use Rattle.orc_heap.specs.declared.events.Link.{Link}
 use Rattle.orc_heap.specs.declared.events.Place.{Place}
 use Rattle.orc_heap.specs.declared.events.Place.TheVariants.{Next, Root, Side}
@@ -33,14 +33,9 @@ side_same i j e = cc
 
 pub place_either : (p q : Place) → (p ≡ q) ⊎ (p ≢ q)
 place_either (Root r) (Root s) = elim (cases_eq r s) [ inl e ↦ inl (ap (λ (x : ℕ). Root x) e) | inr ne ↦ inr (λ same. ne (cc)) ]
-place_either (Root r) (Next id) = inr (λ same. cc)
-place_either (Root r) (Side id) = inr (λ same. cc)
-place_either (Next id) (Root r) = inr (λ same. cc)
-place_either (Next i) (Side j) = inr (λ same. cc)
-place_either (Side id) (Root r) = inr (λ same. cc)
-place_either (Side i) (Next j) = inr (λ same. cc)
-place_either (Side i) (Side j) = elim (cases_eq i j) [ inl e ↦ inl (ap (λ (x : ℕ). Side x) e) | inr ne ↦ inr (λ same. ne (cc)) ]
 place_either (Next i) (Next j) = elim (cases_eq i j) [ inl e ↦ inl (ap (λ (x : ℕ). Next x) e) | inr ne ↦ inr (λ same. ne (cc)) ]
+place_either (Side i) (Side j) = elim (cases_eq i j) [ inl e ↦ inl (ap (λ (x : ℕ). Side x) e) | inr ne ↦ inr (λ same. ne (cc)) ]
+place_either p q = inr (λ same. cc)
 
 pub values_after : (agent : ℕ) (act : Act) (h : Heap) → Fits agent act h → KeepsValues h (heap_after agent act h)
 values_after agent act h fits = record {
@@ -121,6 +116,20 @@ move_moves agent place from to h fits = record {
   ];
 }
 
+-- where a Move of an unmarked link leaves an unmarked one, what is unmarked stays so
+module _ (h k : Heap) (p : Place) (from to : Link) (m : IsMoved h k p from to) (plain : from.mark ≡ false) (plain_after : to.mark ≡ false) where
+  pub unmarked_before : (q : Place) (link : Link) → shown k q ≡ Some link → link.mark ≡ false → (own : Link) × (shown h q ≡ Some own) × (own.mark ≡ false)
+  unmarked_before q link at unmarked = elim (place_either q p) [
+    | inl same ↦ (from, subst (λ (z : Place). shown h z ≡ Some from) (sym same) m.at, plain)
+    | inr ne ↦ (link, sym (m.others q ne) ∙ at, unmarked)
+  ]
+
+  pub unmarked_after : (q : Place) (link : Link) → shown h q ≡ Some link → link.mark ≡ false → (own : Link) × (shown k q ≡ Some own) × (own.mark ≡ false)
+  unmarked_after q link at unmarked = elim (place_either q p) [
+    | inl same ↦ (to, subst (λ (z : Place). shown k z ≡ Some to) (sym same) m.moved, plain_after)
+    | inr ne ↦ (link, m.others q ne ∙ at, unmarked)
+  ]
+
 -- the node that a Move links, if it was never linked: its values and its links are as they were
 pub record IsLinkedIn (h k : Heap) (id : ℕ) (node : Node) : Type 0 where
   pub now : IsLinkedNode k id
@@ -178,31 +187,16 @@ pub record IsUnmoved (h k : Heap) : Type 0 where
   pub old : (id : ℕ) → IsLinkedNode k id → IsLinkedNode h id
 
 no_move_to : (act : Act) (d : ℕ) → move_with act ≡ 0 → moves_to act d ≡ false
-no_move_to Give d p = refl
-no_move_to (Fill id which value) d p = refl
-no_move_to (Aim id to) d p = refl
-no_move_to (AimSide id to) d p = refl
-no_move_to (Look place l) d p = refl
 no_move_to (Move place from to) d p = cc
-no_move_to (Miss place wanted found) d p = refl
+no_move_to act d p = refl
 
 pub no_move_linked : (act : Act) (h : Heap) → move_with act ≡ 0 → MovesLinked act h
-no_move_linked Give h p = tt
-no_move_linked (Fill id which value) h p = tt
-no_move_linked (Aim id to) h p = tt
-no_move_linked (AimSide id to) h p = tt
-no_move_linked (Look place link) h p = tt
 no_move_linked (Move place from to) h p = cc
-no_move_linked (Miss place wanted found) h p = tt
+no_move_linked act h p = tt
 
 pub no_move_plain : (act : Act) → IsPlainAct act → move_with act ≡ 0
-no_move_plain Give p = refl
-no_move_plain (Fill id which value) p = refl
-no_move_plain (Aim id to) p = refl
-no_move_plain (AimSide id to) p = refl
-no_move_plain (Look place link) p = refl
 no_move_plain (Move place from to) p = absurd p
-no_move_plain (Miss place wanted found) p = refl
+no_move_plain act p = refl
 
 pub act_unmoved : (agent : ℕ) (act : Act) (h : Heap) → Fits agent act h → move_with act ≡ 0 → IsUnmoved h (heap_after agent act h)
 act_unmoved agent act h fits plain = record {
@@ -219,6 +213,14 @@ act_unmoved agent act h fits plain = record {
 -- those that are null stay so
 pub sides_unmoved : (h k : Heap) → IsUnmoved h k → AreSidesNull h → AreSidesNull k
 sides_unmoved h k u null = λ id l link at. null id (u.old id l) link (sym (u.shows (Side id) (u.old id l)) ∙ at)
+
+-- the values of a node that was linked before are those that it had
+pub values_before : (h k : Heap) → KeepsValues h k → (id : ℕ) (l : IsLinkedNode h id) (node : Node) → slice_get k.nodes id ≡ Some node
+    → (l.node.first ≡ node.first) × (l.node.second ≡ node.second)
+values_before h k v id l node there =
+    let (m, first, second) = v.stays id l in
+    let same : m.node ≡ node = some_same (sym m.there ∙ there) in
+    (sym first ∙ ap (λ (n : Node). n.first) same, sym second ∙ ap (λ (n : Node). n.second) same)
 
 -- ranks
 
@@ -245,14 +247,12 @@ module _ (o : Order) where
   -- the rank of a node that was linked before
   pub rank_before : (h k : Heap) → KeepsValues h k → (id rank : ℕ) → IsLinkedNode h id → HasRank o k id rank → HasRank o h id rank
   rank_before h k v id rank l r =
-      let (m, first, second) = v.stays id l in
-      let same : m.node ≡ r.node = some_same (sym m.there ∙ r.there) in
+      let (first, second) = values_before h k v id l r.node r.there in
       record {
         node = l.node;
         there = l.there;
         linked = l.linked;
-        rank_is = ap (λ (x : Option ℕ). o.rank x l.node.second) (sym first)
-            ∙ (ap (λ (x : Option ℕ). o.rank m.node.first x) (sym second) ∙ (ap (λ (n : Node). o.rank n.first n.second) same ∙ r.rank_is));
+        rank_is = ap (λ (x : Option ℕ). o.rank x l.node.second) first ∙ (ap (λ (x : Option ℕ). o.rank r.node.first x) second ∙ r.rank_is);
       }
 
   pub chain_place_linked : (h : Heap) (p : Place) → IsChainPlace o h p → IsLinkedPlace p h

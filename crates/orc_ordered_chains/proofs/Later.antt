@@ -14,6 +14,7 @@ use Rattle.orc_heap.specs.declared.events.Place.{Place}
 use Rattle.orc_heap.specs.declared.events.Place.TheVariants.{Next, Root, Side}
 use Rattle.orc_ordered_chains.specs.Chains.{AreChains, FollowsOn, HasRank, IsAbove, IsPlaceBelow, IsChainPlace, IsOnChain, IsPlaceOnChain, IsRun, LeadsTo, Order}
 use Rattle.orc_ordered_chains.proofs.Acts.{rank_linked, rank_stays, values_after}
+use Rattle.orc_ordered_chains.proofs.Frozen.{KeepsMarked}
 use Rattle.orc_ordered_chains.proofs.Paths.{run_follows}
 
 -- before all events
@@ -64,8 +65,7 @@ module _ (o : Order) where
 
 module _ {N : Type 0} (o : Order) (n : HeapNumbers) (may : List (Event N) → Event N → Type 0)
     (fits : (es : List (Event N)) (e : Event N) → may es e → FitsAfter n es e)
-    (marked : (es : List (Event N)) (e : Event N) (id : ℕ) (link : Link) → may es e → HasLink (run_heap n es) id link → link.mark ≡ true
-    → HasLink (run_heap n (es ++ e ∷ [])) id link)
+    (marked : KeepsMarked n may)
   where
     pub linked_later : (seen more : List (Event N)) (id : ℕ) → IsLinkedNode (run_heap n seen) id → AllAllowed may seen more
         → IsLinkedNode (run_heap n (seen ++ more)) id

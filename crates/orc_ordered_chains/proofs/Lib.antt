@@ -5,4 +5,6 @@ pub mod Unlinking
 pub mod Marking
 pub mod Linking
 pub mod Keys
+pub mod Frozen
+pub mod Entered
 pub mod Later

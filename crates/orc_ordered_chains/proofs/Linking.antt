@@ -1,15 +1,37 @@
 -- Chains after a node was linked.
-use Rattle.std.proofs.Common.{Option, Some, [], ap, arith, false, inl, inr, refl, subst, sym, true, ℕ, ◌++◌, ◌∙◌, ◌∷◌, ◌≡◌, ◌≢◌, ◌⊎◌}
-use Rattle.orc_heap.specs.Allowed.{IsLinkedNode}
-use Rattle.orc_heap.specs.Heap.{Heap, Node, shown}
+use Rattle.std.proofs.Common.{List, Option, Some, [], ap, arith, false, inl, inr, refl, slice_get, subst, sym, true, ℕ, ◌++◌, ◌∙◌, ◌∷◌, ◌≡◌, ◌≢◌, ◌⊎◌}
+use Rattle.orc_heap.specs.Allowed.{HasNullSide, IsLinkedNode}
+use Rattle.orc_heap.specs.Heap.{Heap, Node, link_to, shown}
 use Rattle.orc_heap.specs.declared.events.Link.{Link}
 use Rattle.orc_heap.specs.declared.events.Place.{Place}
 use Rattle.orc_heap.specs.declared.events.Place.TheVariants.{Next, Root, Side}
 use Rattle.orc_heap.proofs.SingleActs.{some_same}
 use Rattle.orc_ordered_chains.specs.Chains.{AreChains, FollowsOn, HasRank, IsAbove, IsPlaceBelow, IsChainPlace, IsLive, IsOnChain, IsPath, IsPlaceOnChain, IsRun, LeadsTo, MayLink, Order}
-use Rattle.orc_ordered_chains.proofs.Acts.{IsLinkedIn, IsMoved, place_either, rank_before, rank_linked, rank_one, rank_stays}
+use Rattle.orc_ordered_chains.proofs.Acts.{IsLinkedIn, IsMoved, place_either, rank_before, rank_linked, rank_one, rank_stays, unmarked_after, unmarked_before}
 use Rattle.orc_ordered_chains.proofs.Paths.{absent, chain_root, detour, leads_same, moved_target, path_join, place_on_chain, run_follows}
 use Rattle.orc_ordered_chains.proofs.Still.{follows_stays}
+
+-- a node that was never linked is linked at a place that shows an unmarked link, from where a run leads to the node's own target
+abbrev pub may_link : (o : Order) (h : Heap) (place : Place) (from : Link) (over : List ℕ) (rank fresh : ℕ) (node : Node)
+    → IsPlaceOnChain h (o.root rank) place × IsPlaceBelow o h place rank → from.mark ≡ false
+    → slice_get h.nodes fresh ≡ Some node → node.linked ≡ false → o.rank node.first node.second ≡ Some rank → node.link.mark ≡ false
+    → IsRun h from over node.link.to → IsAbove o h node.link.to rank → HasNullSide h fresh → MayLink o h place from (link_to fresh) rank
+may_link o h place from over rank fresh node on plain there unlinked rank_is own_plain run above side_null = record {
+  on_chain = on.0;
+  below = on.1;
+  plain = plain;
+  id = fresh;
+  to_is = refl;
+  node = node;
+  there = there;
+  unlinked = unlinked;
+  rank_is = rank_is;
+  own_plain = own_plain;
+  over = over;
+  run = run;
+  above = above;
+  side_null = side_null;
+}
 
 module _ (o : Order) (h k : Heap) (p : Place) (from to : Link) (rank : ℕ) (c : AreChains o h) (m : IsMoved h k p from to)
     (a : MayLink o h p from to rank) (new : IsLinkedIn h k a.id a.node)
@@ -90,11 +112,12 @@ module _ (o : Order) (h k : Heap) (p : Place) (from to : Link) (rank : ℕ) (c :
               (b, rank_stays o h k m.values id b own, subst (λ (z : ℕ). FollowsOn o k (Next z) b) (sym same) f)
         ]
 
-    way : IsPath k p (a.id ∷ []) a.node.link.to
-    way = (record { link = to; at = m.moved; to_is = ap (λ (x : Link). x.to) a.to_is }, record { link = a.node.link; at = new.shows; to_is = refl })
+    -- the links lead from the place over the new node
+    pub link_way : IsPath k p (a.id ∷ []) a.node.link.to
+    link_way = (record { link = to; at = m.moved; to_is = ap (λ (x : Link). x.to) a.to_is }, record { link = a.node.link; at = new.shows; to_is = refl })
 
     on_chain : (root y : ℕ) (link : Link) → shown h (Next y) ≡ Some link → link.mark ≡ false → IsOnChain h root y → IsOnChain k root y
-    on_chain root y link at plain on = detour h k p from a.over a.node.link.to (a.id ∷ []) m.at a.run way m.others y link at plain root on
+    on_chain root y link at plain on = detour h k p from a.over a.node.link.to (a.id ∷ []) m.at a.run link_way m.others y link at plain root on
 
     new_on_chain : IsOnChain k (o.root rank) a.id
     new_on_chain = cases p m a.on_chain
@@ -109,21 +132,9 @@ module _ (o : Order) (h k : Heap) (p : Place) (from to : Link) (rank : ℕ) (c :
             let there = on_chain (o.root rank) d from n.at a.plain on in
             record { over = there.over ++ d ∷ []; path = path_join k (Root (o.root rank)) there.over d [] (Some a.id) there.path (step (Next d) n) }
 
-    pub link_before : (q : Place) (link : Link) → shown k q ≡ Some link → link.mark ≡ false → (own : Link) × (shown h q ≡ Some own) × (own.mark ≡ false)
-    link_before q link at plain = elim (place_either q p) [
-      | inl same ↦ (from, subst (λ (z : Place). shown h z ≡ Some from) (sym same) m.at, a.plain)
-      | inr ne ↦ (link, sym (m.others q ne) ∙ at, plain)
-    ]
-
-    pub link_after : (q : Place) (link : Link) → shown h q ≡ Some link → link.mark ≡ false → (own : Link) × (shown k q ≡ Some own) × (own.mark ≡ false)
-    link_after q link at plain = elim (place_either q p) [
-      | inl same ↦ (to, subst (λ (z : Place). shown k z ≡ Some to) (sym same) m.moved, ap (λ (x : Link). x.mark) a.to_is)
-      | inr ne ↦ (link, m.others q ne ∙ at, plain)
-    ]
-
     pub live_link : (id b : ℕ) → IsLive o h id b → IsLive o k id b
     live_link id b y =
-        let (own, at, plain) = link_after (Next id) y.link y.at y.unmarked in
+        let (own, at, plain) = unmarked_after h k p from to m a.plain (ap (λ (x : Link). x.mark) a.to_is) (Next id) y.link y.at y.unmarked in
         record { has_rank = rank_stays o h k m.values id b y.has_rank; link = own; at = at; unmarked = plain }
 
     -- the new node is live
@@ -133,7 +144,7 @@ module _ (o : Order) (h k : Heap) (p : Place) (from to : Link) (rank : ℕ) (c :
     pub live_before_link : (id b : ℕ) → IsLive o k id b → IsLive o h id b ⊎ (id ≡ a.id)
     live_before_link id b y = elim (rank_old id b y.has_rank) [
       | inl had ↦
-          let (own, at, plain) = link_before (Next id) y.link y.at y.unmarked in
+          let (own, at, plain) = unmarked_before h k p from to m a.plain (ap (λ (x : Link). x.mark) a.to_is) (Next id) y.link y.at y.unmarked in
           inl (record { has_rank = had; link = own; at = at; unmarked = plain })
       | inr is ↦ inr is
     ]
@@ -143,7 +154,7 @@ module _ (o : Order) (h k : Heap) (p : Place) (from to : Link) (rank : ℕ) (c :
       leads = leads;
       kept = λ id b link own at plain. elim (rank_old id b own) [
         | inl had ↦
-            let (was, before, was_plain) = link_before (Next id) link at plain in
+            let (was, before, was_plain) = unmarked_before h k p from to m a.plain (ap (λ (x : Link). x.mark) a.to_is) (Next id) link at plain in
             on_chain (o.root b) id was before was_plain (c.kept id b was had before was_plain)
         | inr is ↦
             let one : rank ≡ b = rank_one o k id rank b (subst (λ (z : ℕ). HasRank o k z rank) (sym is) new_rank) own in

@@ -7,7 +7,7 @@ use Rattle.orc_heap.specs.declared.events.Place.{Place}
 use Rattle.orc_heap.specs.declared.events.Place.TheVariants.{Next}
 use Rattle.orc_heap.proofs.SingleActs.{some_same}
 use Rattle.orc_ordered_chains.specs.Chains.{AreChains, FollowsOn, HasRank, IsChainPlace, IsLive, IsOnChain, IsRun, LeadsTo, MayUnlink, Order}
-use Rattle.orc_ordered_chains.proofs.Acts.{IsMoved, place_either, rank_before, rank_linked, rank_stays}
+use Rattle.orc_ordered_chains.proofs.Acts.{IsMoved, place_either, rank_before, rank_linked, rank_stays, unmarked_after, unmarked_before}
 use Rattle.orc_ordered_chains.proofs.Paths.{detour, leads_same, run_follows}
 use Rattle.orc_ordered_chains.proofs.Still.{follows_stays, place_before}
 
@@ -21,19 +21,6 @@ module _ (o : Order) (h k : Heap) (p : Place) (from to : Link) (c : AreChains o 
 
   had : (id rank : ℕ) → HasRank o k id rank → HasRank o h id rank
   had id rank own = rank_before o h k m.values id rank (unlink_old id (rank_linked o k id rank own)) own
-
-  -- an unmarked link after it was one before it
-  pub unlink_before : (q : Place) (link : Link) → shown k q ≡ Some link → link.mark ≡ false → (own : Link) × (shown h q ≡ Some own) × (own.mark ≡ false)
-  unlink_before q link at plain = elim (place_either q p) [
-    | inl same ↦ (from, subst (λ (z : Place). shown h z ≡ Some from) (sym same) m.at, u.plain)
-    | inr ne ↦ (link, sym (m.others q ne) ∙ at, plain)
-  ]
-
-  pub unlink_after : (q : Place) (link : Link) → shown h q ≡ Some link → link.mark ≡ false → (own : Link) × (shown k q ≡ Some own) × (own.mark ≡ false)
-  unlink_after q link at plain = elim (place_either q p) [
-    | inl same ↦ (to, subst (λ (z : Place). shown k z ≡ Some to) (sym same) m.moved, u.plain_after)
-    | inr ne ↦ (link, m.others q ne ∙ at, plain)
-  ]
 
   on_chain : (root y : ℕ) (link : Link) → shown h (Next y) ≡ Some link → link.mark ≡ false → IsOnChain h root y → IsOnChain k root y
   on_chain root y link at plain on =
@@ -55,16 +42,16 @@ module _ (o : Order) (h k : Heap) (p : Place) (from to : Link) (c : AreChains o 
   chains_unlink = record {
     leads = leads;
     kept = λ id rank link own at plain.
-        let (was, before, was_plain) = unlink_before (Next id) link at plain in
+        let (was, before, was_plain) = unmarked_before h k p from to m u.plain u.plain_after (Next id) link at plain in
         on_chain (o.root rank) id was before was_plain (c.kept id rank was (had id rank own) before was_plain);
   }
 
   pub live_unlink : (id rank : ℕ) → IsLive o h id rank → IsLive o k id rank
   live_unlink id rank y =
-      let (own, at, plain) = unlink_after (Next id) y.link y.at y.unmarked in
+      let (own, at, plain) = unmarked_after h k p from to m u.plain u.plain_after (Next id) y.link y.at y.unmarked in
       record { has_rank = rank_stays o h k m.values id rank y.has_rank; link = own; at = at; unmarked = plain }
 
   pub live_before_unlink : (id rank : ℕ) → IsLive o k id rank → IsLive o h id rank
   live_before_unlink id rank y =
-      let (own, at, plain) = unlink_before (Next id) y.link y.at y.unmarked in
+      let (own, at, plain) = unmarked_before h k p from to m u.plain u.plain_after (Next id) y.link y.at y.unmarked in
       record { has_rank = had id rank y.has_rank; link = own; at = at; unmarked = plain }

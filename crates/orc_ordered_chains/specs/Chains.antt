@@ -1,7 +1,9 @@
 -- Chains of linked nodes in order of rank, and the Moves that keep them so. After Harris 2001.
-use Rattle.std.specs.Prelude.{Bool, List, None, Option, Some, [], false, slice_get, true, ℕ, ◌<◌, ◌∷◌, ◌≡◌}
+use Rattle.std.specs.Prelude.{Bool, List, None, Option, Some, [], false, slice_get, true, ℕ, ◌++◌, ◌<◌, ◌∷◌, ◌≡◌}
 use Rattle.orc_heap.specs.Allowed.{HasLink, HasNullSide}
-use Rattle.orc_heap.specs.Heap.{Heap, Node, link_to, shown}
+use Rattle.orc_heap.specs.Heap.{Heap, HeapNumbers, Node, link_to, shown}
+use Rattle.orc_heap.specs.Journals.{run_heap}
+use Rattle.orc_heap.specs.declared.events.Event.{Event}
 use Rattle.orc_heap.specs.declared.events.Link.{Link}
 use Rattle.orc_heap.specs.declared.events.Place.{Place}
 use Rattle.orc_heap.specs.declared.events.Place.TheVariants.{Next, Root, Side}
@@ -68,6 +70,11 @@ abbrev pub IsRun : Heap → Link → List ℕ → Option ℕ → Type 0
 IsRun h link [] to = link.to ≡ to
 IsRun h link (id ∷ ids) to =
     (link.to ≡ Some id) × (next : Link) × HasLink h id next × (next.mark ≡ true) × IsRun h next ids to
+
+-- a marked link never changes
+abbrev pub MarksStay : {N : Type 0} → HeapNumbers → List (Event N) → Type 0
+MarksStay {N} n es = (before after : List (Event N)) (id : ℕ) (link : Link) → es ≡ before ++ after
+    → HasLink (run_heap n before) id link → link.mark ≡ true → HasLink (run_heap n es) id link
 
 module _ (o : Order) where
   -- a root at which a chain begins, or the first link of a once linked node with a rank

@@ -17,6 +17,7 @@ use Rattle.orc_history.specs.declared.set.SetEntry.TheVariants.{Added, Asked, Re
 use Rattle.orc_ordered_chains.specs.Chains.{IsAbove, IsChainPlace, IsOnChain, IsRun, MayLink, link_over}
 use Rattle.orc_heap.proofs.Sides.{null_side}
 use Rattle.orc_ordered_chains.proofs.Later.{above_later, chain_place_later, follows_later, follows_on_chain, run_later, run_target}
+use Rattle.orc_ordered_chains.proofs.Linking.{may_link}
 use Rattle.orc_ordered_chains.proofs.Paths.{absent}
 use Rattle.orc_split_rule.specs.declared.split.SplitNote.{SplitNote}
 use Rattle.orc_split_rule.specs.declared.split.SplitNote.TheVariants.{Anchor, Bucket, Entry, Grow, Unlink}
@@ -69,24 +70,12 @@ link_later n agent place from over to rank fresh node seen holds out there mine 
     let now = holds_later n seen more holds later.allowed in
     let still = fresh_later n agent fresh node seen more holds there mine unnamed unlinked later in
     let o = left_out_later n seen more place from over to rank out later.allowed in
-    let (on, under) = follows_on_chain split_order h now.chains place from rank o.below at o.unmarked in
     let target : node.link.to ≡ to = ap (λ (l : Link). l.to) link_is in (
-      record {
-        on_chain = on;
-        below = under;
-        plain = o.unmarked;
-        id = fresh;
-        to_is = refl;
-        node = node;
-        there = still;
-        unlinked = unlinked;
-        rank_is = rank_is;
-        own_plain = ap (λ (l : Link). l.mark) link_is;
-        over = over;
-        run = subst (λ (t : Option ℕ). IsRun h from over t) (sym target) o.run;
-        above = subst (λ (t : Option ℕ). IsAbove split_order h t rank) (sym target) o.above;
-        side_null = null_side h fresh node still side_is;
-      },
+      may_link split_order h place from over rank fresh node (follows_on_chain split_order h now.chains place from rank o.below at o.unmarked)
+          o.unmarked still unlinked rank_is (ap (λ (l : Link). l.mark) link_is)
+          (subst (λ (t : Option ℕ). IsRun h from over t) (sym target) o.run)
+          (subst (λ (t : Option ℕ). IsAbove split_order h t rank) (sym target) o.above)
+          (null_side h fresh node still side_is),
       refl,
     )
 
@@ -248,36 +237,42 @@ grow_allowed n agent size fresh from seen holds some plain stands fits there = �
       own = tt;
     }
 
--- the answers
+-- the answer that a key is absent
+absent_later : (n : HeapNumbers) (agent : ℕ) (place : Place) (from : Link) (over : List ℕ) (to : Option ℕ) (key : ℕ) (seen : List (Event SplitNote))
+    → SplitHolds n seen → LeavesOut (run_heap n seen) place from over to (key_place key)
+    → (more : List (Event SplitNote)) → Later (SplitMay n) agent seen more → shown (run_heap n (seen ++ more)) place ≡ Some from
+    → has key (set_after (seen ++ more)) ≡ false
+absent_later n agent place from over to key seen holds out more later at =
+    key_absent n (seen ++ more) place from over to key (holds_later n seen more holds later.allowed) at
+    (left_out_later n seen more place from over to (key_place key) out later.allowed)
 
 pub removed_absent_allowed : (n : HeapNumbers) (agent : ℕ) (place : Place) (from : Link) (over : List ℕ) (to : Option ℕ) (key : ℕ)
     (seen : List (Event SplitNote)) → SplitHolds n seen → LeavesOut (run_heap n seen) place from over to (key_place key)
     → AllowedLater (SplitMay n) n agent seen place from (event_by agent (Look place from) (Some (Entry (Removed agent key false))))
 removed_absent_allowed n agent place from over to key seen holds out = λ more later at.
-    let now = holds_later n seen more holds later.allowed in
-    let none = key_absent n (seen ++ more) place from over to key now at (left_out_later n seen more place from over to (key_place key) out later.allowed) in
-    record { fits = at; may_act = (refl, none); own = refl }
+    record { fits = at; may_act = (refl, absent_later n agent place from over to key seen holds out more later at); own = refl }
 
 pub asked_absent_allowed : (n : HeapNumbers) (agent : ℕ) (place : Place) (from : Link) (over : List ℕ) (to : Option ℕ) (key : ℕ)
     (seen : List (Event SplitNote)) → SplitHolds n seen → LeavesOut (run_heap n seen) place from over to (key_place key)
     → AllowedLater (SplitMay n) n agent seen place from (event_by agent (Look place from) (Some (Entry (Asked agent key false))))
 asked_absent_allowed n agent place from over to key seen holds out = λ more later at.
-    let now = holds_later n seen more holds later.allowed in
-    let none = key_absent n (seen ++ more) place from over to key now at (left_out_later n seen more place from over to (key_place key) out later.allowed) in
-    record { fits = at; may_act = sym none; own = refl }
+    record { fits = at; may_act = sym (absent_later n agent place from over to key seen holds out more later at); own = refl }
+
+-- the answer that a key is present
+present_later : (n : HeapNumbers) (agent id key : ℕ) (link : Link) (seen : List (Event SplitNote)) → SplitHolds n seen → HasKey (run_heap n seen) id key
+    → link.mark ≡ false → (more : List (Event SplitNote)) → Later (SplitMay n) agent seen more → shown (run_heap n (seen ++ more)) (Next id) ≡ Some link
+    → has key (set_after (seen ++ more)) ≡ true
+present_later n agent id key link seen holds own plain more later at =
+    key_present n (seen ++ more) id key link (holds_later n seen more holds later.allowed) (values_later n seen more id key 1 own later.allowed) at plain
 
 pub added_present_allowed : (n : HeapNumbers) (agent id key : ℕ) (link : Link) (seen : List (Event SplitNote)) → SplitHolds n seen
     → HasKey (run_heap n seen) id key → link.mark ≡ false
     → AllowedLater (SplitMay n) n agent seen (Next id) link (event_by agent (Look (Next id) link) (Some (Entry (Added agent key false))))
 added_present_allowed n agent id key link seen holds own plain = λ more later at.
-    let now = holds_later n seen more holds later.allowed in
-    let there = key_present n (seen ++ more) id key link now (values_later n seen more id key 1 own later.allowed) at plain in
-    record { fits = at; may_act = (refl, there); own = refl }
+    record { fits = at; may_act = (refl, present_later n agent id key link seen holds own plain more later at); own = refl }
 
 pub asked_present_allowed : (n : HeapNumbers) (agent id key : ℕ) (link : Link) (seen : List (Event SplitNote)) → SplitHolds n seen
     → HasKey (run_heap n seen) id key → link.mark ≡ false
     → AllowedLater (SplitMay n) n agent seen (Next id) link (event_by agent (Look (Next id) link) (Some (Entry (Asked agent key true))))
 asked_present_allowed n agent id key link seen holds own plain = λ more later at.
-    let now = holds_later n seen more holds later.allowed in
-    let there = key_present n (seen ++ more) id key link now (values_later n seen more id key 1 own later.allowed) at plain in
-    record { fits = at; may_act = sym there; own = refl }
+    record { fits = at; may_act = sym (present_later n agent id key link seen holds own plain more later at); own = refl }

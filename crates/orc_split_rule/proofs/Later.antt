@@ -1,26 +1,22 @@
 -- What stays true over all events that the discipline allows.
-use Rattle.std.proofs.Common.{List, Some, [], ap, false, slice_get, true, ℕ, ◌++◌, ◌∷◌, ◌≡◌}
+use Rattle.std.proofs.Common.{List, Some, [], ap, false, slice_get, true, ℕ, ◌++◌, ◌≡◌}
 use Rattle.orc_heap.proofs.Fresh.{node_later}
 use Rattle.orc_heap.proofs.Runs.{run_heap-snoc}
 use Rattle.orc_heap.proofs.Stays.{stays}
 use Rattle.orc_heap.specs.Acts.{heap_after}
-use Rattle.orc_heap.specs.Allowed.{AllAllowed, HasLink, Later}
+use Rattle.orc_heap.specs.Allowed.{AllAllowed, Later}
 use Rattle.orc_heap.specs.Heap.{HeapNumbers, Node}
 use Rattle.orc_heap.specs.Journals.{FitsAfter, run_heap}
 use Rattle.orc_heap.specs.declared.events.Event.{Event}
 use Rattle.orc_heap.specs.declared.events.Link.{Link}
 use Rattle.orc_ordered_chains.proofs.Acts.{values_after}
+use Rattle.orc_ordered_chains.proofs.Frozen.{nothing_marked}
 use Rattle.orc_ordered_chains.proofs.Later.{no_chains, no_node, null_root, root_leads_nowhere}
 use Rattle.orc_split_rule.specs.declared.split.SplitNote.{SplitNote}
 use Rattle.orc_split_rule.specs.SplitOrder.{split_order}
 use Rattle.orc_split_rule.specs.SplitDiscipline.{HasValues, SplitHolds, SplitMay}
-use Rattle.orc_split_rule.specs.Laws.Kept.{split_fits, split_keeps, split_moves_linked}
+use Rattle.orc_split_rule.specs.Laws.Kept.{split_keeps, split_moves_linked}
 use Rattle.orc_split_rule.specs.Laws.Values.{value_stays}
-
-no_frozen : (n : HeapNumbers) (before after : List (Event SplitNote)) (id : ℕ) (link : Link) → [] ≡ before ++ after → HasLink (run_heap n before) id link
-    → HasLink (run_heap {N = SplitNote} n []) id link
-no_frozen n [] after id link split l = l
-no_frozen n (e ∷ before) after id link split l = let bad : ⊥ = cc in absurd bad
 
 -- the empty list obeys the discipline
 pub nothing_yet : (n : HeapNumbers) → SplitHolds n []
@@ -38,7 +34,7 @@ nothing_yet n = record {
     sides = λ id l. absurd (no_node id l.node l.there);
   };
   set = λ key. ((λ is. let bad : false ≡ true = is in cc), (λ y. absurd (no_node y.id y.has_key.node y.has_key.there)));
-  frozen = λ before after id link split l mark. no_frozen n before after id link split l;
+  frozen = nothing_marked n;
 }
 
 pub holds_later : (n : HeapNumbers) (seen more : List (Event SplitNote)) → SplitHolds n seen → AllAllowed (SplitMay n) seen more → SplitHolds n (seen ++ more)
@@ -61,5 +57,5 @@ pub fresh_later : (n : HeapNumbers) (agent fresh : ℕ) (node : Node) (seen more
     → slice_get (run_heap n seen).nodes fresh ≡ Some node → node.giver ≡ agent → node.named ≡ false → node.linked ≡ false
     → Later (SplitMay n) agent seen more → slice_get (run_heap n (seen ++ more)).nodes fresh ≡ Some node
 fresh_later n agent fresh node seen more holds there mine unnamed unlinked later =
-    node_later n (SplitHolds n) (SplitMay n) (split_keeps n) (split_fits n) (split_moves_linked n) agent fresh node seen more holds
+    node_later n (SplitHolds n) (SplitMay n) (split_keeps n) (λ es e holds may. may.fits) (split_moves_linked n) agent fresh node seen more holds
     there mine unnamed unlinked later

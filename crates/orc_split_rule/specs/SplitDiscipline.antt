@@ -1,7 +1,7 @@
 -- The split-order discipline: what the events of a split-ordered set obey. After Shalev and Shavit 2006, over the chains of Harris 2001.
-use Rattle.std.specs.Prelude.{List, None, Option, Some, [], false, slice_get, true, unwrap_or, ℕ, ◌*◌, ◌++◌, ◌-◌, ◌<◌, ◌↔◌, ◌∷◌, ◌≡◌, ◌≤◌, ◌^◌, ◌⊎◌}
+use Rattle.std.specs.Prelude.{List, None, Option, Some, [], false, slice_get, true, unwrap_or, ℕ, ◌*◌, ◌-◌, ◌<◌, ◌↔◌, ◌∷◌, ◌≡◌, ◌≤◌, ◌^◌, ◌⊎◌}
 use Rattle.orc_heap.specs.Heap.{Heap, HeapNumbers, Node, link_to, null, shown}
-use Rattle.orc_heap.specs.Allowed.{AreSidesNull, HasLink, HasNullSide, IsLinkedNode}
+use Rattle.orc_heap.specs.Allowed.{AreSidesNull, HasNullSide, IsLinkedNode}
 use Rattle.orc_heap.specs.Journals.{FitsAfter, IsLawful, noted_entries, run_heap}
 use Rattle.orc_heap.specs.Moves.{move_with}
 use Rattle.orc_heap.specs.declared.events.Act.{Act}
@@ -14,7 +14,7 @@ use Rattle.orc_history.specs.SetHistory.{IsLegalSet, agent_of_set_entry, has, ke
 use Rattle.orc_history.specs.declared.set.SetEntry.{SetEntry}
 use Rattle.orc_history.specs.declared.set.SetEntry.TheVariants.{Added, Removed}
 use Rattle.orc_ordered_chains.specs.Answers.{MayAnswer}
-use Rattle.orc_ordered_chains.specs.Chains.{AreChains, IsOnChain, LeadsTo, MayLink, MayUnlink}
+use Rattle.orc_ordered_chains.specs.Chains.{AreChains, IsOnChain, LeadsTo, MarksStay, MayLink, MayUnlink}
 use Rattle.orc_split_rule.specs.SplitOrder.{dummy_place, key_place, place_of, split_order}
 use Rattle.orc_split_rule.specs.declared.split.SplitNote.{SplitNote}
 use Rattle.orc_split_rule.specs.declared.split.SplitNote.TheVariants.{Anchor, Bucket, Entry, Grow, Unlink}
@@ -22,11 +22,7 @@ use Rattle.orc_split_rule.specs.declared.split.SplitNote.TheVariants.{Anchor, Bu
 -- what a note enters in the history
 abbrev pub entries_in : Option SplitNote → List SetEntry
 entries_in (Some (Entry entry)) = entry ∷ []
-entries_in (Some Unlink) = []
-entries_in (Some Bucket) = []
-entries_in (Some Anchor) = []
-entries_in (Some Grow) = []
-entries_in None = []
+entries_in noted = []
 
 -- the set history of the events
 abbrev pub entries_of : List (Event SplitNote) → List SetEntry
@@ -117,8 +113,7 @@ pub record SplitHolds (n : HeapNumbers) (es : List (Event SplitNote)) : Type 0 w
   -- the set has the keys of the key nodes on the chain whose own link is unmarked
   pub set : (key : ℕ) → (has key (set_after es) ≡ true) ↔ IsPresent (run_heap n es) key
   -- a marked link never changes
-  pub frozen : (before after : List (Event SplitNote)) (id : ℕ) (link : Link) → es ≡ before ++ after
-      → HasLink (run_heap n before) id link → link.mark ≡ true → HasLink (run_heap n es) id link
+  pub frozen : MarksStay n es
 
 -- an Added true links a key node with the key
 pub record MayAdd (h : Heap) (place : Place) (from to : Link) (key : ℕ) : Type 0 where

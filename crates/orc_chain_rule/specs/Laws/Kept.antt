@@ -3,13 +3,12 @@ use Rattle.std.proofs.Common.{List, None, Option, Some, [], ap, arith, false, fi
 use Rattle.std.proofs.lemmas.Bool.{false_from_ne_true}
 use Rattle.std.specs.List.{slice_get}
 use Rattle.std.specs.Prelude.{unwrap_or}
-use Rattle.orc_heap.proofs.Linked.{linked_after}
 use Rattle.orc_heap.proofs.Moved.{shown_node}
 use Rattle.orc_heap.proofs.Runs.{lawful-snoc, run_heap-snoc}
 use Rattle.orc_heap.proofs.Sides.{side_rises}
-use Rattle.orc_heap.proofs.SingleActs.{linked_node, shown_link, some_same}
+use Rattle.orc_heap.proofs.SingleActs.{some_same}
 use Rattle.orc_heap.specs.Acts.{Fits, heap_after}
-use Rattle.orc_heap.specs.Allowed.{AreSidesNull, HasLink, HasNullSide, IsLinkedNode, LeadsUp, MovesLinked, Rises}
+use Rattle.orc_heap.specs.Allowed.{AreSidesNull, HasNullSide, IsLinkedNode, LeadsUp, MovesLinked, Rises}
 use Rattle.orc_heap.specs.Heap.{Heap, HeapNumbers, Node, shown}
 use Rattle.orc_heap.specs.Journals.{FitsAfter, IsPlain, event_by, run_heap}
 use Rattle.orc_heap.specs.Moves.{move_with}
@@ -19,13 +18,13 @@ use Rattle.orc_heap.specs.declared.events.Event.{Event}
 use Rattle.orc_heap.specs.declared.events.Link.{Link}
 use Rattle.orc_heap.specs.declared.events.Place.{Place}
 use Rattle.orc_heap.specs.declared.events.Place.TheVariants.{Next, Root, Side}
-use Rattle.orc_history.proofs.SetHistories.{IsLegalSetFrom-snoc}
-use Rattle.orc_history.specs.SetHistory.{IsLegalSet, IsLegalSetFrom, has}
-use Rattle.orc_history.specs.declared.set.SetEntry.{SetEntry}
+use Rattle.orc_history.specs.SetHistory.{IsLegalSet, has}
 use Rattle.orc_history.specs.declared.set.SetEntry.TheVariants.{Added, Removed}
 use Rattle.orc_ordered_chains.specs.Chains.{IsChainPlace as IsRankedPlace, IsLive, MayMark}
 use Rattle.orc_ordered_chains.proofs.Acts.{IsLinkedIn, IsMoved, act_unmoved, chain_place_first, chain_place_linked, chain_place_moves, move_links, move_moves, no_move_linked, no_move_plain, place_either, rank_linked, rank_one, rank_stays, sides_unmoved}
-use Rattle.orc_ordered_chains.proofs.Keys.{answer_keys, answer_legal, split_snoc}
+use Rattle.orc_ordered_chains.proofs.Keys.{answer_keys, answer_legal}
+use Rattle.orc_ordered_chains.proofs.Entered.{entries_same, legal_one, set_more}
+use Rattle.orc_ordered_chains.proofs.Frozen.{KeepsMarked, MovesUnmarked, marked_kept, marks_stay_more, no_move_unmarked}
 use Rattle.orc_ordered_chains.proofs.Linking.{chains_link, link_absent, link_old, live_before_link, live_link, live_new}
 use Rattle.orc_ordered_chains.proofs.Marking.{chains_mark, live_before_mark, live_mark, mark_old}
 use Rattle.orc_ordered_chains.proofs.Paths.{one_live, place_on_chain}
@@ -33,12 +32,9 @@ use Rattle.orc_ordered_chains.proofs.Still.{chains_still, live_before, live_stil
 use Rattle.orc_ordered_chains.proofs.Unlinking.{chains_unlink, live_before_unlink, live_unlink, unlink_old}
 use Rattle.orc_chain_rule.specs.declared.chain.ChainNote.{ChainNote}
 use Rattle.orc_chain_rule.specs.declared.chain.ChainNote.TheVariants.{Entry, Unlink}
-use Rattle.orc_chain_rule.specs.ChainDiscipline.{AreChains, ChainHolds, ChainMay, HasKey, IsOwnEntry, MayAct, MayAdd, MayRemove, MayUnlink, chain_order, chain_rank, entries_of, key_of, set_after}
+use Rattle.orc_chain_rule.specs.ChainDiscipline.{AreChains, ChainHolds, ChainMay, HasKey, IsOwnEntry, MayAct, MayAdd, MayRemove, MayUnlink, chain_order, chain_rank, entries_in, entries_of, key_of, set_after}
 use Rattle.orc_chain_rule.specs.Laws.Kinds.{each_kind}
-use Rattle.orc_chain_rule.specs.Laws.Sets.{entries_more, entries_same, live_present, present_live, set_added, set_more, set_removed, set_same}
-
-pub chain_fits : (n : HeapNumbers) (seen : List (Event ChainNote)) (e : Event ChainNote) → ChainHolds n seen → ChainMay n seen e → FitsAfter n seen e
-chain_fits n seen e holds may = may.fits
+use Rattle.orc_chain_rule.specs.Laws.Sets.{live_present, present_live, set_added, set_removed, set_same}
 
 pub chain_allows_plain : (n : HeapNumbers) (seen : List (Event ChainNote)) (e : Event ChainNote) → ChainHolds n seen → FitsAfter n seen e → IsPlain e
     → ChainMay n seen e
@@ -65,13 +61,6 @@ chain_moves_linked n seen e holds may =
     (λ p from to u. chain_place_moves o h p from to u.linked)
     (λ p link entry t. tt)
     e.act e.note may.may_act
-
--- the history
-
-legal_one : (es : List (Event ChainNote)) (e : Event ChainNote) (entry : SetEntry) → e.note ≡ Some (Entry entry) → IsLegalSet (entries_of es)
-    → IsLegalSetFrom (set_after es) (entry ∷ [])
-    → IsLegalSet (entries_of (es ++ e ∷ []))
-legal_one es e entry note_is legal one = rw (entries_more es e entry note_is) (IsLegalSetFrom-snoc [] (entries_of es) entry legal one)
 
 -- a Removed true marks a node
 pub remove_marks : (roots : ℕ) (h : Heap) (x : ℕ) (from to : Link) (key : ℕ) → MayRemove h x from to key → MayMark (chain_order roots) h x from to
@@ -225,8 +214,8 @@ leaves n es e holds may =
     (λ act plain fits.
     let x : Event ChainNote = event_by e.agent act None in
     record {
-      legal = rw (entries_same es x refl) holds.legal;
-      lists = rw (entries_same es x refl) (lists_unmoved n.roots h h keys c e.agent act fits plain);
+      legal = rw (entries_same entries_in es x refl) holds.legal;
+      lists = rw (entries_same entries_in es x refl) (lists_unmoved n.roots h h keys c e.agent act fits plain);
     })
     (λ p from to by key a fits.
     let x : Event ChainNote = event_by e.agent (Move p from to) (Some (Entry (Added by key true))) in
@@ -234,71 +223,40 @@ leaves n es e holds may =
     let m = move_moves e.agent p from to h fits in
     let new = add_links n.roots h keys holds.chains e.agent p from to key fits a in
     record {
-      legal = legal_one es x (Added by key true) refl holds.legal (rw (add_absent n.roots h k keys c p from to key m a new) refl, tt);
-      lists = rw (set_more es x (Added by key true) refl) (lists_add n.roots h k keys c p from to key m a new);
+      legal = legal_one entries_in es x (Added by key true) refl holds.legal (rw (add_absent n.roots h k keys c p from to key m a new) refl, tt);
+      lists = rw (set_more entries_in es x (Added by key true) refl) (lists_add n.roots h k keys c p from to key m a new);
     })
     (λ d from to by key r fits.
     let x : Event ChainNote = event_by e.agent (Move (Next d) from to) (Some (Entry (Removed by key true))) in
     let k : Heap = heap_after e.agent (Move (Next d) from to) h in
     let m = move_moves e.agent (Next d) from to h fits in
     record {
-      legal = legal_one es x (Removed by key true) refl holds.legal (sym (remove_present n.roots h k keys c d from to key m r), tt);
-      lists = rw (set_more es x (Removed by key true) refl) (lists_remove n.roots h k keys c d from to key m r);
+      legal = legal_one entries_in es x (Removed by key true) refl holds.legal (sym (remove_present n.roots h k keys c d from to key m r), tt);
+      lists = rw (set_more entries_in es x (Removed by key true) refl) (lists_remove n.roots h k keys c d from to key m r);
     })
     (λ p from to u fits.
     let x : Event ChainNote = event_by e.agent (Move p from to) (Some Unlink) in
     record {
-      legal = rw (entries_same es x refl) holds.legal;
+      legal = rw (entries_same entries_in es x refl) holds.legal;
       lists =
-          rw (entries_same es x refl)
+          rw (entries_same entries_in es x refl)
           (lists_unlink n.roots h (heap_after e.agent (Move p from to) h) keys c p from to (move_moves e.agent p from to h fits) u);
     })
     (λ p link entry t fits.
     let x : Event ChainNote = event_by e.agent (Look p link) (Some (Entry entry)) in
     record {
-      legal = legal_one es x entry refl holds.legal (answer_legal keys entry t);
-      lists = rw (set_more es x entry refl, answer_keys keys entry t) (lists_unmoved n.roots h h keys c e.agent (Look p link) fits refl);
+      legal = legal_one entries_in es x entry refl holds.legal (answer_legal keys entry t);
+      lists = rw (set_more entries_in es x entry refl, answer_keys keys entry t) (lists_unmoved n.roots h h keys c e.agent (Look p link) fits refl);
     })
     e.act e.note may.may_act may.fits
 
 -- a marked link never changes
-
--- an event that is allowed leaves a marked link
-pub marked_next : (n : HeapNumbers) (es : List (Event ChainNote)) (e : Event ChainNote) (id : ℕ) (link : Link) → ChainMay n es e
-    → HasLink (run_heap n es) id link → link.mark ≡ true
-    → HasLink (run_heap n (es ++ e ∷ [])) id link
-marked_next n es e id link may l mark =
-    let h : Heap = run_heap n es in
-    let at = shown_link h id link l in
-    let moved : (p : Place) (from to : Link) → Fits e.agent (Move p from to) h → from.mark ≡ false
-    → shown (heap_after e.agent (Move p from to) h) (Next id) ≡ Some link
-    = λ p from to fits plain. elim (place_either (Next id) p) [
-      | inl same ↦
-          let is : link ≡ from = some_same (sym at ∙ subst (λ (z : Place). shown h z ≡ Some from) (sym same) fits.0) in
-          let bad : true ≡ false = sym mark ∙ (ap (λ (x : Link). x.mark) is ∙ plain) in
-          absurd (cc)
-      | inr ne ↦ (move_moves e.agent p from to h fits).others (Next id) ne ∙ at
-    ] in
-    let shows : shown (heap_after e.agent e.act h) (Next id) ≡ Some link =
-    each_kind n.roots h (set_after es) (λ act noted. Fits e.agent act h → shown (heap_after e.agent act h) (Next id) ≡ Some link)
-    (λ act plain fits. (act_unmoved e.agent act h fits plain).shows (Next id) (linked_node h id link l) ∙ at)
-    (λ p from to by key a fits. moved p from to fits a.plain)
-    (λ d from to by key r fits. moved (Next d) from to fits r.plain)
-    (λ p from to u fits. moved p from to fits u.plain)
-    (λ p given entry t fits. at)
-    e.act e.note may.may_act may.fits in
-    let s = linked_after e.agent e.act h id l.node may.fits l.there l.linked in
-    let link_is : s.node.link ≡ link = some_same (sym (shown_node (heap_after e.agent e.act h) id s.node s.there) ∙ shows) in
-    rw (run_heap-snoc n es e) (record { node = s.node; there = s.there; linked = s.linked; link_is = link_is })
-
-frozen_next : (n : HeapNumbers) (es : List (Event ChainNote)) (e : Event ChainNote) → ChainHolds n es → ChainMay n es e
-    → (before after : List (Event ChainNote)) (id : ℕ) (link : Link)
-    → es ++ e ∷ [] ≡ before ++ after → HasLink (run_heap n before) id link → link.mark ≡ true → HasLink (run_heap n (es ++ e ∷ [])) id link
-frozen_next n es e holds may before after id link split l mark =
-    elim (split_snoc es e before after split) [
-      | inl s ↦ marked_next n es e id link may (holds.frozen before s.0 id link s.1 l mark) mark
-      | inr all ↦ subst (λ (x : List (Event ChainNote)). HasLink (run_heap n x) id link) all l
-    ]
+pub marked_next : (n : HeapNumbers) → KeepsMarked n (ChainMay n)
+marked_next n =
+    marked_kept n (ChainMay n) (λ es e may. may.fits)
+    (λ es e may. each_kind n.roots (run_heap n es) (set_after es) (λ act noted. MovesUnmarked act) no_move_unmarked
+    (λ p from to by key a. a.plain) (λ d from to by key r. r.plain)
+    (λ p from to u. u.plain) (λ p link entry t. tt) e.act e.note may.may_act)
 
 -- an event that is allowed keeps what the events of sorted lists obey
 pub chain_keeps : (n : HeapNumbers) (seen : List (Event ChainNote)) (e : Event ChainNote) → ChainHolds n seen → ChainMay n seen e
@@ -309,7 +267,7 @@ chain_keeps n seen e holds may =
       lawful = lawful-snoc n seen e holds.lawful may.fits;
       legal = s.legal;
       chains = rw (run_heap-snoc n seen e) s.lists.chains;
-      frozen = λ before after id link split l mark. frozen_next n seen e holds may before after id link split l mark;
+      frozen = marks_stay_more n (ChainMay n) (marked_next n) seen e may holds.frozen;
       sides = rw (run_heap-snoc n seen e) s.lists.sides;
     }
 

@@ -1,31 +1,12 @@
 -- The keys of the set after each kind of event.
-use Rattle.std.proofs.Common.{List, Some, [], ap, append-nil, filter, not, ℕ, ◌++◌, ◌==◌, ◌∙◌, ◌∷◌, ◌≡◌, ◌≢◌, ◌⊎◌, true}
+use Rattle.std.proofs.Common.{List, [], filter, not, ℕ, ◌++◌, ◌==◌, ◌∷◌, ◌≡◌, ◌≢◌, ◌⊎◌, true}
 use Rattle.std.specs.Prelude.{◌↔◌}
-use Rattle.orc_heap.proofs.OwnEntries.{noted-snoc}
 use Rattle.orc_heap.specs.Heap.{Heap}
-use Rattle.orc_heap.specs.declared.events.Event.{Event}
-use Rattle.orc_history.specs.SetHistory.{has, keys_after}
-use Rattle.orc_history.specs.declared.set.SetEntry.{SetEntry}
-use Rattle.orc_history.proofs.SetHistories.{keys_after-snoc}
+use Rattle.orc_history.specs.SetHistory.{has}
 use Rattle.orc_ordered_chains.specs.Chains.{AreChains as AreOrderedChains, IsLive}
 use Rattle.orc_ordered_chains.proofs.Keys.{keys_added, keys_removed, keys_same}
 use Rattle.orc_ordered_chains.proofs.Paths.{live_on}
-use Rattle.orc_chain_rule.specs.declared.chain.ChainNote.{ChainNote}
-use Rattle.orc_chain_rule.specs.declared.chain.ChainNote.TheVariants.{Entry}
-use Rattle.orc_chain_rule.specs.ChainDiscipline.{AreChains, IsPresent, chain_order, entries_in, entries_of, set_after}
-
--- no entry
-pub entries_same : (es : List (Event ChainNote)) (e : Event ChainNote) → entries_in e.note ≡ [] → entries_of (es ++ e ∷ []) ≡ entries_of es
-entries_same es e none = noted-snoc entries_in es e ∙ (ap (λ z. entries_of es ++ z) none ∙ append-nil (entries_of es))
-
--- one entry
-pub entries_more : (es : List (Event ChainNote)) (e : Event ChainNote) (entry : SetEntry) → e.note ≡ Some (Entry entry)
-    → entries_of (es ++ e ∷ []) ≡ entries_of es ++ entry ∷ []
-entries_more es e entry note_is = noted-snoc entries_in es e ∙ ap (λ z. entries_of es ++ entries_in z) note_is
-
-pub set_more : (es : List (Event ChainNote)) (e : Event ChainNote) (entry : SetEntry) → e.note ≡ Some (Entry entry)
-    → set_after (es ++ e ∷ []) ≡ keys_after (set_after es) (entry ∷ [])
-set_more es e entry note_is = ap (keys_after []) (entries_more es e entry note_is) ∙ keys_after-snoc [] (entries_of es) entry
+use Rattle.orc_chain_rule.specs.ChainDiscipline.{AreChains, IsPresent, chain_order}
 
 -- a live node is what makes its key present
 

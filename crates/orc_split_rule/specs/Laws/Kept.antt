@@ -3,14 +3,13 @@ use Rattle.std.proofs.Common.{List, None, Option, Some, [], ap, arith, false, fi
 use Rattle.std.proofs.lemmas.Bool.{false_from_ne_true}
 use Rattle.std.specs.List.{slice_get}
 use Rattle.std.specs.Prelude.{unwrap_or}
-use Rattle.orc_heap.proofs.Linked.{linked_after}
 use Rattle.orc_heap.proofs.Moved.{shown_node}
 use Rattle.orc_heap.proofs.Runs.{lawful-snoc, run_heap-snoc}
 use Rattle.orc_heap.proofs.Sides.{side_rises}
-use Rattle.orc_heap.proofs.SingleActs.{linked_node, shown_link, some_same}
+use Rattle.orc_heap.proofs.SingleActs.{some_same}
 use Rattle.orc_heap.specs.Acts.{Fits, heap_after}
-use Rattle.orc_heap.specs.Allowed.{HasLink, IsLinkedNode, LeadsUp, MovesLinked, Rises}
-use Rattle.orc_heap.specs.Heap.{Heap, HeapNumbers, Node, null, shown}
+use Rattle.orc_heap.specs.Allowed.{IsLinkedNode, LeadsUp, MovesLinked, Rises}
+use Rattle.orc_heap.specs.Heap.{Heap, HeapNumbers, Node, null}
 use Rattle.orc_heap.specs.Journals.{FitsAfter, IsPlain, event_by, run_heap}
 use Rattle.orc_heap.specs.Moves.{move_with}
 use Rattle.orc_heap.specs.declared.events.Act.{Act}
@@ -19,13 +18,13 @@ use Rattle.orc_heap.specs.declared.events.Event.{Event}
 use Rattle.orc_heap.specs.declared.events.Link.{Link}
 use Rattle.orc_heap.specs.declared.events.Place.{Place}
 use Rattle.orc_heap.specs.declared.events.Place.TheVariants.{Next, Root}
-use Rattle.orc_history.proofs.SetHistories.{IsLegalSetFrom-snoc}
-use Rattle.orc_history.specs.SetHistory.{IsLegalSet, IsLegalSetFrom, has}
-use Rattle.orc_history.specs.declared.set.SetEntry.{SetEntry}
+use Rattle.orc_history.specs.SetHistory.{IsLegalSet, has}
 use Rattle.orc_history.specs.declared.set.SetEntry.TheVariants.{Added, Removed}
 use Rattle.orc_ordered_chains.specs.Chains.{AreChains, HasRank, IsChainPlace, IsLive, MayLink, MayMark, MayUnlink}
-use Rattle.orc_ordered_chains.proofs.Acts.{IsLinkedIn, IsMoved, act_unmoved, chain_place_linked, chain_place_moves, move_links, move_moves, no_move_linked, no_move_plain, place_either, rank_linked}
-use Rattle.orc_ordered_chains.proofs.Keys.{answer_keys, answer_legal, split_snoc}
+use Rattle.orc_ordered_chains.proofs.Acts.{IsLinkedIn, IsMoved, act_unmoved, chain_place_linked, chain_place_moves, move_links, move_moves, no_move_linked, no_move_plain, rank_linked}
+use Rattle.orc_ordered_chains.proofs.Keys.{answer_keys, answer_legal}
+use Rattle.orc_ordered_chains.proofs.Entered.{entries_same, legal_one, set_more}
+use Rattle.orc_ordered_chains.proofs.Frozen.{KeepsMarked, MovesUnmarked, marked_kept, marks_stay_more, no_move_unmarked}
 use Rattle.orc_ordered_chains.proofs.Linking.{chains_link, link_absent, link_old, live_before_link, live_link, live_new}
 use Rattle.orc_ordered_chains.proofs.Marking.{chains_mark, live_before_mark, live_mark, mark_old}
 use Rattle.orc_ordered_chains.proofs.Paths.{one_live, place_on_chain}
@@ -34,14 +33,11 @@ use Rattle.orc_ordered_chains.proofs.Unlinking.{chains_unlink, live_before_unlin
 use Rattle.orc_split_rule.specs.declared.split.SplitNote.{SplitNote}
 use Rattle.orc_split_rule.specs.declared.split.SplitNote.TheVariants.{Anchor, Bucket, Entry, Grow, Unlink}
 use Rattle.orc_split_rule.specs.SplitOrder.{dummy_place, key_place, split_order}
-use Rattle.orc_split_rule.specs.SplitDiscipline.{AreBuckets, HasKey, HasValues, IsOwnEntry, MayAct, MayAdd, MayAnchor, MayGrow, MayMakeBucket, MayRemove, SplitHolds, SplitMay, entries_of, greatest, split_place_of, set_after, split_rank}
+use Rattle.orc_split_rule.specs.SplitDiscipline.{AreBuckets, HasKey, HasValues, IsOwnEntry, MayAct, MayAdd, MayAnchor, MayGrow, MayMakeBucket, MayRemove, SplitHolds, SplitMay, entries_in, entries_of, greatest, split_place_of, set_after, split_rank}
 use Rattle.orc_split_rule.specs.Laws.Buckets.{IsLaid, anchor_still, buckets_anchor, buckets_grow, buckets_moved, buckets_unmoved, grow_still}
 use Rattle.orc_split_rule.specs.Laws.Kinds.{each_kind}
-use Rattle.orc_split_rule.specs.Laws.Sets.{IsLiveKey, IsSetOf, entries_more, entries_same, live_present, present_live, set_added, set_more, set_removed, set_same}
+use Rattle.orc_split_rule.specs.Laws.Sets.{IsLiveKey, IsSetOf, live_present, present_live, set_added, set_removed, set_same}
 use Rattle.orc_split_rule.specs.Laws.Values.{dummy_rank, key_rank, value_before, value_first, value_linked, value_new, value_second, value_stays}
-
-pub split_fits : (n : HeapNumbers) (seen : List (Event SplitNote)) (e : Event SplitNote) → SplitHolds n seen → SplitMay n seen e → FitsAfter n seen e
-split_fits n seen e holds may = may.fits
 
 pub split_allows_plain : (n : HeapNumbers) (seen : List (Event SplitNote)) (e : Event SplitNote) → SplitHolds n seen → FitsAfter n seen e → IsPlain e
     → SplitMay n seen e
@@ -70,13 +66,6 @@ split_moves_linked n seen e holds may =
     (λ from to g. tt)
     (λ p link entry t. tt)
     e.act e.note may.may_act
-
--- the history
-
-legal_one : (es : List (Event SplitNote)) (e : Event SplitNote) (entry : SetEntry) → e.note ≡ Some (Entry entry) → IsLegalSet (entries_of es)
-    → IsLegalSetFrom (set_after es) (entry ∷ [])
-    → IsLegalSet (entries_of (es ++ e ∷ []))
-legal_one es e entry note_is legal one = rw (entries_more es e entry note_is) (IsLegalSetFrom-snoc [] (entries_of es) entry legal one)
 
 -- what a heap with these keys is
 record AreSplit (most : ℕ) (h : Heap) (keys : List ℕ) : Type 0 where
@@ -290,105 +279,72 @@ leaves n es e holds may =
     (λ act plain fits.
     let x : Event SplitNote = event_by e.agent act None in
     record {
-      legal = rw (entries_same es x refl) holds.legal;
-      split = rw (entries_same es x refl) (split_unmoved most h keys e.agent act c fits plain);
+      legal = rw (entries_same entries_in es x refl) holds.legal;
+      split = rw (entries_same entries_in es x refl) (split_unmoved most h keys e.agent act c fits plain);
     })
     (λ p from to by key a fits.
     let x : Event SplitNote = event_by e.agent (Move p from to) (Some (Entry (Added by key true))) in
     let m = move_moves e.agent p from to h fits in
     let new = links p from to (key_place key) a.links fits in
     record {
-      legal = legal_one es x (Added by key true) refl holds.legal (rw (add_absent most h (after (Move p from to)) keys c p from to key m a new) refl, tt);
-      split = rw (set_more es x (Added by key true) refl) (split_add most h (after (Move p from to)) keys c p from to key m a new);
+      legal = legal_one entries_in es x (Added by key true) refl holds.legal (rw (add_absent most h (after (Move p from to)) keys c p from to key m a new) refl, tt);
+      split = rw (set_more entries_in es x (Added by key true) refl) (split_add most h (after (Move p from to)) keys c p from to key m a new);
     })
     (λ d from to by key r fits.
     let x : Event SplitNote = event_by e.agent (Move (Next d) from to) (Some (Entry (Removed by key true))) in
     let m = move_moves e.agent (Next d) from to h fits in
     record {
-      legal = legal_one es x (Removed by key true) refl holds.legal (sym (remove_present most h (after (Move (Next d) from to)) keys c d from to key m r), tt);
-      split = rw (set_more es x (Removed by key true) refl) (split_remove most h (after (Move (Next d) from to)) keys c d from to key m r);
+      legal = legal_one entries_in es x (Removed by key true) refl holds.legal (sym (remove_present most h (after (Move (Next d) from to)) keys c d from to key m r), tt);
+      split = rw (set_more entries_in es x (Removed by key true) refl) (split_remove most h (after (Move (Next d) from to)) keys c d from to key m r);
     })
     (λ p from to u fits.
     let x : Event SplitNote = event_by e.agent (Move p from to) (Some Unlink) in
     record {
-      legal = rw (entries_same es x refl) holds.legal;
-      split = rw (entries_same es x refl) (split_unlink most h (after (Move p from to)) keys c p from to (move_moves e.agent p from to h fits) u);
+      legal = rw (entries_same entries_in es x refl) holds.legal;
+      split = rw (entries_same entries_in es x refl) (split_unlink most h (after (Move p from to)) keys c p from to (move_moves e.agent p from to h fits) u);
     })
     (λ p from to b fits.
     let x : Event SplitNote = event_by e.agent (Move p from to) (Some Bucket) in
     record {
-      legal = rw (entries_same es x refl) holds.legal;
+      legal = rw (entries_same entries_in es x refl) holds.legal;
       split =
-          rw (entries_same es x refl)
+          rw (entries_same entries_in es x refl)
           (split_make most h (after (Move p from to)) keys c p from to (move_moves e.agent p from to h fits) b
           (links p from to (dummy_place b.bucket) b.links fits));
     })
     (λ root from to a fits.
     let x : Event SplitNote = event_by e.agent (Move (Root root) from to) (Some Anchor) in
     record {
-      legal = rw (entries_same es x refl) holds.legal;
+      legal = rw (entries_same entries_in es x refl) holds.legal;
       split =
-          rw (entries_same es x refl)
+          rw (entries_same entries_in es x refl)
           (split_anchor most h (after (Move (Root root) from to)) keys c root from to (move_moves e.agent (Root root) from to h fits) a);
     })
     (λ from to g fits.
     let x : Event SplitNote = event_by e.agent (Move (Root most) from to) (Some Grow) in
     record {
-      legal = rw (entries_same es x refl) holds.legal;
+      legal = rw (entries_same entries_in es x refl) holds.legal;
       split =
-          rw (entries_same es x refl)
+          rw (entries_same entries_in es x refl)
           (split_grow most h (after (Move (Root most) from to)) keys c from to (move_moves e.agent (Root most) from to h fits) g
           (move_links e.agent (Root most) from to h g.id g.node fits tt (ap (λ (l : Link). l.to) g.to_is) g.there g.unlinked));
     })
     (λ p link entry t fits.
     let x : Event SplitNote = event_by e.agent (Look p link) (Some (Entry entry)) in
     record {
-      legal = legal_one es x entry refl holds.legal (answer_legal keys entry t);
-      split = rw (set_more es x entry refl, answer_keys keys entry t) (split_unmoved most h keys e.agent (Look p link) c fits refl);
+      legal = legal_one entries_in es x entry refl holds.legal (answer_legal keys entry t);
+      split = rw (set_more entries_in es x entry refl, answer_keys keys entry t) (split_unmoved most h keys e.agent (Look p link) c fits refl);
     })
     e.act e.note may.may_act may.fits
 
 -- a marked link never changes
-
--- an event that is allowed leaves a marked link
-pub marked_next : (n : HeapNumbers) (es : List (Event SplitNote)) (e : Event SplitNote) (id : ℕ) (link : Link) → SplitMay n es e
-    → HasLink (run_heap n es) id link → link.mark ≡ true
-    → HasLink (run_heap n (es ++ e ∷ [])) id link
-marked_next n es e id link may l mark =
-    let h : Heap = run_heap n es in
-    let at = shown_link h id link l in
-    let moved : (p : Place) (from to : Link) → Fits e.agent (Move p from to) h → from.mark ≡ false
-    → shown (heap_after e.agent (Move p from to) h) (Next id) ≡ Some link
-    = λ p from to fits plain. elim (place_either (Next id) p) [
-      | inl same ↦
-          let is : link ≡ from = some_same (sym at ∙ subst (λ (z : Place). shown h z ≡ Some from) (sym same) fits.0) in
-          let bad : true ≡ false = sym mark ∙ (ap (λ (x : Link). x.mark) is ∙ plain) in
-          absurd (cc)
-      | inr ne ↦ (move_moves e.agent p from to h fits).others (Next id) ne ∙ at
-    ] in
-    let shows : shown (heap_after e.agent e.act h) (Next id) ≡ Some link =
-    each_kind (greatest n) h (set_after es) (λ act noted. Fits e.agent act h → shown (heap_after e.agent act h) (Next id) ≡ Some link)
-    (λ act plain fits. (act_unmoved e.agent act h fits plain).shows (Next id) (linked_node h id link l) ∙ at)
-    (λ p from to by key a fits. moved p from to fits a.links.plain)
-    (λ d from to by key r fits. moved (Next d) from to fits r.plain)
-    (λ p from to u fits. moved p from to fits u.plain)
-    (λ p from to b fits. moved p from to fits b.links.plain)
-    (λ root from to a fits. moved (Root root) from to fits (ap (λ (x : Link). x.mark) a.from_is))
-    (λ from to g fits. moved (Root (greatest n)) from to fits g.plain)
-    (λ p given entry t fits. at)
-    e.act e.note may.may_act may.fits in
-    let s = linked_after e.agent e.act h id l.node may.fits l.there l.linked in
-    let link_is : s.node.link ≡ link = some_same (sym (shown_node (heap_after e.agent e.act h) id s.node s.there) ∙ shows) in
-    rw (run_heap-snoc n es e) (record { node = s.node; there = s.there; linked = s.linked; link_is = link_is })
-
-frozen_next : (n : HeapNumbers) (es : List (Event SplitNote)) (e : Event SplitNote) → SplitHolds n es → SplitMay n es e
-    → (before after : List (Event SplitNote)) (id : ℕ) (link : Link)
-    → es ++ e ∷ [] ≡ before ++ after → HasLink (run_heap n before) id link → link.mark ≡ true → HasLink (run_heap n (es ++ e ∷ [])) id link
-frozen_next n es e holds may before after id link split l mark =
-    elim (split_snoc es e before after split) [
-      | inl s ↦ marked_next n es e id link may (holds.frozen before s.0 id link s.1 l mark) mark
-      | inr all ↦ subst (λ (x : List (Event SplitNote)). HasLink (run_heap n x) id link) all l
-    ]
+pub marked_next : (n : HeapNumbers) → KeepsMarked n (SplitMay n)
+marked_next n =
+    marked_kept n (SplitMay n) (λ es e may. may.fits)
+    (λ es e may. each_kind (greatest n) (run_heap n es) (set_after es) (λ act noted. MovesUnmarked act) no_move_unmarked
+    (λ p from to by key a. a.links.plain) (λ d from to by key r. r.plain)
+    (λ p from to u. u.plain) (λ p from to b. b.links.plain) (λ root from to a. ap (λ (x : Link). x.mark) a.from_is) (λ from to g. g.plain)
+    (λ p link entry t. tt) e.act e.note may.may_act)
 
 -- an event that is allowed keeps what the events of a split-ordered set obey
 pub split_keeps : (n : HeapNumbers) (seen : List (Event SplitNote)) (e : Event SplitNote) → SplitHolds n seen → SplitMay n seen e
@@ -401,7 +357,7 @@ split_keeps n seen e holds may =
       chains = rw (run_heap-snoc n seen e) s.split.chains;
       buckets = rw (run_heap-snoc n seen e) s.split.buckets;
       set = rw (run_heap-snoc n seen e) s.split.set;
-      frozen = λ before after id link split l mark. frozen_next n seen e holds may before after id link split l mark;
+      frozen = marks_stay_more n (SplitMay n) (marked_next n) seen e may holds.frozen;
     }
 
 -- links lead to greater places

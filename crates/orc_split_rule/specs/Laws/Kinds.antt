@@ -3,12 +3,12 @@ use Rattle.std.proofs.Common.{Bool, List, None, Option, Some, subst, sym, true, 
 use Rattle.orc_heap.specs.Heap.{Heap}
 use Rattle.orc_heap.specs.Moves.{move_with}
 use Rattle.orc_heap.specs.declared.events.Act.{Act}
-use Rattle.orc_heap.specs.declared.events.Act.TheVariants.{Aim, AimSide, Fill, Give, Look, Miss, Move}
+use Rattle.orc_heap.specs.declared.events.Act.TheVariants.{Look, Move}
 use Rattle.orc_heap.specs.declared.events.Link.{Link}
 use Rattle.orc_heap.specs.declared.events.Place.{Place}
-use Rattle.orc_heap.specs.declared.events.Place.TheVariants.{Next, Root, Side}
+use Rattle.orc_heap.specs.declared.events.Place.TheVariants.{Next, Root}
 use Rattle.orc_history.specs.declared.set.SetEntry.{SetEntry}
-use Rattle.orc_history.specs.declared.set.SetEntry.TheVariants.{Added, Asked, Removed}
+use Rattle.orc_history.specs.declared.set.SetEntry.TheVariants.{Added, Removed}
 use Rattle.orc_ordered_chains.specs.Answers.{MayAnswer}
 use Rattle.orc_ordered_chains.specs.Chains.{MayUnlink}
 use Rattle.orc_split_rule.specs.declared.split.SplitNote.{SplitNote}
@@ -31,25 +31,10 @@ module _ (most : ℕ) (h : Heap) (keys : List ℕ) (P : Act → Option SplitNote
   each_kind (Move place from to) (Some Unlink) m = unlink place from to m
   each_kind (Move place from to) (Some Bucket) m = make place from to m
   each_kind (Move (Root root) from to) (Some Anchor) m = anchor root from to m
-  each_kind (Move (Next x) from to) (Some Anchor) m = absurd m
-  each_kind (Move (Side x) from to) (Some Anchor) m = absurd m
   each_kind (Move (Root root) from to) (Some Grow) m = subst (λ (r : ℕ). P (Move (Root r) from to) (Some Grow)) (sym m.0) (grow from to m.1)
-  each_kind (Move (Next x) from to) (Some Grow) m = absurd m
-  each_kind (Move (Side x) from to) (Some Grow) m = absurd m
   each_kind (Move place from to) (Some (Entry (Added by key answer))) m =
       subst (λ (b : Bool). P (Move place from to) (Some (Entry (Added by key b)))) (sym m.0) (add place from to by key m.1)
   each_kind (Move (Next x) from to) (Some (Entry (Removed by key answer))) m =
       subst (λ (b : Bool). P (Move (Next x) from to) (Some (Entry (Removed by key b)))) (sym m.0) (remove x from to by key m.1)
-  each_kind (Move (Root r) from to) (Some (Entry (Removed by key answer))) m = absurd m
-  each_kind (Move (Side x) from to) (Some (Entry (Removed by key answer))) m = absurd m
-  each_kind (Move place from to) (Some (Entry (Asked by key answer))) m = absurd m
   each_kind (Look place link) (Some (Entry entry)) m = told place link entry m
-  each_kind (Look place link) (Some Unlink) m = absurd m
-  each_kind (Look place link) (Some Bucket) m = absurd m
-  each_kind (Look place link) (Some Anchor) m = absurd m
-  each_kind (Look place link) (Some Grow) m = absurd m
-  each_kind Give (Some noted) m = absurd m
-  each_kind (Fill id which value) (Some noted) m = absurd m
-  each_kind (Aim id to) (Some noted) m = absurd m
-  each_kind (AimSide id to) (Some noted) m = absurd m
-  each_kind (Miss place wanted found) (Some noted) m = absurd m
+  each_kind act noted m = absurd m

@@ -1,33 +1,14 @@
 -- The keys of the set after each kind of event.
-use Rattle.std.proofs.Common.{List, Some, [], ap, append-nil, filter, inl, inr, not, subst, true, ℕ, ◌++◌, ◌==◌, ◌∙◌, ◌∷◌, ◌≡◌, ◌≢◌, ◌⊎◌}
+use Rattle.std.proofs.Common.{List, [], filter, inl, inr, not, subst, true, ℕ, ◌++◌, ◌==◌, ◌∷◌, ◌≡◌, ◌≢◌, ◌⊎◌}
 use Rattle.std.specs.Prelude.{◌↔◌}
-use Rattle.orc_heap.proofs.OwnEntries.{noted-snoc}
 use Rattle.orc_heap.specs.Heap.{Heap}
-use Rattle.orc_heap.specs.declared.events.Event.{Event}
-use Rattle.orc_history.specs.SetHistory.{has, keys_after}
-use Rattle.orc_history.specs.declared.set.SetEntry.{SetEntry}
-use Rattle.orc_history.proofs.SetHistories.{keys_after-snoc}
+use Rattle.orc_history.specs.SetHistory.{has}
 use Rattle.orc_ordered_chains.specs.Chains.{AreChains, IsLive}
 use Rattle.orc_ordered_chains.proofs.Keys.{has_added, has_kept, has_left, has_new, has_old}
 use Rattle.orc_ordered_chains.proofs.Paths.{live_on}
-use Rattle.orc_split_rule.specs.declared.split.SplitNote.{SplitNote}
-use Rattle.orc_split_rule.specs.declared.split.SplitNote.TheVariants.{Entry}
 use Rattle.orc_split_rule.specs.SplitOrder.{key_place, split_order}
-use Rattle.orc_split_rule.specs.SplitDiscipline.{HasKey, IsPresent, entries_in, entries_of, set_after}
+use Rattle.orc_split_rule.specs.SplitDiscipline.{HasKey, IsPresent}
 use Rattle.orc_split_rule.specs.Laws.Values.{key_rank}
-
--- no entry
-pub entries_same : (es : List (Event SplitNote)) (e : Event SplitNote) → entries_in e.note ≡ [] → entries_of (es ++ e ∷ []) ≡ entries_of es
-entries_same es e none = noted-snoc entries_in es e ∙ (ap (λ z. entries_of es ++ z) none ∙ append-nil (entries_of es))
-
--- one entry
-pub entries_more : (es : List (Event SplitNote)) (e : Event SplitNote) (entry : SetEntry) → e.note ≡ Some (Entry entry)
-    → entries_of (es ++ e ∷ []) ≡ entries_of es ++ entry ∷ []
-entries_more es e entry note_is = noted-snoc entries_in es e ∙ ap (λ z. entries_of es ++ entries_in z) note_is
-
-pub set_more : (es : List (Event SplitNote)) (e : Event SplitNote) (entry : SetEntry) → e.note ≡ Some (Entry entry)
-    → set_after (es ++ e ∷ []) ≡ keys_after (set_after es) (entry ∷ [])
-set_more es e entry note_is = ap (keys_after []) (entries_more es e entry note_is) ∙ keys_after-snoc [] (entries_of es) entry
 
 -- a live key node is what makes its key present
 

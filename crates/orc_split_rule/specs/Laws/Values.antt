@@ -7,7 +7,7 @@ use Rattle.orc_heap.specs.declared.events.Place.{Place}
 use Rattle.orc_heap.specs.declared.events.Place.TheVariants.{Next, Root, Side}
 use Rattle.orc_heap.proofs.SingleActs.{some_same}
 use Rattle.orc_ordered_chains.specs.Chains.{HasRank, IsChainPlace}
-use Rattle.orc_ordered_chains.proofs.Acts.{IsLinkedIn, KeepsValues}
+use Rattle.orc_ordered_chains.proofs.Acts.{IsLinkedIn, KeepsValues, values_before}
 use Rattle.orc_split_rule.specs.SplitOrder.{dummy_place, key_place, place_of, split_order}
 use Rattle.orc_split_rule.specs.SplitDiscipline.{HasKey, HasValues, IsDummy, IsSizeNode}
 
@@ -33,15 +33,8 @@ value_stays h k keeps id first second v =
 -- the values of a node that was linked before
 pub value_before : (h k : Heap) → KeepsValues h k → (id first second : ℕ) → IsLinkedNode h id → HasValues k id first second → HasValues h id first second
 value_before h k keeps id first second l v =
-    let (m, one, two) = keeps.stays id l in
-    let same : m.node ≡ v.node = some_same (sym m.there ∙ v.there) in
-    record {
-      node = l.node;
-      there = l.there;
-      linked = l.linked;
-      first_is = sym one ∙ (ap (λ (n : Node). n.first) same ∙ v.first_is);
-      second_is = sym two ∙ (ap (λ (n : Node). n.second) same ∙ v.second_is);
-    }
+    let (one, two) = values_before h k keeps id l v.node v.there in
+    record { node = l.node; there = l.there; linked = l.linked; first_is = one ∙ v.first_is; second_is = two ∙ v.second_is }
 
 -- the values of a node that a Move links
 pub value_new : (h k : Heap) (id : ℕ) (node : Node) (first second : ℕ) → IsLinkedIn h k id node → node.first ≡ Some first → node.second ≡ Some second

@@ -1,6 +1,6 @@
 use Rattle.orc_heap.proofs.Fresh.{node_later}
 use Rattle.orc_chain_rule.specs.ChainDiscipline.{ChainHolds, ChainMay}
-use Rattle.orc_chain_rule.specs.Laws.Kept.{chain_fits, chain_keeps, chain_moves_linked}
+use Rattle.orc_chain_rule.specs.Laws.Kept.{chain_keeps, chain_moves_linked}
 use Rattle.orc_chain_rule.proofs.Later.{above_later, follows_later, key_later, left_out_later, marked_later, run_later}
 use Rattle.orc_chain_rule.proofs.laws.facts_of_chains_stay.Goals as goal
 
@@ -24,5 +24,5 @@ returns-clause-left_out c = λ n seen more roots place from over to key all out.
 
 pub returns-clause-fresh : goal.returns-clause-fresh
 returns-clause-fresh c = λ n seen more agent id node holds later there giver unnamed unlinked.
-    node_later n (ChainHolds n) (ChainMay n) (chain_keeps n) (chain_fits n)
+    node_later n (ChainHolds n) (ChainMay n) (chain_keeps n) (λ es e holds may. may.fits)
     (chain_moves_linked n) agent id node seen more holds there giver unnamed unlinked later

@@ -6,11 +6,9 @@ use Rattle.orc_chain_rule.specs.ChainDiscipline.{ChainMay, entries_in}
 use Rattle.orc_chain_rule.proofs.OwnEntries.{entries_own}
 use Rattle.orc_chain_rule.proofs.laws.set_histories_are_legal.Goals as goal
 
-pub returns-clause-legal : goal.returns-clause-legal
-returns-clause-legal c = λ n es holds. holds.legal
-
-pub returns-clause-from_nothing : goal.returns-clause-from_nothing
-returns-clause-from_nothing c = λ n es all. (holds_later n [] es (nothing_yet n) all).legal
-
-pub returns-clause-own : goal.returns-clause-own
-returns-clause-own c = λ n agent seen more all. own_of_events entries_in agent_of_set_entry (ChainMay n) (entries_own n) agent seen more all
+pub returns : goal.returns
+returns c = record {
+  legal = λ n es holds. holds.legal;
+  from_nothing = λ n es all. (holds_later n [] es (nothing_yet n) all).legal;
+  own = λ n agent seen more all. own_of_events entries_in agent_of_set_entry (ChainMay n) (entries_own n) agent seen more all;
+}
