@@ -20,7 +20,7 @@ use Rattle.orc_fifo_rule.specs.Laws.Nodes.{job_linked}
 use Rattle.orc_fifo_rule.specs.Laws.Paths.{path_ends, path_step, successor_linked}
 use Rattle.orc_heap.proofs.Fresh.{node_later}
 use Rattle.orc_heap.proofs.Sides.{null_side}
-use Rattle.orc_fifo_rule.specs.Laws.Kept.{fifo_fits, fifo_keeps, fifo_moves_linked}
+use Rattle.orc_fifo_rule.specs.Laws.Kept.{fifo_keeps, fifo_moves_linked}
 use Rattle.orc_fifo_rule.proofs.Later.{holds_later, job_later, link_later, named_later, next_position, position_later, still_named}
 use Rattle.orc_fifo_rule.proofs.Leaving.{left_later}
 use Rattle.orc_heap.proofs.SingleActs.{link_same, shown_link, some_same}
@@ -127,7 +127,7 @@ put_allowed n agent id fresh job at seen holds begun named position low there = 
     let now = holds_later n seen more holds later.allowed in
     let begun_now = begun_more seen more begun in
     let was = named_later n seen more 1 id named later.allowed in
-    let node = node_later n (FifoHolds n) (FifoMay n) (fifo_keeps n) (fifo_fits n) (fifo_moves_linked n) agent fresh
+    let node = node_later n (FifoHolds n) (FifoMay n) (fifo_keeps n) (λ es e holds may. may.fits) (fifo_moves_linked n) agent fresh
     (node_to_put agent job at) seen more holds there refl refl refl later in
     let place : at ≡ position_of h 0 + puts_in (entries_of es) =
     sym position ∙ (sym (position_later n seen more id named.linked later.allowed) ∙ next_position n es id now begun_now was shows) in

@@ -7,7 +7,6 @@ use Rattle.std.proofs.lemmas.List.Folds.{list_any-append}
 use Rattle.std.specs.List.{slice_get}
 use Rattle.std.specs.Prelude.{◌||◌}
 use Rattle.orc_heap.proofs.Stays.{stays}
-use Rattle.orc_heap.specs.Acts.{heap_after}
 use Rattle.orc_heap.specs.Allowed.{AllAllowed, IsLinkedNode, HasLink}
 use Rattle.orc_heap.specs.Heap.{Heap, HeapNumbers, shown, link_to}
 use Rattle.orc_heap.specs.Journals.{names_node, points_to, run_heap, event_by}
@@ -19,17 +18,17 @@ use Rattle.orc_history.specs.declared.queue.QueueEntry.TheVariants.{Empty, Put, 
 use Rattle.orc_fifo_rule.specs.declared.fifo.FifoNote.{FifoNote}
 use Rattle.orc_fifo_rule.specs.declared.fifo.FifoNote.TheVariants.{Begin, Entry, Swing}
 use Rattle.orc_heap.specs.Calls.{links_made}
-use Rattle.orc_fifo_rule.specs.QueueDiscipline.{FifoHolds, FifoMay, IsRunning, has_begun, is_begin_of, position_of, root_has_begun}
+use Rattle.orc_fifo_rule.specs.QueueDiscipline.{FifoHolds, FifoMay, IsRunning, StepsOn, has_begun, is_begin_of, position_of, root_has_begun}
 use Rattle.orc_fifo_rule.specs.Laws.Events.{not_begun_before, root_begun_more}
 use Rattle.orc_fifo_rule.specs.Laws.Kinds.{each_kind}
 use Rattle.orc_fifo_rule.specs.Laws.Kept.{fifo_keeps, late, opening_next}
 use Rattle.orc_fifo_rule.specs.Laws.Nodes.{job_position, linked_next, position_next}
 use Rattle.orc_fifo_rule.specs.Laws.Opening.{begun_root}
 use Rattle.orc_fifo_rule.specs.Laws.Leaves.{names, put_has_job, unlinked_apart}
-use Rattle.orc_fifo_rule.specs.Laws.Paths.{dummy_linked, head_steps, successor_linked, tail_linked, tail_steps}
-use Rattle.orc_fifo_rule.specs.Laws.Running.{begin_late, root_at}
+use Rattle.orc_fifo_rule.specs.Laws.Paths.{dummy_linked, root_steps, successor_linked, tail_linked}
+use Rattle.orc_fifo_rule.specs.Laws.Running.{begin_late, root_at, root_stepped}
 use Rattle.orc_fifo_rule.proofs.Later.{nothing_yet}
-use Rattle.orc_heap.proofs.SingleActs.{link_same, null_to, plain_points, plain_roots, root_moved, root_next, root_other, some_same}
+use Rattle.orc_heap.proofs.SingleActs.{link_same, null_to, plain_points, plain_roots, root_next, root_other, some_same}
 
 -- one event more
 
@@ -158,6 +157,10 @@ record Counted (n : HeapNumbers) (es : List (Event FifoNote)) : Type 0 where
   tail_is : shown (run_heap n es) (Root 1) ≡ Some (link_to tail)
   count : (id : ℕ) → CountsAt (run_heap n es) es dummy tail id
 
+-- an event that is allowed leaves the links counted
+abbrev StaysCounted : HeapNumbers → List (Event FifoNote) → Event FifoNote → Type 0
+StaysCounted n es e = FifoMay n es e → Counted n (es ++ e ∷ [])
+
 counts_missed : (n : HeapNumbers) (es : List (Event FifoNote)) (e : Event FifoNote) (id dummy tail dummy_now tail_now : ℕ) → FifoMay n es e
     → points_to e.act id ≡ false
     → position_of (run_heap n es) dummy ≤ position_of (run_heap n (es ++ e ∷ [])) dummy_now
@@ -218,68 +221,62 @@ successor_position n es id next holds link =
     ]
 
 -- a root that steps on comes to a node that it had not come to
-came_by_tail : (n : HeapNumbers) (es : List (Event FifoNote)) (e : Event FifoNote) (id dummy tail : ℕ) → FifoMay n es e
+came_to : (n : HeapNumbers) (es : List (Event FifoNote)) (e : Event FifoNote) (id dummy tail dummy_now tail_now : ℕ) → FifoMay n es e
     → IsLinkedNode (run_heap n es) id → points_to e.act id ≡ true
-    → position_of (run_heap n es) dummy ≤ position_of (run_heap n (es ++ e ∷ [])) dummy → position_of (run_heap n es) id ≡ position_of (run_heap n es) tail + 1
-    → CountsAt (run_heap n es) es dummy tail id → CountsAt (run_heap n (es ++ e ∷ [])) (es ++ e ∷ []) dummy id id
-came_by_tail n es e id dummy tail may l points d step (inl none) = inr (linked_next n es e id may l, omega (arith, none, links_more es e id points))
-came_by_tail n es e id dummy tail may l points d step (inr (was, few)) =
-    inr (linked_next n es e id may l, omega (arith, few, links_more es e id points, position_next n es e id may l, d, step))
+    → 1 + ((1 - (position_of (run_heap n es) id - position_of (run_heap n es) dummy)) + (1 - (position_of (run_heap n es) id - position_of (run_heap n es) tail)))
+    ≤ (1 - (position_of (run_heap n (es ++ e ∷ [])) id - position_of (run_heap n (es ++ e ∷ [])) dummy_now))
+    + (1 - (position_of (run_heap n (es ++ e ∷ [])) id - position_of (run_heap n (es ++ e ∷ [])) tail_now))
+    → CountsAt (run_heap n es) es dummy tail id → CountsAt (run_heap n (es ++ e ∷ [])) (es ++ e ∷ []) dummy_now tail_now id
+came_to n es e id dummy tail dummy_now tail_now may l points more (inl none) =
+    inr (linked_next n es e id may l, omega (arith, none, more, links_more es e id points))
+came_to n es e id dummy tail dummy_now tail_now may l points more (inr (was, few)) =
+    inr (linked_next n es e id may l, omega (arith, few, more, links_more es e id points))
 
-came_by_head : (n : HeapNumbers) (es : List (Event FifoNote)) (e : Event FifoNote) (id dummy tail : ℕ) → FifoMay n es e
-    → IsLinkedNode (run_heap n es) id → points_to e.act id ≡ true
-    → position_of (run_heap n es) tail ≤ position_of (run_heap n (es ++ e ∷ [])) tail → position_of (run_heap n es) id ≡ position_of (run_heap n es) dummy + 1
-    → CountsAt (run_heap n es) es dummy tail id → CountsAt (run_heap n (es ++ e ∷ [])) (es ++ e ∷ []) id tail id
-came_by_head n es e id dummy tail may l points t step (inl none) = inr (linked_next n es e id may l, omega (arith, none, links_more es e id points))
-came_by_head n es e id dummy tail may l points t step (inr (was, few)) =
-    inr (linked_next n es e id may l, omega (arith, few, links_more es e id points, position_next n es e id may l, t, step))
+-- a node to which a root steps on is once linked, and has the next position
+next_step : (n : HeapNumbers) (es : List (Event FifoNote)) → FifoHolds n es → (root id : ℕ) → IsLinkedNode (run_heap n es) id
+    → shown (run_heap n es) (Root root) ≡ Some (link_to id)
+    → (r : ℕ) (from to : Link) (s : StepsOn (run_heap n es) from to) → r ≡ root → shown (run_heap n es) (Root r) ≡ Some from
+    → IsLinkedNode (run_heap n es) s.next × (position_of (run_heap n es) s.next ≡ position_of (run_heap n es) id + 1)
+next_step n es holds root id linked leads r from to s is at =
+    let (same, link) = root_steps (run_heap n es) root id linked leads r from to s is at in (
+      successor_linked n es s.id s.next holds link,
+      successor_position n es s.id s.next holds link ∙ ap (λ (x : ℕ). position_of (run_heap n es) x + 1) same,
+    )
+
+-- what is so of the target of a Move is so of each node that the Move names
+of_target : (P : ℕ → Type 0) (to : Link) (next : ℕ) → to ≡ link_to next → (names_node to.to next ≡ true → P next)
+    → (id : ℕ) → names_node to.to id ≡ true → P id
+of_target P to next to_is at id named =
+    let same : next ≡ id = names to next id to_is named in
+    subst P same (at (subst (λ (x : ℕ). names_node to.to x ≡ true) (sym same) named))
 
 counted_swing : (n : HeapNumbers) (es : List (Event FifoNote)) (agent r : ℕ) (from to : Link) → FifoHolds n es → IsRunning (run_heap n es) es → Counted n es
-    → FifoMay n es (event_by agent (Move (Root r) from to) (Some Swing)) → Counted n (es ++ event_by agent (Move (Root r) from to) (Some Swing) ∷ [])
+    → StaysCounted n es (event_by agent (Move (Root r) from to) (Some Swing))
 counted_swing n es agent r from to holds run c may =
     let e : Event FifoNote = event_by agent (Move (Root r) from to) (Some Swing) in
-    let h : Heap = run_heap n es in
     let s = may.may_act.steps in
     let one : r ≡ 1 = may.may_act.root_is in
-    let (same, link) = tail_steps h es run r from to s one may.fits.0 in
-    let tail_same : s.id ≡ c.tail = same ∙ link_same run.tail c.tail (some_same (sym run.tail_is ∙ c.tail_is)) in
-    let l = successor_linked n es s.id s.next holds link in
-    let step : position_of h s.next ≡ position_of h c.tail + 1 = successor_position n es s.id s.next holds link
-    ∙ ap (λ (x : ℕ). position_of h x + 1) tail_same in
-    let moved : shown (heap_after agent (Move (Root r) from to) h) (Root 1) ≡ Some to =
-    subst (λ (x : ℕ). shown (heap_after agent (Move (Root r) from to) h) (Root x) ≡ Some to) one (root_moved agent r from to h may.fits.0) in
+    let (l, step) = next_step n es holds 1 c.tail (last_linked n es c run) c.tail_is r from to s one may.fits.0 in
     let d = same_le _ _ (position_next n es e c.dummy may (head_linked n es c run)) in
-    counted_next n es e c c.dummy s.next may (root_at n es e 0 ∙ (root_other agent r 0 from to h (λ x. omega (arith, x, one)) ∙ c.head_is))
-    (root_at n es e 1 ∙ (moved ∙ ap (λ (x : Link). Some x) s.to_is)) d (omega (arith, step, position_next n es e s.next may l))
-    (λ id points.
-    let next_is : s.next ≡ id = names to s.next id s.to_is points in
-    subst (λ (x : ℕ). CountsAt (run_heap n (es ++ e ∷ [])) (es ++ e ∷ []) c.dummy s.next x) next_is
-    (came_by_tail n es e s.next c.dummy c.tail may l (subst (λ (x : ℕ). points_to e.act x ≡ true) (sym next_is) points) d step (c.count s.next)))
+    counted_next n es e c c.dummy s.next may
+    (root_at n es e 0 ∙ (root_other agent r 0 from to (run_heap n es) (λ x. omega (arith, x, one)) ∙ c.head_is))
+    (root_stepped n es agent r 1 from to (Some Swing) s one may.fits.0) d (omega (arith, step, position_next n es e s.next may l))
+    (of_target (λ (x : ℕ). CountsAt (run_heap n (es ++ e ∷ [])) (es ++ e ∷ []) c.dummy s.next x) to s.next s.to_is
+    (λ points. came_to n es e s.next c.dummy c.tail c.dummy s.next may l points (omega (arith, d, step, position_next n es e s.next may l)) (c.count s.next)))
 
 counted_took : (n : HeapNumbers) (es : List (Event FifoNote)) (agent r by job at : ℕ) (from to : Link) → FifoHolds n es → IsRunning (run_heap n es) es
-    → Counted n es
-    → FifoMay n es (event_by agent (Move (Root r) from to) (Some (Entry (Took by job at))))
-    → Counted n (es ++ event_by agent (Move (Root r) from to) (Some (Entry (Took by job at))) ∷ [])
+    → Counted n es → StaysCounted n es (event_by agent (Move (Root r) from to) (Some (Entry (Took by job at))))
 counted_took n es agent r by job at from to holds run c may =
     let e : Event FifoNote = event_by agent (Move (Root r) from to) (Some (Entry (Took by job at))) in
-    let h : Heap = run_heap n es in
     let s = may.may_act.steps in
     let zero_root : r ≡ 0 = may.may_act.root_is in
-    let (same, link) = head_steps h es run r from to s zero_root may.fits.0 in
-    let head_same : s.id ≡ c.dummy = same ∙ link_same run.dummy c.dummy (some_same (sym run.head_is ∙ c.head_is)) in
-    let l = successor_linked n es s.id s.next holds link in
-    let step : position_of h s.next ≡ position_of h c.dummy + 1 = successor_position n es s.id s.next holds link
-    ∙ ap (λ (x : ℕ). position_of h x + 1) head_same in
-    let moved : shown (heap_after agent (Move (Root r) from to) h) (Root 0) ≡ Some to =
-    subst (λ (x : ℕ). shown (heap_after agent (Move (Root r) from to) h) (Root x) ≡ Some to) zero_root (root_moved agent r from to h may.fits.0) in
+    let (l, step) = next_step n es holds 0 c.dummy (head_linked n es c run) c.head_is r from to s zero_root may.fits.0 in
     let t = same_le _ _ (position_next n es e c.tail may (last_linked n es c run)) in
-    counted_next n es e c s.next c.tail may (root_at n es e 0 ∙ (moved ∙ ap (λ (x : Link). Some x) s.to_is))
-    (root_at n es e 1 ∙ (root_other agent r 1 from to h (λ x. omega (arith, x, zero_root)) ∙ c.tail_is))
+    counted_next n es e c s.next c.tail may (root_stepped n es agent r 0 from to (Some (Entry (Took by job at))) s zero_root may.fits.0)
+    (root_at n es e 1 ∙ (root_other agent r 1 from to (run_heap n es) (λ x. omega (arith, x, zero_root)) ∙ c.tail_is))
     (omega (arith, step, position_next n es e s.next may l)) t
-    (λ id points.
-    let next_is : s.next ≡ id = names to s.next id s.to_is points in
-    subst (λ (x : ℕ). CountsAt (run_heap n (es ++ e ∷ [])) (es ++ e ∷ []) s.next c.tail x) next_is
-    (came_by_head n es e s.next c.dummy c.tail may l (subst (λ (x : ℕ). points_to e.act x ≡ true) (sym next_is) points) t step (c.count s.next)))
+    (of_target (λ (x : ℕ). CountsAt (run_heap n (es ++ e ∷ [])) (es ++ e ∷ []) s.next c.tail x) to s.next s.to_is
+    (λ points. came_to n es e s.next c.dummy c.tail s.next c.tail may l points (omega (arith, t, step, position_next n es e s.next may l)) (c.count s.next)))
 
 -- a Put links a node other than node 0
 own_one : (id : ℕ) → 0 ≢ id → own_link id ≡ 1
@@ -288,9 +285,7 @@ own_one zero ne = absurd (ne refl)
 own_one (suc id) ne = refl
 
 counted_put : (n : HeapNumbers) (es : List (Event FifoNote)) (agent t by job at : ℕ) (from to : Link) → FifoHolds n es → IsRunning (run_heap n es) es
-    → Counted n es
-    → FifoMay n es (event_by agent (Move (Next t) from to) (Some (Entry (Put by job at))))
-    → Counted n (es ++ event_by agent (Move (Next t) from to) (Some (Entry (Put by job at))) ∷ [])
+    → Counted n es → StaysCounted n es (event_by agent (Move (Next t) from to) (Some (Entry (Put by job at))))
 counted_put n es agent t by job at from to holds run c may =
     let e : Event FifoNote = event_by agent (Move (Next t) from to) (Some (Entry (Put by job at))) in
     let h : Heap = run_heap n es in

@@ -19,9 +19,7 @@ use Rattle.orc_fifo_rule.specs.declared.fifo.FifoNote.TheVariants.{Begin, Entry,
 -- what a note enters in the history
 abbrev pub entries_in : Option FifoNote → List QueueEntry
 entries_in (Some (Entry entry)) = entry ∷ []
-entries_in (Some Swing) = []
-entries_in (Some Begin) = []
-entries_in None = []
+entries_in noted = []
 
 -- the queue history of the events
 abbrev pub entries_of : List (Event FifoNote) → List QueueEntry
@@ -191,8 +189,7 @@ MayAct h act noted = ⊥
 abbrev pub IsInTime : Bool → Option FifoNote → Type 0
 IsInTime begun (Some (Entry entry)) = begun ≡ true
 IsInTime begun (Some Swing) = begun ≡ true
-IsInTime begun (Some Begin) = Unit {0}
-IsInTime begun None = Unit {0}
+IsInTime begun noted = Unit {0}
 
 -- an entry has the event's agent, and the history stays legal with it
 abbrev pub MayEnter : ℕ → List QueueEntry → ℕ → Option FifoNote → Type 0

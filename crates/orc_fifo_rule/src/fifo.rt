@@ -1,7 +1,7 @@
 //! The discipline as an implementation of the traits of disciplines.
 
 ghost use Rattle.orc_fifo_rule.specs.QueueDiscipline.{FifoHolds, FifoMay, fifo_rank};
-ghost use Rattle.orc_fifo_rule.specs.Laws.Kept.{fifo_allows_plain, fifo_fits, fifo_keeps, fifo_moves_linked, fifo_rises};
+ghost use Rattle.orc_fifo_rule.specs.Laws.Kept.{fifo_allows_plain, fifo_keeps, fifo_moves_linked, fifo_rises};
 
 use orc_heap::{Discipline, Ranked};
 use orc_history::QueueEntry;
@@ -29,7 +29,7 @@ impl Discipline for Fifo {
 
     ghost keeps = { fifo_keeps };
 
-    ghost fits = { fifo_fits };
+    ghost fits = { λ n seen e holds may. may.fits };
 
     ghost allows_plain = { fifo_allows_plain };
 

@@ -21,7 +21,7 @@ use Rattle.orc_fifo_rule.specs.declared.fifo.FifoNote.{FifoNote}
 use Rattle.orc_fifo_rule.specs.declared.fifo.FifoNote.TheVariants.{Swing}
 use Rattle.orc_fifo_rule.specs.QueueDiscipline.{FifoHolds, FifoMay, position_of}
 use Rattle.orc_fifo_rule.specs.Watches.{IsLeftBehind, WasNamed}
-use Rattle.orc_fifo_rule.specs.Laws.Kept.{fifo_fits, fifo_keeps, fifo_moves_linked}
+use Rattle.orc_fifo_rule.specs.Laws.Kept.{fifo_keeps, fifo_moves_linked}
 use Rattle.orc_queue.specs.Turns.{Helps, HoldsNode}
 use Rattle.orc_queue.proofs.Filled.{Known}
 use Rattle.orc_heap.proofs.Pieces.{own_node_puts, unless_other}
@@ -59,7 +59,7 @@ module _ (n : HeapNumbers) (s t : Seat FifoNote) (own : List (Event FifoNote)) (
   node_touched job h k node away =
       let id = id_in s.slots h in
       let x : Node = given_node s.agent job node.second in
-      (own_node_puts n (FifoHolds n) (FifoMay n) (fifo_keeps n) (fifo_fits n) (fifo_moves_linked n) s t own p k.holds all id x
+      (own_node_puts n (FifoHolds n) (FifoMay n) (fifo_keeps n) (λ es e holds may. may.fits) (fifo_moves_linked n) s t own p k.holds all id x
       (record { there = node.node; own = record { mine = refl; unnamed = refl; unlinked = refl } }) away).there
 
   pub node_held : (job : ℕ) (h : Hold) (second : ℕ) → Known n s.seen → (node : HoldsNode n job h s) → Holds t.slots h

@@ -7,10 +7,10 @@ use Rattle.orc_heap.specs.Allowed.{IsLinkedNode, LeadsUp, MovesLinked, Rises}
 use Rattle.orc_heap.specs.Heap.{Heap, HeapNumbers, null}
 use Rattle.orc_heap.specs.Journals.{FitsAfter, IsPlain, IsPlainAct, run_heap, event_by}
 use Rattle.orc_heap.specs.declared.events.Act.{Act}
-use Rattle.orc_heap.specs.declared.events.Act.TheVariants.{Aim, Fill, Give, Look, Miss, Move, AimSide}
+use Rattle.orc_heap.specs.declared.events.Act.TheVariants.{Move}
 use Rattle.orc_heap.specs.declared.events.Event.{Event}
 use Rattle.orc_heap.specs.declared.events.Link.{Link}
-use Rattle.orc_heap.specs.declared.events.Place.TheVariants.{Next, Root, Side}
+use Rattle.orc_heap.specs.declared.events.Place.TheVariants.{Root}
 use Rattle.orc_history.specs.QueueHistory.{IsLegalQueue, waiting_after}
 use Rattle.orc_fifo_rule.specs.declared.fifo.FifoNote.{FifoNote}
 use Rattle.orc_fifo_rule.specs.declared.fifo.FifoNote.TheVariants.{Begin}
@@ -27,9 +27,6 @@ use Rattle.std.specs.List.{AllByRecursion}
 use Rattle.orc_heap.proofs.Sides.{side_rises}
 use Rattle.orc_heap.proofs.SingleActs.{link_same, node_shown, some_same}
 
-pub fifo_fits : (n : HeapNumbers) (seen : List (Event FifoNote)) (e : Event FifoNote) → FifoHolds n seen → FifoMay n seen e → FitsAfter n seen e
-fifo_fits n seen e holds may = may.fits
-
 pub fifo_allows_plain : (n : HeapNumbers) (seen : List (Event FifoNote)) (e : Event FifoNote) → FifoHolds n seen → FitsAfter n seen e → IsPlain e
     → FifoMay n seen e
 fifo_allows_plain n seen e holds fits plain = record {
@@ -40,13 +37,8 @@ fifo_allows_plain n seen e holds fits plain = record {
 }
 
 plain_moves_linked : (act : Act) (h : Heap) → IsPlainAct act → MovesLinked act h
-plain_moves_linked Give h p = tt
-plain_moves_linked (Fill id which value) h p = tt
-plain_moves_linked (Aim id to) h p = tt
-plain_moves_linked (AimSide id to) h p = tt
-plain_moves_linked (Look place link) h p = tt
 plain_moves_linked (Move place from to) h p = absurd p
-plain_moves_linked (Miss place wanted found) h p = tt
+plain_moves_linked act h p = tt
 
 pub fifo_moves_linked : (n : HeapNumbers) (seen : List (Event FifoNote)) (e : Event FifoNote) → FifoHolds n seen → FifoMay n seen e
     → MovesLinked e.act (run_heap n seen)
@@ -66,24 +58,12 @@ fifo_moves_linked n seen e holds may =
 -- in the opening
 
 plain_begins : (act : Act) → IsPlainAct act → BeginsIfMoves act None
-plain_begins Give p = tt
-plain_begins (Fill id which value) p = tt
-plain_begins (Aim id to) p = tt
-plain_begins (AimSide id to) p = tt
-plain_begins (Look place link) p = tt
 plain_begins (Move place from to) p = absurd p
-plain_begins (Miss place wanted found) p = tt
+plain_begins act p = tt
 
 plain_is_no_begin : (r : ℕ) (act : Act) → is_begin_of r act None ≡ true → ⊥
-plain_is_no_begin r Give e = cc
-plain_is_no_begin r (Fill id which value) e = cc
-plain_is_no_begin r (Aim id to) e = cc
-plain_is_no_begin r (AimSide id to) e = cc
-plain_is_no_begin r (Move (Side t) from to) e = cc
-plain_is_no_begin r (Look place link) e = cc
 plain_is_no_begin r (Move (Root q) from to) e = cc
-plain_is_no_begin r (Move (Next t) from to) e = cc
-plain_is_no_begin r (Miss place wanted found) e = cc
+plain_is_no_begin r act e = cc
 
 pub late : (b : Bool) → b ≡ false → b ≡ true → ⊥
 late b e f = let bad : false ≡ true = sym e ∙ f in cc

@@ -3,9 +3,9 @@ use Rattle.std.proofs.Common.{Option, Some, None, ℕ}
 use Rattle.orc_heap.specs.Heap.{Heap}
 use Rattle.orc_heap.specs.Journals.{IsPlainAct}
 use Rattle.orc_heap.specs.declared.events.Act.{Act}
-use Rattle.orc_heap.specs.declared.events.Act.TheVariants.{Aim, Fill, Give, Look, Miss, Move, AimSide}
+use Rattle.orc_heap.specs.declared.events.Act.TheVariants.{Look, Move}
 use Rattle.orc_heap.specs.declared.events.Link.{Link}
-use Rattle.orc_heap.specs.declared.events.Place.TheVariants.{Next, Root, Side}
+use Rattle.orc_heap.specs.declared.events.Place.TheVariants.{Next, Root}
 use Rattle.orc_history.specs.declared.queue.QueueEntry.TheVariants.{Empty, Put, Took}
 use Rattle.orc_fifo_rule.specs.declared.fifo.FifoNote.{FifoNote}
 use Rattle.orc_fifo_rule.specs.declared.fifo.FifoNote.TheVariants.{Begin, Entry, Swing}
@@ -26,21 +26,4 @@ each_kind h P plain begin swing took put empty (Move (Root r) from to) (Some Swi
 each_kind h P plain begin swing took put empty (Move (Root r) from to) (Some (Entry (Took by job at))) m = took r from to by job at m
 each_kind h P plain begin swing took put empty (Move (Next t) from to) (Some (Entry (Put by job at))) m = put t from to by job at m
 each_kind h P plain begin swing took put empty (Look (Next d) link) (Some (Entry (Empty by))) m = empty d link by m
-each_kind h P plain begin swing took put empty (Move (Root r) from to) (Some (Entry (Put by job at))) m = absurd m
-each_kind h P plain begin swing took put empty (Move (Root r) from to) (Some (Entry (Empty by))) m = absurd m
-each_kind h P plain begin swing took put empty (Move (Next t) from to) (Some Begin) m = absurd m
-each_kind h P plain begin swing took put empty (Move (Next t) from to) (Some Swing) m = absurd m
-each_kind h P plain begin swing took put empty (Move (Next t) from to) (Some (Entry (Took by job at))) m = absurd m
-each_kind h P plain begin swing took put empty (Move (Next t) from to) (Some (Entry (Empty by))) m = absurd m
-each_kind h P plain begin swing took put empty (Look (Next d) link) (Some Begin) m = absurd m
-each_kind h P plain begin swing took put empty (Look (Next d) link) (Some Swing) m = absurd m
-each_kind h P plain begin swing took put empty (Look (Next d) link) (Some (Entry (Took by job at))) m = absurd m
-each_kind h P plain begin swing took put empty (Look (Next d) link) (Some (Entry (Put by job at))) m = absurd m
-each_kind h P plain begin swing took put empty (Look (Root r) link) (Some noted) m = absurd m
-each_kind h P plain begin swing took put empty (Move (Side t) from to) (Some noted) m = absurd m
-each_kind h P plain begin swing took put empty (Look (Side d) link) (Some noted) m = absurd m
-each_kind h P plain begin swing took put empty (AimSide id to) (Some noted) m = absurd m
-each_kind h P plain begin swing took put empty Give (Some noted) m = absurd m
-each_kind h P plain begin swing took put empty (Fill id which value) (Some noted) m = absurd m
-each_kind h P plain begin swing took put empty (Aim id to) (Some noted) m = absurd m
-each_kind h P plain begin swing took put empty (Miss place wanted found) (Some noted) m = absurd m
+each_kind h P plain begin swing took put empty act noted m = absurd m

@@ -66,7 +66,7 @@ successor_linked n es t x holds link =
     ]
 
 -- a root that steps on leaves a once linked node for its successor
-root_steps : (h : Heap) (root id : ℕ) → IsLinkedNode h id → shown h (Root root) ≡ Some (link_to id) → (r : ℕ) (from to : Link) (s : StepsOn h from to)
+pub root_steps : (h : Heap) (root id : ℕ) → IsLinkedNode h id → shown h (Root root) ≡ Some (link_to id) → (r : ℕ) (from to : Link) (s : StepsOn h from to)
     → r ≡ root → shown h (Root r) ≡ Some from → (s.id ≡ id) × HasLink h s.id (link_to s.next)
 root_steps h root id linked leads r from to s is at =
     let here : shown h (Root root) ≡ Some from = subst (λ (x : ℕ). shown h (Root x) ≡ Some from) is at in

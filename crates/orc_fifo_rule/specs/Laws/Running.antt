@@ -1,5 +1,5 @@
 -- The queue once both roots have begun: what each kind of event leaves of it.
-use Rattle.std.proofs.Common.{List, None, Some, [], ap, append-nil, arith, drop, inl, inr, refl, subst, suc, sym, zero, ℕ, ◌++◌, ◌+◌, ◌<◌, ◌∙◌, ◌∷◌, ◌≡◌, ◌≢◌}
+use Rattle.std.proofs.Common.{List, None, Option, Some, [], ap, append-nil, arith, drop, inl, inr, refl, subst, suc, sym, zero, ℕ, ◌++◌, ◌+◌, ◌<◌, ◌∙◌, ◌∷◌, ◌≡◌, ◌≢◌}
 use Rattle.std.specs.List.{slice_get}
 use Rattle.orc_heap.proofs.Runs.{run_heap-snoc}
 use Rattle.orc_heap.specs.Acts.{as_linked, heap_after, moved_link}
@@ -15,7 +15,7 @@ use Rattle.orc_history.specs.declared.queue.QueueEntry.TheVariants.{Empty, Put, 
 use Rattle.orc_history.proofs.Histories.{waiting_after-snoc}
 use Rattle.orc_fifo_rule.specs.declared.fifo.FifoNote.{FifoNote}
 use Rattle.orc_fifo_rule.specs.declared.fifo.FifoNote.TheVariants.{Entry, Swing}
-use Rattle.orc_fifo_rule.specs.QueueDiscipline.{FifoHolds, FifoMay, IsPutNode, IsRunning, entries_in, entries_of, position_of}
+use Rattle.orc_fifo_rule.specs.QueueDiscipline.{FifoHolds, FifoMay, IsPutNode, IsRunning, StepsOn, entries_in, entries_of, position_of}
 use Rattle.orc_fifo_rule.specs.Laws.Kinds.{each_kind}
 use Rattle.orc_fifo_rule.specs.Laws.Nodes.{PutsAt, job_position, linked_next, link_next, null_next, path_next, position_next}
 use Rattle.orc_fifo_rule.specs.Laws.Events.{entries_more, entries_same, put_last, puts_snoc}
@@ -27,6 +27,16 @@ use Rattle.orc_heap.proofs.SingleActs.{link_moved, null_to, plain_roots, root_mo
 pub root_at : (n : HeapNumbers) (es : List (Event FifoNote)) (e : Event FifoNote) (r : ℕ)
     → shown (run_heap n (es ++ e ∷ [])) (Root r) ≡ shown (heap_after e.agent e.act (run_heap n es)) (Root r)
 root_at n es e r = ap (λ (h : Heap). shown h (Root r)) (run_heap-snoc n es e)
+
+-- a root that steps on shows its node's successor afterwards
+pub root_stepped : (n : HeapNumbers) (es : List (Event FifoNote)) (agent r root : ℕ) (from to : Link) (noted : Option FifoNote)
+    → (s : StepsOn (run_heap n es) from to) → r ≡ root → shown (run_heap n es) (Root r) ≡ Some from
+    → shown (run_heap n (es ++ event_by agent (Move (Root r) from to) noted ∷ [])) (Root root) ≡ Some (link_to s.next)
+root_stepped n es agent r root from to noted s is at =
+    let h : Heap = run_heap n es in
+    root_at n es (event_by agent (Move (Root r) from to) noted) root
+    ∙ (subst (λ (x : ℕ). shown (heap_after agent (Move (Root r) from to) h) (Root x) ≡ Some to) is (root_moved agent r from to h at)
+    ∙ ap (λ (l : Link). Some l) s.to_is)
 
 -- the next position, where there is no Put
 next_same : (n : HeapNumbers) (es : List (Event FifoNote)) (e : Event FifoNote) (run : IsRunning (run_heap n es) es) → FifoMay n es e
@@ -98,8 +108,6 @@ running_swing n es agent r from to run may =
     let successor : shown h (Next run.tail) ≡ Some (link_to s.next) = subst (λ (x : ℕ). shown h (Next x) ≡ Some (link_to s.next)) same s.successor in
     let (put, back_is, link, put_node, is_last) = back_one es h run.tail run.last run.back s.next run.to_last run.ends run.short successor in
     let path = path_snoc es h run.dummy run.tail s.next run.front put run.to_tail link put_node in
-    let moved : shown (heap_after agent (Move (Root r) from to) h) (Root 1) ≡ Some to =
-    subst (λ (x : ℕ). shown (heap_after agent (Move (Root r) from to) h) (Root x) ≡ Some to) one (root_moved agent r from to h may.fits.0) in
     record {
       dummy = run.dummy;
       tail = s.next;
@@ -107,7 +115,7 @@ running_swing n es agent r from to run may =
       front = run.front ++ put ∷ [];
       back = [];
       head_is = root_at n es e 0 ∙ (root_other agent r 0 from to h (λ x. omega (arith, x, one)) ∙ run.head_is);
-      tail_is = root_at n es e 1 ∙ (moved ∙ ap (λ (l : Link). Some l) s.to_is);
+      tail_is = root_stepped n es agent r 1 from to (Some Swing) s one may.fits.0;
       to_tail = path_next n es e run.dummy s.next (run.front ++ put ∷ []) may path;
       to_last = is_last;
       ends = ends_next n es e run may (λ p. let is = p.note_is in cc);
@@ -131,15 +139,13 @@ running_took n es agent r by job at from to run may =
     let apart : run.dummy ≢ run.tail =
     λ x. may.may_act.tail_apart (run.tail_is ∙ ap (λ (l : Link). Some l) (ap link_to (sym x) ∙ (ap link_to (sym same) ∙ sym s.from_is))) in
     let (put, rest, front_is, put_node, path) = path_step es h run.dummy run.tail run.front s.next run.to_tail successor apart in
-    let moved : shown (heap_after agent (Move (Root r) from to) h) (Root 0) ≡ Some to =
-    subst (λ (x : ℕ). shown (heap_after agent (Move (Root r) from to) h) (Root x) ≡ Some to) zero_root (root_moved agent r from to h may.fits.0) in
     record {
       dummy = s.next;
       tail = run.tail;
       last = run.last;
       front = rest;
       back = run.back;
-      head_is = root_at n es e 0 ∙ (moved ∙ ap (λ (l : Link). Some l) s.to_is);
+      head_is = root_stepped n es agent r 0 from to (Some (Entry (Took by job at))) s zero_root may.fits.0;
       tail_is = root_at n es e 1 ∙ (root_other agent r 1 from to h (λ x. omega (arith, x, zero_root)) ∙ run.tail_is);
       to_tail = path_next n es e s.next run.tail rest may path;
       to_last = path_next n es e run.tail run.last run.back may run.to_last;

@@ -1,6 +1,6 @@
 use Rattle.orc_heap.proofs.Fresh.{node_later}
 use Rattle.orc_fifo_rule.specs.QueueDiscipline.{FifoHolds, FifoMay}
-use Rattle.orc_fifo_rule.specs.Laws.Kept.{fifo_fits, fifo_keeps, fifo_moves_linked}
+use Rattle.orc_fifo_rule.specs.Laws.Kept.{fifo_keeps, fifo_moves_linked}
 use Rattle.orc_fifo_rule.proofs.Later.{job_later, link_later, named_later, position_later}
 use Rattle.orc_fifo_rule.proofs.Leaving.{left_later}
 use Rattle.orc_fifo_rule.proofs.laws.facts_of_nodes_stay.Goals as goal
@@ -22,4 +22,4 @@ returns-clause-job c = λ n seen more id job at all has. job_later n seen more i
 
 pub returns-clause-fresh : goal.returns-clause-fresh
 returns-clause-fresh c = λ n seen more agent id node holds later there giver unnamed unlinked.
-    node_later n (FifoHolds n) (FifoMay n) (fifo_keeps n) (fifo_fits n) (fifo_moves_linked n) agent id node seen more holds there giver unnamed unlinked later
+    node_later n (FifoHolds n) (FifoMay n) (fifo_keeps n) (λ es e holds may. may.fits) (fifo_moves_linked n) agent id node seen more holds there giver unnamed unlinked later
