@@ -28,7 +28,7 @@ use Rattle.orc_pairs_rule.proofs.Coming.{stage_fresh}
 use Rattle.orc_pairs_rule.proofs.Later.{part_later, staging_next}
 use Rattle.orc_pairs_rule.specs.declared.pairs.PairsNote.{PairsNote}
 use Rattle.orc_pairs_rule.specs.declared.pairs.PairsNote.TheVariants.{Stage, Unstage}
-use Rattle.orc_pairs_rule.specs.Laws.Kept.{pairs_fits, pairs_keeps, pairs_moves_linked}
+use Rattle.orc_pairs_rule.specs.Laws.Kept.{pairs_keeps, pairs_moves_linked}
 use Rattle.orc_pairs_rule.specs.Laws.Nodes.{target_after}
 use Rattle.orc_pairs_rule.specs.PairsDiscipline.{HasPart, IsStaging, PairsHolds, PairsMay}
 use Rattle.orc_cell.specs.Publishes.{KeepsOther, MovesFreely, MovesStaging, Stages, Unstages}
@@ -82,7 +82,7 @@ part_staged n a t root id value second k there p all =
     let m = Puts-stood (PairsMay n) a t [] e [] p all in
     let before = a.seen ++ m.before in
     let node : Node = given_node a.agent value second in
-    let still = node_later n (PairsHolds n) (PairsMay n) (pairs_keeps n) (pairs_fits n) (pairs_moves_linked n) a.agent id node a.seen m.before k.holds there
+    let still = node_later n (PairsHolds n) (PairsMay n) (pairs_keeps n) (λ es e holds may. may.fits) (pairs_moves_linked n) a.agent id node a.seen m.before k.holds there
     refl refl refl (record { allowed = m.first; others = m.own_before }) in
     let part : HasPart (run_heap n (before ++ e ∷ [])) id value = record {
       node = as_linked node;

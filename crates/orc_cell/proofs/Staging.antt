@@ -32,7 +32,7 @@ use Rattle.orc_pairs_rule.proofs.Later.{staging_next}
 use Rattle.orc_pairs_rule.specs.declared.entry.CellEntry.{CellEntry}
 use Rattle.orc_pairs_rule.specs.declared.pairs.PairsNote.{PairsNote}
 use Rattle.orc_pairs_rule.specs.PairsDiscipline.{IsStaging, PairsHolds, PairsMay, entries_in, entries_of}
-use Rattle.orc_pairs_rule.specs.Laws.Kept.{pairs_fits, pairs_keeps, pairs_moves_linked}
+use Rattle.orc_pairs_rule.specs.Laws.Kept.{pairs_keeps, pairs_moves_linked}
 use Rattle.orc_cell.specs.Publishes.{Answered, KeepsStaging, Piece}
 use Rattle.orc_cell.specs.Turns.{OnlyLooks, FindsOnly, IsFinding}
 use Rattle.orc_cell.proofs.Pieces.{Known}
@@ -166,7 +166,7 @@ pub own_touched : (n : HeapNumbers) (s t : Seat PairsNote) (own : List (Event Pa
     → AllAllowed (PairsMay n) [] t.seen → IsUntouched s.agent (heap_of n s) id → slice_get (heap_of n s).nodes id ≡ Some x
     → list_any (λ e. points_to e.act id) own ≡ false → slice_get (heap_of n t).nodes id ≡ Some (touched_by id own x)
 own_touched n s t own id x p k all u there away =
-    (own_node_puts n (PairsHolds n) (PairsMay n) (pairs_keeps n) (pairs_fits n) (pairs_moves_linked n) s t own p k.holds all id x
+    (own_node_puts n (PairsHolds n) (PairsMay n) (pairs_keeps n) (λ es e holds may. may.fits) (pairs_moves_linked n) s t own p k.holds all id x
     (own_of n s id x u there) away).there
 
 -- and not at all over a piece that only looks

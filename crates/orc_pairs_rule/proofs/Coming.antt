@@ -20,7 +20,7 @@ use Rattle.orc_pairs_rule.specs.CellHistory.{Parts, no_parts, replaced}
 use Rattle.orc_pairs_rule.specs.PairsDiscipline.{HasPair, HasPart, IsNoMove, IsPair, IsPart, IsStaging, KeepsSide, PairsHolds, PairsMay, entries_of, parts_of}
 use Rattle.orc_pairs_rule.specs.Watches.{MayFollow, IsKept, IsOwnPair}
 use Rattle.orc_pairs_rule.specs.Laws.Histories.{legal-join}
-use Rattle.orc_pairs_rule.specs.Laws.Kept.{pairs_fits, pairs_keeps, pairs_moves_linked, unnoted_allowed}
+use Rattle.orc_pairs_rule.specs.Laws.Kept.{pairs_keeps, pairs_moves_linked, unnoted_allowed}
 use Rattle.orc_pairs_rule.proofs.Later.{holds_later, pair_later, part_later}
 use Rattle.orc_pairs_rule.proofs.SecondLinks.{side_shows}
 
@@ -92,7 +92,7 @@ module _ (n : HeapNumbers) (agent : ℕ) (seen : List (Event PairsNote)) (holds 
       → node.named ≡ false → node.linked ≡ false → IsPart node value
       → AllowedLater (PairsMay n) n agent seen (Root root) null (event_by agent (Move (Root root) null (link_to id)) (Some Stage))
   stage_fresh root id value node own there giver unnamed unlinked part = λ more later at.
-      let still = node_later n (PairsHolds n) (PairsMay n) (pairs_keeps n) (pairs_fits n) (pairs_moves_linked n) agent id node seen more holds there giver
+      let still = node_later n (PairsHolds n) (PairsMay n) (pairs_keeps n) (λ es e holds may. may.fits) (pairs_moves_linked n) agent id node seen more holds there giver
       unnamed unlinked later in
       record {
         fits = (at, record { node = node; there = still; known = inl giver });
@@ -128,7 +128,7 @@ module _ (n : HeapNumbers) (agent : ℕ) (seen : List (Event PairsNote)) (holds 
       let es = seen ++ more in
       let k = run_heap n es in
       let now = holds_later n seen more later.allowed holds in
-      let still = node_later n (PairsHolds n) (PairsMay n) (pairs_keeps n) (pairs_fits n) (pairs_moves_linked n) agent id own.node seen more holds own.there
+      let still = node_later n (PairsHolds n) (PairsMay n) (pairs_keeps n) (λ es e holds may. may.fits) (pairs_moves_linked n) agent id own.node seen more holds own.there
       own.mine own.unnamed own.unlinked later in
       let pair : IsPair k own.node l r parts = record {
         link_is = own.pair.link_is;
@@ -142,21 +142,17 @@ module _ (n : HeapNumbers) (agent : ℕ) (seen : List (Event PairsNote)) (holds 
             ap (replaced left right) (parts_named n es f.id f.old_left f.old_right f.old now (subst (λ (z : Link). shown k (Root 0) ≡ Some z) f.from_is at)
             (pair_later n seen more later.allowed f.id f.old_left f.old_right f.old f.has)) ∙ f.parts_are
       ] in
-      let keeps_left : KeepsSide k left from Next own.node.link = elim follows [
-        | inl c ↦ keeps_null k left from Next own.node.link c.0
+      let keeps : KeepsSide k left from Next own.node.link × KeepsSide k right from Side own.node.side = elim follows [
+        | inl c ↦ (keeps_null k left from Next own.node.link c.0, keeps_null k right from Side own.node.side c.0)
         | inr f ↦
-            let p = pair_later n seen more later.allowed f.id f.old_left f.old_right f.old f.has in
-            subst (λ (z : Link). KeepsSide k left z Next own.node.link) (sym f.from_is)
-            (keeps_of k left f.id f.old_left l Next own.node.link (shown_node k f.id p.node p.there ∙ ap (λ (z : Link). Some z) p.pair.link_is)
-            own.pair.link_is f.keeps_left)
-      ] in
-      let keeps_right : KeepsSide k right from Side own.node.side = elim follows [
-        | inl c ↦ keeps_null k right from Side own.node.side c.0
-        | inr f ↦
-            let p = pair_later n seen more later.allowed f.id f.old_left f.old_right f.old f.has in
-            subst (λ (z : Link). KeepsSide k right z Side own.node.side) (sym f.from_is)
-            (keeps_of k right f.id f.old_right r Side own.node.side
-            (side_shows n es f.id p.node two p.there ∙ ap (λ (z : Link). Some z) p.pair.side_is) own.pair.side_is f.keeps_right)
+            let p = pair_later n seen more later.allowed f.id f.old_left f.old_right f.old f.has in (
+              subst (λ (z : Link). KeepsSide k left z Next own.node.link) (sym f.from_is)
+                  (keeps_of k left f.id f.old_left l Next own.node.link (shown_node k f.id p.node p.there ∙ ap (λ (z : Link). Some z) p.pair.link_is)
+                  own.pair.link_is f.keeps_left),
+              subst (λ (z : Link). KeepsSide k right z Side own.node.side) (sym f.from_is)
+                  (keeps_of k right f.id f.old_right r Side own.node.side
+                  (side_shows n es f.id p.node two p.there ∙ ap (λ (z : Link). Some z) p.pair.side_is) own.pair.side_is f.keeps_right),
+            )
       ] in
       record {
         fits = (at, record { node = own.node; there = still; known = inl own.mine });
@@ -170,8 +166,8 @@ module _ (n : HeapNumbers) (agent : ℕ) (seen : List (Event PairsNote)) (holds 
           left = l;
           right = r;
           pair = pair;
-          keeps_left = keeps_left;
-          keeps_right = keeps_right;
+          keeps_left = keeps.0;
+          keeps_right = keeps.1;
         };
         may_enter = (refl, legal-join no_parts (entries_of es) (Published agent left right parts.left parts.right ∷ []) now.legal (legal, tt));
       }

@@ -11,7 +11,7 @@ use Rattle.orc_heap.specs.Allowed.{LeadsUp, MovesLinked, Rises}
 use Rattle.orc_heap.specs.Heap.{Heap, HeapNumbers, Node, link_to, null}
 use Rattle.orc_heap.specs.Journals.{FitsAfter, IsPlain, IsPlainAct, event_by, moves_to, names_node, run_heap}
 use Rattle.orc_heap.specs.declared.events.Act.{Act}
-use Rattle.orc_heap.specs.declared.events.Act.TheVariants.{Aim, AimSide, Fill, Give, Look, Miss, Move}
+use Rattle.orc_heap.specs.declared.events.Act.TheVariants.{Move}
 use Rattle.orc_heap.specs.declared.events.Event.{Event}
 use Rattle.orc_heap.specs.declared.events.Link.{Link}
 use Rattle.orc_heap.specs.declared.events.Place.TheVariants.{Next, Root, Side}
@@ -21,22 +21,14 @@ use Rattle.orc_pairs_rule.specs.declared.pairs.PairsNote.TheVariants.{Entry}
 use Rattle.orc_pairs_rule.specs.CellHistory.{Parts}
 use Rattle.orc_pairs_rule.specs.PairsDiscipline.{HasLinks, HasPart, IsNoMove, IsOfCell, IsPart, MayAct, MayEnter, PairsHolds, PairsMay, entries_in, entries_of, pairs_rank, rank_in}
 use Rattle.orc_pairs_rule.specs.Laws.Histories.{legal_more}
-use Rattle.orc_pairs_rule.specs.Laws.Kinds.{each_kind, unless_move}
+use Rattle.orc_pairs_rule.specs.Laws.Kinds.{each_kind}
 use Rattle.orc_pairs_rule.specs.Laws.Nodes.{MovesRoot, links_next, linked_stays, moves_root, names, parts_next, side_kept, target_after}
 use Rattle.orc_pairs_rule.specs.Laws.Lists.{split_more}
 use Rattle.orc_pairs_rule.specs.Laws.Shown.{marks_next, shows_next}
 
-pub pairs_fits : (n : HeapNumbers) (seen : List (Event PairsNote)) (e : Event PairsNote) → PairsHolds n seen → PairsMay n seen e → FitsAfter n seen e
-pairs_fits n seen e holds may = may.fits
-
 plain_no_move : (act : Act) → IsPlainAct act → IsNoMove act
-plain_no_move Give p = tt
-plain_no_move (Fill id which value) p = tt
-plain_no_move (Aim id to) p = tt
-plain_no_move (AimSide id to) p = tt
-plain_no_move (Look place link) p = tt
 plain_no_move (Move place from to) p = absurd p
-plain_no_move (Miss place wanted found) p = tt
+plain_no_move act p = tt
 
 -- an event without a note is allowed, if it fits and is no Move
 pub unnoted_allowed : (n : HeapNumbers) (seen : List (Event PairsNote)) (e : Event PairsNote) → FitsAfter n seen e → e.note ≡ None → IsNoMove e.act
@@ -52,15 +44,9 @@ pub pairs_allows_plain : (n : HeapNumbers) (seen : List (Event PairsNote)) (e : 
 pairs_allows_plain n seen e holds fits plain = unnoted_allowed n seen e fits plain.0 (plain_no_move e.act plain.1)
 
 root_linked : (act : Act) (h : Heap) → MovesRoot act → MovesLinked act h
-root_linked Give h m = tt
-root_linked (Fill id which value) h m = tt
-root_linked (Aim id to) h m = tt
-root_linked (AimSide id to) h m = tt
-root_linked (Look place link) h m = tt
-root_linked (Move (Root r) from to) h m = tt
 root_linked (Move (Next id) from to) h m = absurd m
 root_linked (Move (Side id) from to) h m = absurd m
-root_linked (Miss place wanted found) h m = tt
+root_linked act h m = tt
 
 pub pairs_moves_linked : (n : HeapNumbers) (seen : List (Event PairsNote)) (e : Event PairsNote) → PairsHolds n seen → PairsMay n seen e
     → MovesLinked e.act (run_heap n seen)
@@ -69,8 +55,8 @@ pairs_moves_linked n seen e holds may = root_linked e.act (run_heap n seen) (mov
 -- what kind of node a once linked node is
 
 none_to : (act : Act) (id : ℕ) → IsNoMove act → moves_to act id ≡ true → ⊥
-none_to act id m = unless_move (λ act. moves_to act id ≡ true → ⊥) (λ e. cc) (λ id which value e. cc) (λ id to e. cc) (λ id to e. cc) (λ place link e. cc)
-    (λ place wanted found e. cc) act m
+none_to (Move place from to) id m e = m
+none_to act id m e = cc
 
 null_names : (to : Link) (id : ℕ) → to ≡ null → names_node to.to id ≡ true → ⊥
 null_names to id is named = let bad : false ≡ true = subst (λ (l : Link). names_node l.to id ≡ true) is named in cc

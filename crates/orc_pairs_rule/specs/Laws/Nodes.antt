@@ -11,14 +11,14 @@ use Rattle.orc_heap.specs.Acts.{StaysLinked, as_linked, heap_after, moved_link, 
 use Rattle.orc_heap.specs.Heap.{Heap, HeapNumbers, Node, link_to}
 use Rattle.orc_heap.specs.Journals.{names_node, run_heap}
 use Rattle.orc_heap.specs.declared.events.Act.{Act}
-use Rattle.orc_heap.specs.declared.events.Act.TheVariants.{Aim, AimSide, Fill, Give, Look, Miss, Move}
+use Rattle.orc_heap.specs.declared.events.Act.TheVariants.{Move}
 use Rattle.orc_heap.specs.declared.events.Event.{Event}
 use Rattle.orc_heap.specs.declared.events.Link.{Link}
 use Rattle.orc_heap.specs.declared.events.Place.TheVariants.{Next, Root, Side}
 use Rattle.orc_pairs_rule.specs.declared.pairs.PairsNote.{PairsNote}
 use Rattle.orc_pairs_rule.specs.CellHistory.{Parts}
 use Rattle.orc_pairs_rule.specs.PairsDiscipline.{HasLinks, HasPair, HasPart, IsNoMove, IsPair, MayAct, PairsMay}
-use Rattle.orc_pairs_rule.specs.Laws.Kinds.{each_kind, unless_move}
+use Rattle.orc_pairs_rule.specs.Laws.Kinds.{each_kind}
 
 -- if the act is a Move, it is one of a root
 abbrev pub MovesRoot : Act → Type 0
@@ -27,7 +27,8 @@ MovesRoot (Move (Side id) from to) = ⊥
 MovesRoot act = Unit {0}
 
 no_move_moves_root : (act : Act) → IsNoMove act → MovesRoot act
-no_move_moves_root = unless_move MovesRoot tt (λ id which value. tt) (λ id to. tt) (λ id to. tt) (λ place link. tt) (λ place wanted found. tt)
+no_move_moves_root (Move place from to) m = absurd m
+no_move_moves_root act m = tt
 
 pub moves_root : (h : Heap) (agent : ℕ) (act : Act) (noted : Option PairsNote) → MayAct h agent act noted → MovesRoot act
 moves_root h agent act noted may =
@@ -37,15 +38,9 @@ moves_root h agent act noted may =
 
 -- then the links of a node stay
 links_stay : (act : Act) (id : ℕ) (link side : Link) → MovesRoot act → (moved_link act id link ≡ link) × (moved_side act id side ≡ side)
-links_stay Give id link side m = (refl, refl)
-links_stay (Fill i which value) id link side m = (refl, refl)
-links_stay (Aim i to) id link side m = (refl, refl)
-links_stay (AimSide i to) id link side m = (refl, refl)
-links_stay (Look place l) id link side m = (refl, refl)
-links_stay (Move (Root r) from to) id link side m = (refl, refl)
 links_stay (Move (Next i) from to) id link side m = absurd m
 links_stay (Move (Side i) from to) id link side m = absurd m
-links_stay (Miss place wanted found) id link side m = (refl, refl)
+links_stay act id link side m = (refl, refl)
 
 module _ (n : HeapNumbers) (es : List (Event PairsNote)) (e : Event PairsNote) (may : PairsMay n es e) where
   -- a once linked node keeps its values and its first link

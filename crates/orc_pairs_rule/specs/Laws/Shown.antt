@@ -12,7 +12,7 @@ use Rattle.orc_heap.specs.Acts.{as_linked, as_named, heap_after, set_link, with_
 use Rattle.orc_heap.specs.Heap.{Heap, HeapNumbers, Node, link_to, shown}
 use Rattle.orc_heap.specs.Journals.{event_by, names_node, run_heap}
 use Rattle.orc_heap.specs.declared.events.Act.{Act}
-use Rattle.orc_heap.specs.declared.events.Act.TheVariants.{Aim, AimSide, Fill, Give, Look, Miss, Move}
+use Rattle.orc_heap.specs.declared.events.Act.TheVariants.{Aim, AimSide, Fill, Look, Move}
 use Rattle.orc_heap.specs.declared.events.Event.{Event}
 use Rattle.orc_heap.specs.declared.events.Link.{Link}
 use Rattle.orc_heap.specs.declared.events.Place.TheVariants.{Next, Root, Side}
@@ -31,13 +31,10 @@ parts_snoc es e = ap (λ z. parts_after no_parts z) (noted-snoc entries_in es e)
 
 -- an act that is no Move leaves the roots
 pub roots_kept : (agent : ℕ) (act : Act) (h : Heap) (root : ℕ) → IsNoMove act → shown (heap_after agent act h) (Root root) ≡ shown h (Root root)
-roots_kept agent Give h root m = refl
-roots_kept agent (Fill id which value) h root m = refl
 roots_kept agent (Aim id to) h root m = ap (λ (ls : List Link). slice_get ls root) (target_roots as_named to _)
 roots_kept agent (AimSide id to) h root m = ap (λ (ls : List Link). slice_get ls root) (target_roots as_named to _)
-roots_kept agent (Look place link) h root m = refl
 roots_kept agent (Move place from to) h root m = absurd m
-roots_kept agent (Miss place wanted found) h root m = refl
+roots_kept agent act h root m = refl
 
 pub not_root_0 : (agent r : ℕ) → IsStaging agent r → 0 ≢ r
 not_root_0 agent r (inl e) = λ z. omega (arith, z, e)
@@ -126,7 +123,6 @@ clear_value zero value x c = c
 clear_value (suc which) value x c = c
 
 clear_touched : (act : Act) (id : ℕ) (x : Node) → MovesRoot act → Clear x → Clear (touched act id x)
-clear_touched Give id x m c = c
 clear_touched (Fill i which value) id x m c = either Clear (i == id) _ _ (clear_value which value x c) c
 clear_touched (Aim i to) id x m c =
     let k : Clear (if i == id then with_link (record { to = to; mark = false }) x else x) = either Clear (i == id) _ _ (refl, c.1) c in
@@ -134,11 +130,10 @@ clear_touched (Aim i to) id x m c =
 clear_touched (AimSide i to) id x m c =
     let k : Clear (if i == id then with_side (record { to = to; mark = false }) x else x) = either Clear (i == id) _ _ (c.0, refl) c in
     either Clear (names_node to id) _ _ (k.0, k.1) k
-clear_touched (Look place link) id x m c = c
 clear_touched (Move (Root r) from to) id x m c = either Clear (names_node to.to id) _ _ (c.0, c.1) c
 clear_touched (Move (Next i) from to) id x m c = absurd m
 clear_touched (Move (Side i) from to) id x m c = absurd m
-clear_touched (Miss place wanted found) id x m c = c
+clear_touched act id x m c = c
 
 clear_next : (n : HeapNumbers) (es : List (Event PairsNote)) (e : Event PairsNote) (id : ℕ) (node : Node) → HasNoMark (run_heap n es) → PairsMay n es e
     → slice_get (run_heap n (es ++ e ∷ [])).nodes id ≡ Some node → Clear node

@@ -6,11 +6,9 @@ use Rattle.orc_pairs_rule.specs.CellHistory.{agent_of_entry}
 use Rattle.orc_pairs_rule.specs.PairsDiscipline.{PairsMay, entries_in}
 use Rattle.orc_pairs_rule.proofs.laws.cell_histories_are_legal.Goals as goal
 
-pub returns-clause-legal : goal.returns-clause-legal
-returns-clause-legal c = λ n es some all. (holds_later n [] es all (nothing_yet n some)).legal
-
-pub returns-clause-shows : goal.returns-clause-shows
-returns-clause-shows c = λ n es some all. (holds_later n [] es all (nothing_yet n some)).shows
-
-pub returns-clause-own : goal.returns-clause-own
-returns-clause-own c = λ n agent seen more all. own_of_events entries_in agent_of_entry (PairsMay n) (entries_own n) agent seen more all
+pub returns : goal.returns
+returns c = record {
+  legal = λ n es some all. (holds_later n [] es all (nothing_yet n some)).legal;
+  shows = λ n es some all. (holds_later n [] es all (nothing_yet n some)).shows;
+  own = λ n agent seen more all. own_of_events entries_in agent_of_entry (PairsMay n) (entries_own n) agent seen more all;
+}
