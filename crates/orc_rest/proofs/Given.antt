@@ -1,5 +1,6 @@
 -- What the gates tell of a list of steps, and how the counts over rows and over steps agree.
 use Rattle.std.proofs.Common.{Bool, List, [], ap, arith, false, inl, inr, refl, subst, sym, true, ℕ, ⊎_elim, ◌%◌, ◌+◌, ◌/◌, ◌<◌, ◌∙◌, ◌∷◌, ◌≡◌, ◌⊎◌}
+use Rattle.std.proofs.Math.Bool.{and-false, and-true}
 use Rattle.std.proofs.lemmas.Bool.{false≢true}
 use Rattle.orc_core.specs.Counts.{is_out}
 use Rattle.orc_core.specs.Machine.{Machine, new_machine, step, answer, word_in, record_at}
@@ -75,8 +76,8 @@ run_life m [] r h w s l = omega arith
 run_life m (x ∷ xs) r h w s l =
     let p = allowed_step m x.0 x.1 w s l.0 in
     let e = world_step m x.0 x.1 w.words w.agents l.0 in
-    let n = subst (λ z. AllFits m.bounds z) (sym e) (all_step m.bounds (world_of m) x.0 x.1 p s) in
-    let i = run_life (step m x.0 x.1) xs r h (full_step m x.0 x.1 w) n l.1 in
+    let i =
+    run_life (step m x.0 x.1) xs r h (full_step m x.0 x.1 w) (subst (λ z. AllFits m.bounds z) (sym e) (all_step m.bounds (world_of m) x.0 x.1 p s)) l.1 in
     let o = life_step m.bounds (world_of m) x.0 x.1 r p s.lives in
     let t = ap bit (take_answer m x.0 x.1 r (read_shown m x.0 x.1 l.0)) in
     let c = ap (λ z. z.memory (Gate r) / 2) e in
@@ -91,14 +92,6 @@ life_is_taken b steps r shape l h =
     let w = word_shown (run (new_machine b) steps) (Gate r) (subst (λ (c : Bounds). r < c.rows) (sym (run_bounds (new_machine b) steps)) h) in
     ap (λ n. n / 2) (sym w) ∙ omega arith
 
-and_true : (x : Bool) → (x && true) ≡ x
-and_true true = refl
-and_true false = refl
-
-and_false : (x : Bool) → (x && false) ≡ false
-and_false true = refl
-and_false false = refl
-
 both : {i j k n : ℕ} → i ≡ j → k ≡ n → i + k ≡ j + n
 both e f = omega arith
 
@@ -106,8 +99,8 @@ both e f = omega arith
 taken_once : (b : Bounds) (a : ℕ) (op : Op) (d : Agent) (t : Bool) → IsWithin b (action_of a op d).word
     → sum_below b.rows (λ r. bit (is_take_of op r && t)) ≡ bit (is_gate_take op && t)
 taken_once b a (GateTake q) d true h =
-    sum_same b.rows (λ r. bit ((q == r) && true)) (λ r. bit (q == r)) (λ r l. ap bit (and_true (q == r))) ∙ sum_point b.rows q h
-taken_once b a (GateTake q) d false h = sum_zero b.rows (λ r. bit ((q == r) && false)) (λ r. ap bit (and_false (q == r)))
+    sum_same b.rows (λ r. bit ((q == r) && true)) (λ r. bit (q == r)) (λ r l. ap bit (and-true (q == r))) ∙ sum_point b.rows q h
+taken_once b a (GateTake q) d false h = sum_zero b.rows (λ r. bit ((q == r) && false)) (λ r. ap bit (and-false (q == r)))
 taken_once b a op d t h = sum_zero b.rows (λ r. 0) (λ r. refl)
 
 freed_once : (b : Bounds) (a : ℕ) (op : Op) (d : Agent) → IsWithin b (action_of a op d).word
