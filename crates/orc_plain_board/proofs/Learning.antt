@@ -12,10 +12,11 @@ use Rattle.orc_history.specs.Journals.{own_of}
 use Rattle.orc_shared_words.specs.Views.{absorbing, agent_of}
 use Rattle.orc_shared_words.specs.declared.journal.View.{View}
 use Rattle.orc_heap.proofs.Prefixes.{prefix_same}
+use Rattle.orc_shared_words.proofs.LaterJournals.{absorbing_later}
 use Rattle.orc_shared_words.proofs.Runs.{none_behind}
 use Rattle.orc_plain_board.specs.Calls.{Absorbs, IsLonger, LearnsEvents, SameButEvents}
 use Rattle.orc_plain_board.specs.Machine.{State, AllowedFrom, numbers, project, project_from, run, run_from, start}
-use Rattle.orc_plain_board.specs.Rules.{opening_steps, project-append, steps-append}
+use Rattle.orc_plain_board.specs.Rules.{opening_steps, plain_rules, project-append, steps-append}
 use Rattle.orc_plain_board.specs.Views.{FreshHeld, Keeps, view_of}
 use Rattle.orc_plain_board.specs.declared.machine.PlainStep.{PlainStep}
 use Rattle.orc_plain_board.specs.declared.shape.PlainShape.{PlainShape}
@@ -88,7 +89,7 @@ module _ {D N : Type 0} (d : discipline.Ghosts D N) (q : PlainShape N) where
     retired = λ o there. same_events k o w.seen v.seen b (same.steps o (inr there));
   }
 
-  module _ (v u w x : View (PlainStep N) (Unit {0})) (a b c o : ℕ) (fresh fresh2 fresh3 fresh4 : Option ℕ) (h : Keeps q holds may v a fresh)
+  module _ {v u w x : View (PlainStep N) (Unit {0})} {a b c o : ℕ} {fresh fresh2 fresh3 fresh4 : Option ℕ} (h : Keeps q holds may v a fresh)
       (i : Keeps q holds may u b fresh2) (l : LearnedBoth by v u w x) (e : c ≡ a) (f : fresh3 ≡ fresh) (e2 : o ≡ b) (f2 : fresh4 ≡ fresh2) where
     into_more : IsPrefix v.seen w.seen
     into_more = ⊎_elim (λ (t : IsPrefix u.seen v.seen × (w.seen ≡ v.seen)). prefix_same v.seen w.seen t.1)
@@ -102,9 +103,9 @@ module _ {D N : Type 0} (d : discipline.Ghosts D N) (q : PlainShape N) where
     journal = ⊎_elim (λ (t : IsPrefix u.seen v.seen × (w.seen ≡ v.seen)). subst Journal (sym t.1) (journal_of v a fresh h))
         (λ (t : IsPrefix v.seen u.seen × (w.seen ≡ u.seen)). subst Journal (sym t.1) (journal_of u b fresh2 i)) l.longer
 
-    longer_events : (y : View (PlainStep N) (Unit {0})) (c2 : ℕ) (r r2 looked looked2 looked3 : Option ℕ) → y.seen ≡ w.seen
-        → IsLonger (view_of k a v r looked) (view_of k b u r2 looked2) (view_of k c2 y fresh3 looked3)
-    longer_events y c2 r r2 looked looked2 looked3 s = ⊎_elim
+    longer_events : (y : View (PlainStep N) (Unit {0})) (c2 : ℕ) (r r2 r3 looked looked2 looked3 : Option ℕ) → y.seen ≡ w.seen
+        → IsLonger (view_of k a v r looked) (view_of k b u r2 looked2) (view_of k c2 y r3 looked3)
+    longer_events y c2 r r2 r3 looked looked2 looked3 s = ⊎_elim
         (λ (t : IsPrefix u.seen v.seen × (w.seen ≡ v.seen)). inl (
           prefix_events k v.seen u.seen t.0,
           ap (project k) (s ∙ t.1),
@@ -126,7 +127,7 @@ module _ {D N : Type 0} (d : discipline.Ghosts D N) (q : PlainShape N) where
     pub learns : (looked looked2 looked3 looked4 : Option ℕ) → looked3 ≡ looked → looked4 ≡ looked2
         → LearnsEvents (view_of k a v fresh looked) (view_of k b u fresh2 looked2) (view_of k c w fresh3 looked3) (view_of k o x fresh4 looked4)
     learns looked looked2 looked3 looked4 g g2 = record {
-      longer = longer_events w c fresh fresh2 looked looked2 looked3 refl;
+      longer = longer_events w c fresh fresh2 fresh3 looked looked2 looked3 refl;
       both = (ap (project k) l.both, ap (λ z. (run k z).given) l.both);
       into = same_but v w a c fresh fresh3 looked looked3 h.is e f g into_more l.into;
       from = same_but u x b o fresh2 fresh4 looked2 looked4 i.is e2 f2 g2 from_more l.from;
@@ -141,16 +142,7 @@ module _ {D N : Type 0} (d : discipline.Ghosts D N) (q : PlainShape N) where
           is = t.is;
           number = t.number;
           began = t.began;
-          now = record {
-            lawful = t.now.lawful;
-            opened = t.now.opened;
-            below = t.now.below;
-            each = t.now.each;
-            kept = t.now.kept;
-            mine =
-                refl;
-            retired = λ b there. refl;
-          };
+          now = absorbing_later plain_rules q holds may w x c t.now;
           untouched = t.untouched;
         }
 
@@ -158,18 +150,7 @@ module _ {D N : Type 0} (d : discipline.Ghosts D N) (q : PlainShape N) where
         → fresh5 ≡ fresh3 → looked5 ≡ looked → Absorbs (view_of k a v fresh looked) (view_of k b u fresh2 looked2) (view_of k c2 y fresh5 looked5)
     absorbs y c2 fresh5 looked looked2 looked5 s e3 f3 g =
         let seen : y.seen ≡ w.seen = ap (λ z. z.seen) s in record {
-          longer = ⊎_elim
-              (λ (t : IsPrefix u.seen v.seen × (w.seen ≡ v.seen)). inl (
-                prefix_events k v.seen u.seen t.0,
-                ap (project k) (seen ∙ t.1),
-                ap (λ z. (run k z).given) (seen ∙ t.1),
-              ))
-              (λ (t : IsPrefix v.seen u.seen × (w.seen ≡ u.seen)). inr (
-                prefix_events k u.seen v.seen t.0,
-                ap (project k) (seen ∙ t.1),
-                ap (λ z. (run k z).given) (seen ∙ t.1),
-              ))
-              l.longer;
+          longer = longer_events y c2 fresh fresh2 fresh5 looked looked2 looked5 seen;
           agent = e3 ∙ e;
           fresh = f3 ∙ f;
           looked = g;

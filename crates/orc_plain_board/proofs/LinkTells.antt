@@ -34,7 +34,7 @@ use Rattle.orc_plain_board.proofs.Lists.{at_index, some_one}
 use Rattle.orc_plain_board.proofs.Ties.{Given}
 use Rattle.orc_plain_board.proofs.Walks.{Walk, others_none, given_more, heap_later, later_fresh, mid_fresh, own, rows_later}
 use Rattle.orc_plain_board.proofs.Licences.{PlaceHeld, Shows, link_given, link_grown, missed, place_given, place_grown, shows}
-use Rattle.orc_plain_board.proofs.Tells.{added, heap_then, id_met, is_named, keeps, keeps_with, rows_met, walked}
+use Rattle.orc_plain_board.proofs.Tells.{added, around_step, heap_then, id_met, is_named, keeps, keeps_with, rows_met, walked}
 
 is_equal : (m n : ℕ) → (m == n) ≡ true → m ≡ n
 is_equal m n e = grind (arith, nat_tests)
@@ -57,26 +57,7 @@ rows_one g r t lt lu e = some_one t r (sym (at_index t g lu) ∙ (ap (slice_get 
 module _ {D N : Type 0} (d : discipline.Ghosts D N) (q : PlainShape N) (v w : View (PlainStep N) (Unit {0})) (a c : ℕ)
     (fresh looked fresh2 looked2 : Option ℕ) (h : Keeps q (d.holds (numbers (bounds_of q.shape))) (d.may (numbers (bounds_of q.shape))) v a fresh)
     (e : c ≡ a) where
-  abbrev k : Bounds
-  k = bounds_of q.shape
-
-  abbrev holds : List (Event N) → Type 0
-  holds = d.holds (numbers (bounds_of q.shape))
-
-  abbrev may : List (Event N) → Event N → Type 0
-  may = d.may (numbers (bounds_of q.shape))
-
-  abbrev g0 : List ℕ
-  g0 = (run k v.seen).given
-
-  abbrev s : PlainView N
-  s = view_of k a v fresh looked
-
-  abbrev t : PlainView N
-  t = view_of k c w fresh2 looked2
-
-  abbrev Made : PlainOp → Option N → ℕ → Type 0
-  Made op said n = Extends plain_rules q holds may op said v n w
+  open (around_step d q v w a c fresh looked fresh2 looked2) use {k, holds, may, g0, s, t, Made}
 
   abbrev walks : (op : PlainOp) (said : Option N) (n : ℕ) → Made op said n → Walk k may v w a op said n
   walks op said n x = walked d q v w a c fresh looked fresh2 looked2 h e op said n x

@@ -56,29 +56,37 @@ pub is_named : (a : ℕ) (h : Heap) (t : Option ℕ) → Named h.nodes t → IsT
 is_named a h None x = tt
 is_named a h (Some id) x = record { node = x.0; there = x.1; known = inr x.2 }
 
+-- around a step of a pass: the sizes, what the discipline holds and allows, the rows that were given before, what the pass shows before
+-- and after, and that the step was made
+pub record AroundStep (N : Type 0) : Type 1 where
+  pub k : Bounds
+  pub holds : List (Event N) → Type 0
+  pub may : List (Event N) → Event N → Type 0
+  pub g0 : List ℕ
+  pub s : PlainView N
+  pub t : PlainView N
+  pub Made : PlainOp → Option N → ℕ → Type 0
+
+abbrev pub around_step : {D N : Type 0} → discipline.Ghosts D N → PlainShape N → (v w : View (PlainStep N) (Unit {0})) (a c : ℕ)
+    (fresh looked fresh2 looked2 : Option ℕ) → AroundStep N
+around_step d q v w a c fresh looked fresh2 looked2 =
+    let k = bounds_of q.shape in
+    let holds = d.holds (numbers k) in
+    let may = d.may (numbers k) in
+    record {
+      k = k;
+      holds = holds;
+      may = may;
+      g0 = (run k v.seen).given;
+      s = view_of k a v fresh looked;
+      t = view_of k c w fresh2 looked2;
+      Made = λ op said n. Extends plain_rules q holds may op said v n w;
+    }
+
 module _ {D N : Type 0} (d : discipline.Ghosts D N) (q : PlainShape N) (v w : View (PlainStep N) (Unit {0})) (a c : ℕ)
     (fresh looked fresh2 looked2 : Option ℕ) (h : Keeps q (d.holds (numbers (bounds_of q.shape))) (d.may (numbers (bounds_of q.shape))) v a fresh)
     (e : c ≡ a) where
-  abbrev k : Bounds
-  k = bounds_of q.shape
-
-  abbrev holds : List (Event N) → Type 0
-  holds = d.holds (numbers (bounds_of q.shape))
-
-  abbrev may : List (Event N) → Event N → Type 0
-  may = d.may (numbers (bounds_of q.shape))
-
-  abbrev g0 : List ℕ
-  g0 = (run k v.seen).given
-
-  abbrev s : PlainView N
-  s = view_of k a v fresh looked
-
-  abbrev t : PlainView N
-  t = view_of k c w fresh2 looked2
-
-  abbrev Made : PlainOp → Option N → ℕ → Type 0
-  Made op said n = Extends plain_rules q holds may op said v n w
+  open (around_step d q v w a c fresh looked fresh2 looked2) use {k, holds, may, g0, s, t, Made}
 
   pub walked : (op : PlainOp) (said : Option N) (n : ℕ) → Made op said n → Walk k may v w a op said n
   walked op said n x = walk d q v w a op said n h.began h.is x

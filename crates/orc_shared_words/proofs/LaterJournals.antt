@@ -11,6 +11,7 @@ use mathlib.Core.List.{IsPrefix}
 use Rattle.orc_shared_words.specs.Runs.{AgentsBelow, Obeys, Rules}
 use Rattle.orc_history.specs.Journals.{own_of}
 use Rattle.orc_shared_words.specs.Steps.{LaterJournal}
+use Rattle.orc_shared_words.specs.Views.{absorbing}
 use Rattle.orc_heap.proofs.Prefixes.{prefix_same}
 use Rattle.orc_shared_words.proofs.Runs.{by_other, by_own, cons_nil, none_behind}
 
@@ -27,6 +28,11 @@ module _ {K S Op Rec N : Type 0} (r : Rules K S Op Rec N) (k : K) (holds : List 
     mine = ap (λ j. r.own k j a) seen ∙ sym own;
     retired = λ b q. refl;
   }
+
+  -- a pass that takes in another
+  pub absorbing_later : (v w : View S Rec) (a : ℕ) → LaterJournal r k holds may v.seen v a → LaterJournal r k holds may v.seen (absorbing v w) a
+  absorbing_later v w a h =
+      record { lawful = h.lawful; opened = h.opened; below = h.below; each = h.each; kept = h.kept; mine = h.mine; retired = λ b q. refl }
 
   -- steps of others leave an agent's record
   pub own_stays : Obeys r k → (a : ℕ) (j more : List S) → own_of r.by a more ≡ [] → r.own k (j ++ more) a ≡ r.own k j a
