@@ -94,6 +94,17 @@ module _ {N : Type 0} where
     own_is = filter-append (λ (e : Event N). e.agent == s.agent) a.met own ∙ (ap (λ z. z ++ events_by s.agent own) a.later.others ∙ mine);
   }
 
+-- the sizes of a domain, what its discipline allows, and what two passes of its board show
+pub record TwoViews (N : Type 0) : Type 1 where
+  pub b : Bounds
+  pub may : List (Event N) → Event N → Type 0
+  pub s : PlainView N
+  pub t : PlainView N
+
+abbrev pub two_views : {D N : Type 0} {d : discipline.Ghosts D N} {m : machine.Ghosts Plain N (PlainShape N) PlainOp (PlainStep N) (Unit {0}) (Unit {0})}
+    → PlainDomain D N → (p q : BoardPass D N (PlainShape N) PlainOp (PlainStep N) (Unit {0}) (Unit {0}) d m) → TwoViews N
+two_views {d = d} domain p q = record { b = domain_bounds domain; may = d.may (domain_numbers domain); s = shows domain.board p; t = shows domain.board q }
+
 module _ {D N : Type 0} {d : discipline.Ghosts D N} {m : machine.Ghosts Plain N (PlainShape N) PlainOp (PlainStep N) (Unit {0}) (Unit {0})}
     (domain : PlainDomain D N) (p : PlainPass D N (PlainShape N) PlainOp (PlainStep N) (Unit {0}) (Unit {0}) d m) (h : IsPassOf domain p)
   where

@@ -1,6 +1,5 @@
 -- A protected load.
 use Rattle.std.proofs.Common.{◌≡◌, ◌≢◌, ℕ, Bool, List, [], ◌∷◌, true, false, Option, Some, None, slice_set, refl, sym, ap, ◌∙◌, subst}
-use Rattle.orc_words.specs.Bounds.{Bounds}
 use Rattle.orc_words.specs.declared.packed.RowLink.{RowLink}
 use Rattle.orc_words.specs.declared.place.Word.{Word}
 use Rattle.orc_heap.proofs.Calls.{Puts-trans, looks_beside}
@@ -11,7 +10,6 @@ use Rattle.orc_heap.specs.Seats.{HoldsPlace, place_in}
 use Rattle.orc_heap.specs.Slots.{Hold, Slots}
 use Rattle.orc_heap.specs.declared.discipline.Discipline as discipline
 use Rattle.orc_heap.specs.declared.events.Act.TheVariants.{Look}
-use Rattle.orc_heap.specs.declared.events.Event.{Event}
 use Rattle.orc_heap.specs.declared.events.Link.{Link}
 use Rattle.orc_heap.specs.declared.events.Place.{Place}
 use Rattle.orc_heap.specs.declared.holds.At.{At}
@@ -33,7 +31,7 @@ use Rattle.orc_plain_domain.specs.declared.domain.PlainDomain.{PlainDomain}
 use Rattle.orc_plain_domain.specs.declared.domain.PlainPass.{PlainPass}
 use Rattle.orc_plain_domain.specs.Calls.{IsSame, Loads}
 use Rattle.orc_plain_domain.specs.Rows.{seat_by, slots_by, word_at}
-use Rattle.orc_plain_domain.proofs.Growing.{Grows, adds_grow, adds_put, fresh_given, fresh_stays, held_given, mine, slots_stay, tie}
+use Rattle.orc_plain_domain.proofs.Growing.{Grows, adds_grow, adds_put, fresh_given, fresh_stays, held_given, mine, slots_stay, tie, two_views}
 use Rattle.orc_plain_domain.proofs.Naming.{place_is, place_known}
 use Rattle.orc_plain_domain.proofs.Releasing.{keeps_set}
 use Rattle.orc_plain_domain.proofs.Rows.{given_grows, one_row, slots_set}
@@ -68,17 +66,7 @@ module _ {D N : Type 0} {d : discipline.Ghosts D N} {m : machine.Ghosts Plain N 
     {domain : PlainDomain D N} {p p1 : PlainPass D N (PlainShape N) PlainOp (PlainStep N) (Unit {0}) (Unit {0}) d m} {at : At} {word : Word} {one : RowLink}
     (first : LoadsFirst domain p p1 at word one)
   where
-    abbrev b : Bounds
-    b = domain_bounds domain
-
-    abbrev may : List (Event N) → Event N → Type 0
-    may = d.may (domain_numbers domain)
-
-    abbrev s : PlainView N
-    s = shows domain.board p.pass
-
-    abbrev t : PlainView N
-    t = shows domain.board p1.pass
+    open (two_views domain p.pass p1.pass) use {b, may, s, t}
 
     grows : Grows b s t
     grows = adds_grow b may (event_by s.agent (Look (place_by s.rows word) (link_by t.rows one)) None ∷ []) s t first.load.loads.adds

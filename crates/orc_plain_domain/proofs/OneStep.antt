@@ -1,6 +1,5 @@
 -- One step of a call: a fill, a read, a load, an aim, and a link that is tested or swung.
 use Rattle.std.proofs.Common.{Bool, List, None, Option, Some, [], ap, arith, false, refl, subst, sym, true, ℕ, ◌==◌, ◌∙◌, ◌∷◌, ◌≡◌, ◌≢◌, ◌≤◌}
-use Rattle.orc_words.specs.Bounds.{Bounds}
 use Rattle.orc_heap.specs.Calls.{Misses as HeapMisses, ReadsValue, Swings, Tests, event_of, look_of, move_of, unless_node}
 use Rattle.orc_heap.specs.Journals.{event_by, run_heap}
 use Rattle.orc_heap.specs.OwnEvents.{Only, Puts}
@@ -12,17 +11,17 @@ use Rattle.orc_heap.specs.declared.events.Event.{Event}
 use Rattle.orc_shared_words.specs.declared.machine.Machine as machine
 use Rattle.orc_plain_board.specs.Calls.{AddsOwn, FindsLink, KnowsPlace, KnowsTarget, MayWhereFits, MayWhereShown, Misses, MissesWanted, aim_event, look_event, move_event, unless_linked}
 use Rattle.orc_plain_board.specs.Machine.{id_by, index_of, link_by, place_by}
-use Rattle.orc_plain_board.specs.Views.{Belongs, PlainView, heap_of, shows}
+use Rattle.orc_plain_board.specs.Views.{Belongs, heap_of}
 use Rattle.orc_plain_board.specs.declared.machine.Plain.{Plain}
 use Rattle.orc_plain_board.specs.declared.machine.PlainOp.{PlainOp}
 use Rattle.orc_plain_board.specs.declared.machine.PlainStep.{PlainStep}
 use Rattle.orc_plain_board.specs.declared.pass.PlainBoardPass.{PlainBoardPass as BoardPass}
 use Rattle.orc_plain_board.specs.declared.shape.PlainShape.{PlainShape}
-use Rattle.orc_plain_domain.specs.Passes.{IsPassOf, domain_bounds, domain_numbers, seat_of}
+use Rattle.orc_plain_domain.specs.Passes.{IsPassOf, domain_numbers, seat_of}
 use Rattle.orc_plain_domain.specs.Rows.{row_link, seat_by, target_link, word_at}
 use Rattle.orc_plain_domain.specs.declared.domain.PlainDomain.{PlainDomain}
 use Rattle.orc_plain_domain.specs.declared.domain.PlainPass.{PlainPass}
-use Rattle.orc_plain_domain.proofs.Growing.{adds_grow, adds_put, fresh_given, fresh_same, fresh_stays, mine, only_adds, slots_same, still_adds}
+use Rattle.orc_plain_domain.proofs.Growing.{adds_grow, adds_put, fresh_given, fresh_same, fresh_stays, mine, only_adds, slots_same, still_adds, two_views}
 use Rattle.orc_plain_domain.proofs.Naming.{hold_fresh, hold_in, place_is, place_known, target_is, want_given, want_is, want_known}
 use Rattle.orc_words.specs.Packed.{link_word}
 use Rattle.orc_words.specs.declared.packed.RowLink.{RowLink}
@@ -45,17 +44,7 @@ module _ {D N : Type 0} {d : discipline.Ghosts D N} {m : machine.Ghosts Plain N 
     (domain : PlainDomain D N) (p : PlainPass D N (PlainShape N) PlainOp (PlainStep N) (Unit {0}) (Unit {0}) d m) (h : IsPassOf domain p)
     (q : BoardPass D N (PlainShape N) PlainOp (PlainStep N) (Unit {0}) (Unit {0}) d m) (x : Belongs domain.board q)
   where
-    abbrev b : Bounds
-    b = domain_bounds domain
-
-    abbrev may : List (Event N) → Event N → Type 0
-    may = d.may (domain_numbers domain)
-
-    abbrev s : PlainView N
-    s = shows domain.board p.pass
-
-    abbrev t : PlainView N
-    t = shows domain.board q
+    open (two_views domain p.pass q) use {b, may, s, t}
 
     -- values that are filled and read
     module _ (hold : Hold) (row : ℕ) (same : row ≡ hold.row) where

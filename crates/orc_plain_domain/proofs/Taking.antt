@@ -2,7 +2,6 @@
 use Rattle.std.proofs.Common.{Bool, List, None, Option, Some, [], ap, append_assoc, arith, eq-eqb, false, inl, inr, length, length-append, refl, slice_get, slice_set, subst, sym, true, ℕ, ◌%◌, ◌++◌, ◌<◌, ◌==◌, ◌∙◌, ◌∷◌, ◌≡◌, ◌≤◌, ◌⊎◌}
 use Rattle.std.proofs.lemmas.Bool.{eqb-false, eqb-true}
 use Rattle.std.specs.Prelude.{MatchBool, if◌then◌else◌}
-use Rattle.orc_words.specs.Bounds.{Bounds}
 use Rattle.orc_heap.proofs.Changes.{get-added}
 use Rattle.orc_heap.proofs.Calls.{Puts-trans}
 use Rattle.orc_heap.proofs.Runs.{run_heap-snoc}
@@ -24,13 +23,13 @@ use Rattle.orc_plain_board.specs.declared.machine.PlainOp.{PlainOp}
 use Rattle.orc_plain_board.specs.declared.machine.PlainStep.{PlainStep}
 use Rattle.orc_plain_board.specs.declared.pass.PlainBoardPass.{PlainBoardPass as BoardPass}
 use Rattle.orc_plain_board.specs.declared.shape.PlainShape.{PlainShape}
-use Rattle.orc_plain_domain.specs.Passes.{IsPassOf, domain_bounds, domain_numbers, seat_of}
+use Rattle.orc_plain_domain.specs.Passes.{IsPassOf, domain_numbers, seat_of}
 use Rattle.orc_plain_domain.specs.declared.domain.PlainDomain.{PlainDomain}
 use Rattle.orc_plain_domain.specs.declared.domain.PlainPass.{PlainPass}
 use Rattle.orc_plain_domain.specs.Calls.{Furnishes, Loses, GivesFreshRow}
 use Rattle.orc_plain_domain.specs.Rows.{seat_by}
 use Rattle.orc_plain_domain.proofs.Counting.{nodes_stay}
-use Rattle.orc_plain_domain.proofs.Growing.{Grows, adds_grow, adds_put, fresh_given, fresh_stays, grow_trans, held_given, index_stays, keeps_stay, mine, slots_stay, still_of, tie}
+use Rattle.orc_plain_domain.proofs.Growing.{Grows, adds_grow, adds_put, fresh_given, fresh_stays, grow_trans, held_given, index_stays, keeps_stay, mine, slots_stay, still_of, tie, two_views}
 use Rattle.std.proofs.lemmas.List.Elements.{filter-append}
 use Rattle.std.specs.List.{list_any}
 use Rattle.orc_heap.proofs.Fresh.{IsOwnNode, own_node_told, touched_by}
@@ -49,17 +48,7 @@ module _ {D N : Type 0} {d : discipline.Ghosts D N} {m : machine.Ghosts Plain N 
     (domain : PlainDomain D N) (p : PlainPass D N (PlainShape N) PlainOp (PlainStep N) (Unit {0}) (Unit {0}) d m) (h : IsPassOf domain p)
     (q r : BoardPass D N (PlainShape N) PlainOp (PlainStep N) (Unit {0}) (Unit {0}) d m) (z : Belongs domain.board r) (row : ℕ)
   where
-    abbrev b : Bounds
-    b = domain_bounds domain
-
-    abbrev may : List (Event N) → Event N → Type 0
-    may = d.may (domain_numbers domain)
-
-    abbrev s : PlainView N
-    s = shows domain.board p.pass
-
-    abbrev t : PlainView N
-    t = shows domain.board q
+    open (two_views domain p.pass q) use {b, may, s, t}
 
     abbrev u : PlainView N
     u = shows domain.board r

@@ -9,7 +9,7 @@ use Rattle.orc_heap.specs.Calls.{event_of, given_node}
 use Rattle.orc_heap.specs.Heap.{HeapNumbers, new_node}
 use Rattle.orc_heap.specs.Journals.{event_by, run_heap}
 use Rattle.orc_heap.specs.OwnEvents.{Puts}
-use Rattle.orc_heap.specs.Seats.{Seat, target_in}
+use Rattle.orc_heap.specs.Seats.{HoldsFresh, HoldsTarget, Seat, target_in}
 use Rattle.orc_heap.specs.Slots.{Hold, id_in}
 use Rattle.orc_heap.specs.declared.discipline.Discipline as discipline
 use Rattle.orc_heap.specs.declared.events.Act.TheVariants.{Fill, Give, Look}
@@ -64,6 +64,13 @@ module _ {N : Type 0} where
 
   abbrev pub MayAimAt : (List (Event N) → Event N → Type 0) → HeapNumbers → Seat N → ℕ → Hold → Option (Bor Hold) → Type 0
   MayAimAt may n s number fresh to = AllowedWhereFits may n s.agent s.seen (aim_at s number fresh to)
+
+  -- the pass holds the fresh node and its target, and may make that Aim
+  pub record MayAimLink (may : List (Event N) → Event N → Type 0) (n : HeapNumbers) (s : Seat N) (number : ℕ) (hold : Hold) (to : Option (Bor Hold))
+      : Type 0 where
+    pub fresh : HoldsFresh s hold
+    pub target : HoldsTarget s to
+    pub allowed : MayAimAt may n s number hold to
 
   -- the link was found at the place, and the agent knows its target from then on
   pub record Loads (may : List (Event N) → Event N → Type 0) (b : Bounds) (place : Place) (link : RowLink) (s t : PlainView N) : Type 0 where

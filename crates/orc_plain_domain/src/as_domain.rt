@@ -4,7 +4,7 @@ ghost use Rattle.std.specs.Prelude.{◌≡◌, ◌+◌, [], All, IfOk, refl};
 ghost use Rattle.orc_any_domain.specs.Domains.{AreAllIdle, heap_numbers};
 ghost use Rattle.orc_heap.specs.Moves.{gives_in};
 ghost use Rattle.orc_heap.specs.Seeds.{SeedAllowed, opening_events};
-ghost use Rattle.orc_plain_domain.specs.Ends.{AreAll, AreIdle, FirstSawAll};
+ghost use Rattle.orc_plain_domain.specs.Ends.{AreAll, FirstSawAll};
 ghost use Rattle.orc_plain_domain.specs.Passes.{domain_bounds, domain_opening, seat_of};
 ghost use Rattle.orc_plain_domain.specs.Rest.{IsRestOf, rest_journal};
 ghost use Rattle.orc_words.specs.Bounds.{bounds_of};
@@ -18,8 +18,7 @@ use std::alloc::Global;
 
 // Lets all passes see what the others did.
 fn drain_passes<D: Discipline>(domain: &PlainDomain<D>, passes: &mut Vec<PlainPass<D>>)
-    requires all { AreAll domain.now passes.old.items }
-    requires idle { AreIdle domain.now passes.old.items }
+    requires { AreAllIdle ⟦<PlainDomain<D> as Links>⟧ domain.now passes.old.items }
     ensures all { AreAll domain.now passes.new.items }
     ensures own { FirstSawAll domain.now passes.new.items }
 {

@@ -22,7 +22,7 @@ use orc_heap::{At, Discipline, Event, Held, Links, Looked, LookedOn, Seen, Want}
 use orc_words::pack_link;
 
 impl<D: Discipline> Links for PlainDomain<D> {
-    ghost use Rattle.orc_plain_domain.specs.Laws.Passes.{all_allowed, all_below, all_given, all_obey, all_of_agents, begins_so, begun, fresh_untouched, held_known, lacking_later, one_more, seen_by};
+    ghost use Rattle.orc_plain_domain.specs.Laws.Passes.{all_below, all_given, all_of_agents, begins_so, fresh_untouched, held_known, lacking_later, one_more, seen_by};
     ghost use Rattle.orc_plain_domain.specs.Passes.{domain_opening};
 
     type Rule = D;
@@ -307,11 +307,11 @@ impl<D: Discipline> Links for PlainDomain<D> {
 
     ghost opens = { λ d p h. begins_so d p h };
 
-    ghost begins = { λ d p h. begun d p h };
+    ghost begins = { λ d p h. h.board.keeps.began };
 
-    ghost allowed = { λ d p h. all_allowed d p h };
+    ghost allowed = { λ d p h. h.board.keeps.now.each };
 
-    ghost obeys = { λ d p h. all_obey d p h };
+    ghost obeys = { λ d p h. h.board.keeps.now.kept };
 
     ghost agents_below = { λ d p h. all_below d p h };
 

@@ -4,11 +4,10 @@ ghost use Rattle.std.specs.Prelude.{◌≡◌, ◌<◌, ◌%◌, ◌+◌, ◌∷
 ghost use mathlib.Core.List.{IsPrefix};
 ghost use Rattle.orc_heap.specs.Heap.{new_node};
 ghost use Rattle.orc_heap.specs.OwnEvents.{Only};
-ghost use Rattle.orc_heap.specs.Seats.{HoldsFresh, HoldsTarget};
 ghost use Rattle.orc_plain_board.specs.Calls.{KnowsPlace};
 ghost use Rattle.orc_plain_board.specs.Machine.{index_of, place_by};
 ghost use Rattle.orc_plain_board.specs.Views.{heap_of, shows};
-ghost use Rattle.orc_plain_domain.specs.Calls.{Furnishes, IsSame, Loads, Loses, MayAimAt, Retires, GivesFreshRow, aim_at};
+ghost use Rattle.orc_plain_domain.specs.Calls.{Furnishes, IsSame, Loads, Loses, MayAimLink, Retires, GivesFreshRow, aim_at};
 ghost use Rattle.orc_plain_domain.specs.Passes.{IsPassOf, domain_bounds, domain_numbers, journal_of, next_row, rows_of, seat_of};
 
 use crate::domain::{PlainDomain, PlainPass};
@@ -70,9 +69,7 @@ impl<D: Discipline> PlainDomain<D> {
     pub(crate) fn store(&self, p: &mut PlainPass<D>, fresh: &Held, number: u32, to: Option<&Held>)
         requires pass { IsPassOf self.now p.old }
         requires number { number < (domain_bounds self.now).links }
-        requires fresh { HoldsFresh (seat_of self.now p.old) fresh.now }
-        requires target { HoldsTarget (seat_of self.now p.old) to }
-        requires allowed { MayAimAt (D.may (domain_numbers self.now)) (domain_numbers self.now) (seat_of self.now p.old) number fresh.now to }
+        requires may { MayAimLink (D.may (domain_numbers self.now)) (domain_numbers self.now) (seat_of self.now p.old) number fresh.now to }
         ensures pass { IsPassOf self.now p.new }
         ensures later { IsPrefix (journal_of p.old) (journal_of p.new) }
         ensures aimed { Only (aim_at (seat_of self.now p.old) number fresh.now to.entry ∷ []) (seat_of self.now p.old) (seat_of self.now p.new) }

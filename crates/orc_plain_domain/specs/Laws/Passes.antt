@@ -6,7 +6,6 @@ use Rattle.std.proofs.Common.{sym, ap, ◌∙◌, subst, length-append, arith}
 use Rattle.std.proofs.lemmas.Bool.{eq-eqb}
 use Rattle.orc_words.specs.Bounds.{Bounds}
 use Rattle.orc_heap.specs.Acts.{IsKnown}
-use Rattle.orc_heap.specs.Allowed.{AllAllowed}
 use Rattle.orc_heap.specs.Journals.{run_heap}
 use Rattle.orc_heap.specs.OwnEvents.{IsBelow}
 use Rattle.orc_heap.specs.Seats.{IsUntouched}
@@ -67,15 +66,6 @@ module _ {D N : Type 0} {d : discipline.Ghosts D N} {m : machine.Ghosts Plain N 
 
     pub begins_so : IsPrefix (domain_opening domain) (seat_of domain p).seen
     begins_so = opened d domain.board.words.shape p.pass.pass.seat.me.0 p.pass.pass.agent p.pass.fresh p.pass.looked h.board.keeps
-
-    pub begun : d.holds (domain_numbers domain) []
-    begun = h.board.keeps.began
-
-    pub all_allowed : AllAllowed (d.may (domain_numbers domain)) [] (seat_of domain p).seen
-    all_allowed = h.board.keeps.now.each
-
-    pub all_obey : d.holds (domain_numbers domain) (seat_of domain p).seen
-    all_obey = h.board.keeps.now.kept
 
     pub all_below : ((seat_of domain p).agent < (domain_bounds domain).agents) × IsBelow (domain_bounds domain).agents (seat_of domain p).seen
     all_below = (h.board.keeps.number, below d domain.board.words.shape p.pass.pass.seat.me.0 p.pass.pass.agent p.pass.fresh p.pass.looked h.board.keeps)

@@ -9,22 +9,16 @@ use Rattle.orc_heap.specs.Allowed.{MovesLinked}
 use Rattle.orc_heap.specs.Heap.{Heap, HeapNumbers, Node, new_heap}
 use Rattle.orc_heap.specs.Journals.{FitsAfter, IsPlain, IsPlainAct, run_from, run_heap}
 use Rattle.orc_heap.specs.declared.events.Act.{Act}
-use Rattle.orc_heap.specs.declared.events.Act.TheVariants.{Aim, AimSide, Fill, Give, Look, Miss, Move}
+use Rattle.orc_heap.specs.declared.events.Act.TheVariants.{Move}
 use Rattle.orc_heap.specs.declared.events.Event.{Event}
 use Rattle.orc_heap.specs.declared.events.Link.{Link}
-use Rattle.orc_heap.specs.declared.events.Place.TheVariants.{Next, Root, Side}
+use Rattle.orc_heap.specs.declared.events.Place.TheVariants.{Next, Side}
 use Rattle.orc_plain_domain.specs.Twins.{KeepsLinks, MovesRoot, NoLinkChanges, TwinsHold, TwinsMay}
 
 same_links : (act : Act) (id : ℕ) (link side : Link) → MovesRoot act → (moved_link act id link ≡ link) × (moved_side act id side ≡ side)
-same_links Give id link side root = (refl, refl)
-same_links (Fill i which value) id link side root = (refl, refl)
-same_links (Aim i to) id link side root = (refl, refl)
-same_links (AimSide i to) id link side root = (refl, refl)
-same_links (Look place seen) id link side root = (refl, refl)
-same_links (Move (Root r) from to) id link side root = (refl, refl)
 same_links (Move (Next i) from to) id link side root = absurd root
 same_links (Move (Side i) from to) id link side root = absurd root
-same_links (Miss place wanted found) id link side root = (refl, refl)
+same_links act id link side root = (refl, refl)
 
 -- an act that moves no link of a node keeps those of once linked nodes
 links_kept : (agent : ℕ) (act : Act) (h : Heap) → Fits agent act h → MovesRoot act → KeepsLinks h (heap_after agent act h)
@@ -55,28 +49,17 @@ pub twins_fit : {N : Type 0} (n : HeapNumbers) (seen : List (Event N)) (e : Even
 twins_fit n seen e holds may = may.fits
 
 plain_of_root : (act : Act) → IsPlainAct act → MovesRoot act
-plain_of_root Give plain = tt
-plain_of_root (Fill id which value) plain = tt
-plain_of_root (Aim id to) plain = tt
-plain_of_root (AimSide id to) plain = tt
-plain_of_root (Look place link) plain = tt
 plain_of_root (Move place from to) plain = absurd plain
-plain_of_root (Miss place wanted found) plain = tt
+plain_of_root act plain = tt
 
 pub twins_allow_plain : {N : Type 0} (n : HeapNumbers) (seen : List (Event N)) (e : Event N) → TwinsHold n seen → FitsAfter n seen e → IsPlain e
     → TwinsMay n seen e
 twins_allow_plain n seen e holds fits plain = record { fits = fits; of_root = plain_of_root e.act plain.1; plain = plain.0 }
 
 root_moves_linked : (act : Act) (h : Heap) → MovesRoot act → MovesLinked act h
-root_moves_linked Give h root = tt
-root_moves_linked (Fill id which value) h root = tt
-root_moves_linked (Aim id to) h root = tt
-root_moves_linked (AimSide id to) h root = tt
-root_moves_linked (Look place link) h root = tt
-root_moves_linked (Move (Root r) from to) h root = tt
 root_moves_linked (Move (Next id) from to) h root = absurd root
 root_moves_linked (Move (Side id) from to) h root = absurd root
-root_moves_linked (Miss place wanted found) h root = tt
+root_moves_linked act h root = tt
 
 pub twins_move_linked : {N : Type 0} (n : HeapNumbers) (seen : List (Event N)) (e : Event N) → TwinsHold n seen → TwinsMay n seen e
     → MovesLinked e.act (run_heap n seen)

@@ -12,11 +12,11 @@ use Rattle.orc_plain_domain.proofs.domain.PlainDomain.store.Goals as goal
 pub link_store-requires-clause-row : goal.link_store-requires-clause-row
 link_store-requires-clause-row g c =
     subst (λ r. r < (domain_bounds c.args.self.now).rows) (sym c.row.ensures)
-    (hold_below c.args.self.now c.args.p.now c.requires.pass c.args.fresh.now c.requires.fresh.held)
+    (hold_below c.args.self.now c.args.p.now c.requires.pass c.args.fresh.now c.requires.may.fresh.held)
 
 pub link_store-requires-clause-fresh : goal.link_store-requires-clause-fresh
 link_store-requires-clause-fresh g c =
-    fresh_is c.args.self.now c.args.p.now c.requires.pass c.args.p.now.pass c.requires.pass.board c.args.fresh.now c.row.result c.row.ensures c.requires.fresh
+    fresh_is c.args.self.now c.args.p.now c.requires.pass c.args.p.now.pass c.requires.pass.board c.args.fresh.now c.row.result c.row.ensures c.requires.may.fresh
 
 pub link_store-requires-clause-unmarked : goal.link_store-requires-clause-unmarked
 link_store-requires-clause-unmarked g c = ap (λ (l : RowLink). l.mark) c.target_link-link.ensures
@@ -25,19 +25,19 @@ link_store-requires-clause-unmarked g c = ap (λ (l : RowLink). l.mark) c.target
 pub link_store-requires-clause-other : goal.link_store-requires-clause-other
 link_store-requires-clause-other g c =
     subst (λ (l : RowLink). l.to ≢ Some c.row.result) (sym c.target_link-link.ensures)
-    (target_other c.args.self.now c.args.p.now c.requires.pass c.args.to c.row.result c.requires.target
+    (target_other c.args.self.now c.args.p.now c.requires.pass c.args.to c.row.result c.requires.may.target
     (fresh_is c.args.self.now c.args.p.now c.requires.pass c.args.p.now.pass c.requires.pass.board c.args.fresh.now c.row.result c.row.ensures
-    c.requires.fresh))
+    c.requires.may.fresh))
 
 pub link_store-requires-clause-target : goal.link_store-requires-clause-target
 link_store-requires-clause-target g c =
     subst (λ l. KnowsTarget (domain_bounds c.args.self.now) (shows c.args.self.now.board c.args.p.now.pass) l) (sym c.target_link-link.ensures)
-    (target_known c.args.self.now c.args.p.now c.requires.pass c.args.to c.requires.target)
+    (target_known c.args.self.now c.args.p.now c.requires.pass c.args.to c.requires.may.target)
 
 pub link_store-requires-clause-allowed : goal.link_store-requires-clause-allowed
 link_store-requires-clause-allowed g c =
     may_aim c.args.self.now c.args.p.now c.requires.pass c.args.p.now.pass c.requires.pass.board c.args.fresh.now c.row.result c.args.number c.row.ensures
-    c.requires.fresh c.args.to c.target_link-link.result c.requires.target c.target_link-link.ensures c.requires.allowed
+    c.requires.may.fresh c.args.to c.target_link-link.result c.requires.may.target c.target_link-link.ensures c.requires.may.allowed
 
 pub returns-clause-pass : goal.returns-clause-pass
 returns-clause-pass g c =
@@ -46,5 +46,5 @@ returns-clause-pass g c =
 pub returns-clause-aimed : goal.returns-clause-aimed
 returns-clause-aimed g c =
     aims c.args.self.now c.args.p.now c.requires.pass c.link_store.new.p c.link_store.ensures.belongs c.args.fresh.now c.row.result c.args.number c.row.ensures
-    c.requires.fresh c.args.to c.target_link-link.result c.requires.target c.target_link-link.ensures
+    c.requires.may.fresh c.args.to c.target_link-link.result c.requires.may.target c.target_link-link.ensures
     c.link_store.ensures.replaces.adds c.link_store.ensures.fresh
