@@ -181,22 +181,20 @@ module _ {N W : Type 0} (seat : W → Seat N) where
 module _ {N S W : Type 0} (seat : W → Seat N) (agent_of : S → ℕ) (journal : W → List S) (v w x y : W)
     (l : Learns agent_of (seat v) (seat w) (seat x) (seat y) (journal v) (journal w) (journal x) (journal y))
   where
-    pub shares_steps : Shares seat agent_of journal v w x y
-    shares_steps = record {
+    shares : {T : Type 0} (agent_in : T → ℕ) (list : W → List T) → list x ≡ list y → IsLonger (list v) (list w) (list x)
+        → (own_of agent_in (seat v).agent (list x) ≡ own_of agent_in (seat v).agent (list v))
+        × (own_of agent_in (seat w).agent (list x) ≡ own_of agent_in (seat w).agent (list w)) → Shares seat agent_in list v w x y
+    shares agent_in list one longer own = record {
       first = record { agent = l.agents.0; slots = l.slots.0; fresh = l.fresh.0 };
       second = record { agent = l.agents.1; slots = l.slots.1; fresh = l.fresh.1 };
-      one = l.one_journal;
-      longer = l.longer;
-      first_own = l.steps.0;
-      second_own = l.steps.1;
+      one = one;
+      longer = longer;
+      first_own = own.0;
+      second_own = own.1;
     }
 
+    pub shares_steps : Shares seat agent_of journal v w x y
+    shares_steps = shares agent_of journal l.one_journal l.longer l.steps
+
     pub shares_events : Shares seat (λ (e : Event N). e.agent) (λ p. (seat p).seen) v w x y
-    shares_events = record {
-      first = record { agent = l.agents.0; slots = l.slots.0; fresh = l.fresh.0 };
-      second = record { agent = l.agents.1; slots = l.slots.1; fresh = l.fresh.1 };
-      one = l.one_list;
-      longer = l.longer_list;
-      first_own = l.events.0;
-      second_own = l.events.1;
-    }
+    shares_events = shares (λ (e : Event N). e.agent) (λ p. (seat p).seen) l.one_list l.longer_list l.events

@@ -1,5 +1,5 @@
 -- Passes that learned from each other, or took in one another, are passes still.
-use Rattle.std.proofs.Common.{List, Some, ap, inl, inr, refl, sym, ℕ, ◌++◌, ◌∙◌, ◌∷◌, ◌≡◌, ⊎_elim}
+use Rattle.std.proofs.Common.{List, Some, ap, inl, inr, refl, subst, sym, ℕ, ◌++◌, ◌∙◌, ◌∷◌, ◌≡◌, ⊎_elim}
 use Rattle.orc_core.specs.declared.records.Agent.{Agent}
 use Rattle.orc_heap.specs.declared.events.Event.{Event}
 use Rattle.orc_machine_board.specs.Laws.Steps.{counted_obeys}
@@ -7,7 +7,7 @@ use Rattle.orc_machine_board.specs.Passes.{AbsorbsSteps, LearnsSteps, SameButSte
 use Rattle.orc_machine_board.specs.Rules.{counted_rules}
 use Rattle.orc_machine_board.specs.Views.{Keeps, view_of}
 use Rattle.orc_machine_board.specs.declared.machine.MachineShape.{MachineShape}
-use Rattle.orc_shared_words.proofs.LaterJournals.{learned_later}
+use Rattle.orc_shared_words.proofs.LaterJournals.{absorbing_later, learned_later}
 use Rattle.orc_shared_words.specs.Learning.{LearnedBoth, SameButSeen}
 use Rattle.orc_shared_words.specs.Views.{absorbing, agent_of}
 use Rattle.orc_shared_words.specs.declared.journal.View.{View}
@@ -28,30 +28,18 @@ module _ {N : Type 0} {k : MachineShape N} {holds : List (Event N) → Type 0} {
   pub learns : LearnsSteps (view_of a v) (view_of b u) (view_of a w) (view_of b x)
   learns = record { longer = l.longer; both = l.both; into = same_but v w a one.is l.into; from = same_but u x b two.is l.from }
 
-  pub both_keep : Keeps k holds may w a × Keeps k holds may x b
-  both_keep =
+  pub both_keep : {c e : ℕ} → c ≡ a → e ≡ b → Keeps k holds may w c × Keeps k holds may x e
+  both_keep is_a is_b =
       let later = learned_later counted_rules k holds may (counted_obeys k) v u w x a b one.is two.is l one.now two.now in (
-        record { is = l.into.agent ∙ one.is; number = one.number; began = one.began; now = later.0 },
-        record { is = l.from.agent ∙ two.is; number = two.number; began = two.began; now = later.1 },
+        subst (λ z. Keeps k holds may w z) (sym is_a) (record { is = l.into.agent ∙ one.is; number = one.number; began = one.began; now = later.0 }),
+        subst (λ z. Keeps k holds may x z) (sym is_b) (record { is = l.from.agent ∙ two.is; number = two.number; began = two.began; now = later.1 }),
       )
 
   -- the pass that then takes in the other
   pub absorb_keeps : Keeps k holds may (absorbing w x) a
   absorb_keeps =
-      let t = both_keep.0 in record {
-        is = t.is;
-        number = t.number;
-        began = t.began;
-        now = record {
-          lawful = t.now.lawful;
-          opened = t.now.opened;
-          below = t.now.below;
-          each = t.now.each;
-          kept = t.now.kept;
-          mine = t.now.mine;
-          retired = λ o there. refl;
-        };
-      }
+      let t = (both_keep {c = a} {e = b} refl refl).0 in
+      record { is = t.is; number = t.number; began = t.began; now = absorbing_later counted_rules k holds may w x a t.now }
 
   pub absorbs : AbsorbsSteps (view_of a v) (view_of b u) (view_of a (absorbing w x))
   absorbs = record {

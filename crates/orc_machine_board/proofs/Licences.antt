@@ -43,7 +43,7 @@ use Rattle.orc_words.specs.Bounds.{Bounds}
 use Rattle.orc_words.specs.Packed.{link_of, link_word}
 use Rattle.orc_words.specs.declared.packed.RowLink.{RowLink}
 use Rattle.orc_words.specs.declared.place.Word.{Word}
-use Rattle.orc_words.specs.declared.place.Word.TheVariants.{Enrolled, Root, Gate, Counter, First, Second, Next, Side, Slot, Handover}
+use Rattle.orc_words.specs.declared.place.Word.TheVariants.{Root, Next, Side}
 
 -- rows that keep their nodes: links and places that name them are the same
 module _ (p q : PresentIds) (d : Agent) (stays : (r : ℕ) → HasRow d r → q.node r ≡ p.node r) where
@@ -55,16 +55,9 @@ module _ (p q : PresentIds) (d : Agent) (stays : (r : ℕ) → HasRow d r → q.
   same_link l h = λ i. record { to = same_target l.to h i; mark = l.mark }
 
   pub same_place : (w : Word) → HasPlace d w → node_place q w ≡ node_place p w
-  same_place (Root i) h = refl
   same_place (Next r) h = ap (λ id. node_place (record { given = 0; node = λ x. id }) (Next r)) (stays r h)
   same_place (Side r) h = ap (λ id. node_place (record { given = 0; node = λ x. id }) (Side r)) (stays r h)
-  same_place Enrolled h = refl
-  same_place (Gate r) h = refl
-  same_place (Counter r) h = refl
-  same_place (First r) h = refl
-  same_place (Second r) h = refl
-  same_place (Slot a s) h = refl
-  same_place (Handover a s) h = refl
+  same_place w h = refl
 
 -- what a change of a link may name, the agent has
 pub has_either : (x y : Bool) → x ≡ true → (x || y) ≡ true

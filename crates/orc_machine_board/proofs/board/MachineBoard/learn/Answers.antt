@@ -1,25 +1,20 @@
 use Rattle.std.proofs.Common.{subst, sym, ℕ, ◌∙◌}
 use Rattle.orc_machine_board.proofs.Learning.{both_keep, learns}
 use Rattle.orc_machine_board.specs.Passes.{LearnsSteps}
-use Rattle.orc_machine_board.specs.Rules.{heap_numbers}
-use Rattle.orc_machine_board.specs.Views.{Keeps, view_of}
+use Rattle.orc_machine_board.specs.Views.{view_of}
 use Rattle.orc_machine_board.proofs.board.MachineBoard.learn.Goals as goal
 
 pub returns-clause-into : goal.returns-clause-into
-returns-clause-into g c =
-    let k = c.args.self.now.words.shape in
-    let l = c.learn.ensures in
-    let kept = (both_keep c.requires.into.keeps c.requires.from.keeps l.learned).0 in
-    let d = g.D.Discipline in
-    record { table = l.table.0 ∙ c.requires.into.table; keeps = subst (Keeps k (d.holds (heap_numbers k)) (d.may (heap_numbers k)) c.learn.new.into.seat.me.0) (sym l.agents.0) kept }
+returns-clause-into g c = let l = c.learn.ensures in record {
+  table = l.table.0 ∙ c.requires.into.table;
+  keeps = (both_keep c.requires.into.keeps c.requires.from.keeps l.learned l.agents.0 l.agents.1).0;
+}
 
 pub returns-clause-from : goal.returns-clause-from
-returns-clause-from g c =
-    let k = c.args.self.now.words.shape in
-    let l = c.learn.ensures in
-    let kept = (both_keep c.requires.into.keeps c.requires.from.keeps l.learned).1 in
-    let d = g.D.Discipline in
-    record { table = l.table.1 ∙ c.requires.from.table; keeps = subst (Keeps k (d.holds (heap_numbers k)) (d.may (heap_numbers k)) c.learn.new.from.seat.me.0) (sym l.agents.1) kept }
+returns-clause-from g c = let l = c.learn.ensures in record {
+  table = l.table.1 ∙ c.requires.from.table;
+  keeps = (both_keep c.requires.into.keeps c.requires.from.keeps l.learned l.agents.0 l.agents.1).1;
+}
 
 pub returns-clause-learns : goal.returns-clause-learns
 returns-clause-learns g c =
