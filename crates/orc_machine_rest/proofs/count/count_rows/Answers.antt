@@ -29,24 +29,19 @@ overflow_sub-reused g c =
     let e = balance_end c.args.board.now c.loop-row.invariant c.loop-row-test.false c.loop-row.auto.row-end in
     omega arith
 
-pub returns-clause-journal : goal.returns-clause-journal
-returns-clause-journal g c = journal_end c.args.board.now c.loop-row.invariant c.loop-row-test.false c.loop-row.auto.row-end
-
-pub returns-clause-given : goal.returns-clause-given
-returns-clause-given g c = given_end c.args.board.now c.loop-row.invariant c.loop-row-test.false c.loop-row.auto.row-end
-
-pub returns-clause-reused : goal.returns-clause-reused
-returns-clause-reused g c =
-    let e = balance_end c.args.board.now c.loop-row.invariant c.loop-row-test.false c.loop-row.auto.row-end in
-    omega arith
-
-pub returns-clause-linked : goal.returns-clause-linked
-returns-clause-linked g c = linked_end c.args.board.now c.loop-row.invariant c.loop-row-test.false c.loop-row.auto.row-end
-
-pub returns-clause-balance : goal.returns-clause-balance
-returns-clause-balance g c =
-    let e = balance_end c.args.board.now c.loop-row.invariant c.loop-row-test.false c.loop-row.auto.row-end in
-    omega arith
-
-pub returns-clause-all : goal.returns-clause-all
-returns-clause-all g c = still_all c.args.board.now c.loop-row.invariant c.requires.all
+pub returns : goal.returns
+returns g c =
+    let b = c.args.board.now in
+    let i = c.loop-row.invariant in
+    let low = c.loop-row-test.false in
+    let high = c.loop-row.auto.row-end in
+    let e = balance_end b i low high in
+    record {
+      belongs = i.belongs;
+      all = still_all b i c.requires.all;
+      journal = journal_end b i low high;
+      given = given_end b i low high;
+      reused = omega arith;
+      linked = linked_end b i low high;
+      balance = omega arith;
+    }

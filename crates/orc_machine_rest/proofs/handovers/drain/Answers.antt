@@ -11,12 +11,11 @@ drain_own-requires-clause-pass g c = pass_of c.args.board.now c.agent-agent.resu
 
 pub returns-clause-done : goal.returns-clause-done
 returns-clause-done g c = λ alone.
-    let b = board_bounds c.args.board.now in
     let s = shows c.args.p.now in
     let t = shows c.drain_own.new.p in
     let its = c.agent-agent.ensures in
     done_so c.args.board.now c.drain_own.ensures.pass its
-    (alone_drained b s.agent s t (subst (λ a. Drains b a s t) its c.drain_own.ensures.drains) alone)
+    (alone_drained _ s.agent s t (subst (λ a. Drains (board_bounds c.args.board.now) a s t) its c.drain_own.ensures.drains) alone)
 
 pub returns-clause-handovers : goal.returns-clause-handovers
 returns-clause-handovers g c = λ alone.

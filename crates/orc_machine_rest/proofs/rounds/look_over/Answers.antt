@@ -56,13 +56,15 @@ returns-then-look_step-clause-opens g c =
 
 pub returns-then-look_step-clause-few : goal.returns-then-look_step-clause-few
 returns-then-look_step-clause-few g c =
-    let shape = ap (λ (b : Bounds). b.agents) c.shape.ensures in
-    let end = c.agents-end.ensures in
-    let below = c.loop-k-test.true in
-    let before = c.loop-k.invariant.few in
-    let one = c.look_step.ensures.few in
-    let two = c.settle_step.ensures.few in
-    omega (arith, below, before, one, two)
+    omega (
+      arith,
+      ap (λ (b : Bounds). b.agents) c.shape.ensures,
+      c.agents-end.ensures,
+      c.loop-k-test.true,
+      c.loop-k.invariant.few,
+      c.look_step.ensures.few,
+      c.settle_step.ensures.few,
+    )
 
 pub loop-k-preserved : goal.loop-k-preserved
 loop-k-preserved g c =
@@ -105,14 +107,16 @@ returns-then-is_none-clause-opens g c =
 
 pub returns-then-is_none-clause-few : goal.returns-then-is_none-clause-few
 returns-then-is_none-clause-few g c =
-    let shape = ap (λ (b : Bounds). b.agents) c.shape.ensures in
-    let end = c.agents-end.ensures in
-    let high = c.loop-k.auto.k-end in
-    let place = c.requires.place in
-    let before = c.loop-k.invariant.few in
-    let one = c.settle_step-2.ensures.few in
-    let two = c.free_doomed.ensures.few in
-    omega (arith, high, place, before, one, two)
+    omega (
+      arith,
+      ap (λ (b : Bounds). b.agents) c.shape.ensures,
+      c.agents-end.ensures,
+      c.loop-k.auto.k-end,
+      c.requires.place,
+      c.loop-k.invariant.few,
+      c.settle_step-2.ensures.few,
+      c.free_doomed.ensures.few,
+    )
 
 pub returns-else-is_none-clause-opens : goal.returns-else-is_none-clause-opens
 returns-else-is_none-clause-opens g c =
@@ -122,10 +126,12 @@ returns-else-is_none-clause-opens g c =
 
 pub returns-else-is_none-clause-few : goal.returns-else-is_none-clause-few
 returns-else-is_none-clause-few g c =
-    let shape = ap (λ (b : Bounds). b.agents) c.shape.ensures in
-    let end = c.agents-end.ensures in
-    let high = c.loop-k.auto.k-end in
-    let place = c.requires.place in
-    let before = c.loop-k.invariant.few in
-    let one = c.settle_step-2.ensures.few in
-    omega (arith, high, place, before, one)
+    omega (
+      arith,
+      ap (λ (b : Bounds). b.agents) c.shape.ensures,
+      c.agents-end.ensures,
+      c.loop-k.auto.k-end,
+      c.requires.place,
+      c.loop-k.invariant.few,
+      c.settle_step-2.ensures.few,
+    )

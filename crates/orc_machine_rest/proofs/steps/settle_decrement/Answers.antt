@@ -44,11 +44,7 @@ returns-in_default-clause-goes g c =
 
 pub returns-in-Some-clause-few : goal.returns-in-Some-clause-few
 returns-in-Some-clause-few g c =
-    let one = c.settle_step.ensures.few in
-    let two = c.settle_step-word.ensures.few in
-    let three = c.settle_due.ensures.few in
-    let four = c.leave_slot_zero.ensures.few in
-    omega (arith, one, two, three, four)
+    omega (arith, c.settle_step.ensures.few, c.settle_step-word.ensures.few, c.settle_due.ensures.few, c.leave_slot_zero.ensures.few)
 
 pub returns-in_default-clause-few : goal.returns-in_default-clause-few
 returns-in_default-clause-few g c = omega arith

@@ -44,11 +44,7 @@ returns-clause-opens g c =
 
 pub returns-clause-few : goal.returns-clause-few
 returns-clause-few g c =
-    let one = c.settle_step.ensures.few in
-    let two = c.settle_step-word.ensures.few in
-    let three = c.settle_due.ensures.few in
-    let four = c.leave_slot_zero.ensures.few in
-    omega (arith, one, two, three, four)
+    omega (arith, c.settle_step.ensures.few, c.settle_step-word.ensures.few, c.settle_due.ensures.few, c.leave_slot_zero.ensures.few)
 
 pub settle_due-requires-clause-pending : goal.settle_due-requires-clause-pending
 settle_due-requires-clause-pending g c =
