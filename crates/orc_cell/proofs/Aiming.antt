@@ -3,6 +3,7 @@ use Rattle.std.proofs.Common.{Bool, List, None, Ok, Err, Result, Some, [], ap, a
 use Rattle.std.proofs.lemmas.Bool.{eq-eqb, ne_eqb}
 use Rattle.std.specs.List.{list_any, slice_get}
 use Rattle.std.specs.Prelude.{IfErr, IfOk, ◌||◌}
+use Rattle.orc_fault.specs.declared.Spent.{Spent}
 use Rattle.orc_heap.proofs.Fresh.{touched}
 use Rattle.orc_heap.proofs.Pieces.{linked_not_fresh, release_fresh, slot_holds, slot_id, slot_other, slot_other_id, slot_released}
 use Rattle.orc_heap.proofs.SingleActs.{link_same, some_same}
@@ -204,7 +205,7 @@ module _ (n : HeapNumbers) (place : Place) (s a b : Seat PairsNote) (h pair : Ho
               subst (λ (i : ℕ). slice_get (heap_of n b).nodes i ≡ Some old) (sym pair_b)
               (own_found n a b [] (id_in s.slots pair) old o.puts known_a known_b.all tt u_a in_a)
 
-        pub kept_aimed : Only (event_of b (aim_act half (id_in b.slots pair) (Some (id_in b.slots h))) None ∷ []) b c
+        kept_aimed : Only (event_of b (aim_act half (id_in b.slots pair) (Some (id_in b.slots h))) None ∷ []) b c
             → ReadsValue (heap_of n b) (id_in a.slots h) 0 value → Aimed n half pair held.id value s t
         kept_aimed q reads =
             let u = untouched_b (id_in b.slots pair) holds_b.fresh in
@@ -223,10 +224,16 @@ module _ (n : HeapNumbers) (place : Place) (s a b : Seat PairsNote) (h pair : Ho
               has = subst (λ (v : ℕ). HasPart (heap_of n t) held.id v) (sym value_is) (part_t own q l.piece l.staging);
             }
 
-        pub kept_refused : Only [] b c → NotAimed n pair s t
+        kept_refused : Only [] b c → NotAimed n pair s t
         kept_refused q =
             let f = (finds_none b c q).finds in
             kept_back [] q (finds_piece b c [] f) (finds_staging n b c [] f known_c.all)
+
+        pub kept_aims : (r : Result (Unit {0}) Spent) → IfOk r (λ _. Only (event_of b (aim_act half (id_in b.slots pair) (Some (id_in b.slots h))) None ∷ []) b c)
+            → IfErr r (λ e. Only [] b c) → ReadsValue (heap_of n b) (id_in a.slots h) 0 value
+            → IfOk r (λ _. Aimed n half pair held.id value s t) × IfErr r (λ e. NotAimed n pair s t)
+        kept_aims (Ok done) ok err reads = (kept_aimed ok reads, tt)
+        kept_aims (Err why) ok err reads = (tt, kept_refused err)
 
 -- the aim at a staged part
 

@@ -1,7 +1,14 @@
 -- A publish from its Gives to its releases.
-use Rattle.std.proofs.Common.{Bool, Err, List, None, Ok, Option, Result, Some, [], ap, append-nil, arith, false, inl, inr, length, refl, subst, sym, true, ℕ, ◌*◌, ◌++◌, ◌+◌, ◌==◌, ◌∙◌, ◌∷◌, ◌≡◌, ◌≢◌, ◌≤◌}
+use Rattle.std.proofs.Common.{Bool, Err, List, None, Ok, Option, Result, Some, [], ap, append-nil, arith, false, inl, inr, length, refl, subst, sym, true, ℕ, ◌*◌, ◌++◌, ◌+◌, ◌==◌, ◌∙◌, ◌∷◌, ◌≡◌, ◌≢◌, ◌<◌, ◌≤◌}
 use Rattle.std.proofs.lemmas.Bool.{eqb-false, eqb-true}
 use Rattle.std.specs.List.{slice_set}
+use Rattle.std.specs.Prelude.{IfErr}
+use mathlib.Core.List.{IsPrefix}
+use Rattle.orc_heap.proofs.Parting.{part_of_piece}
+use Rattle.orc_heap.specs.declared.links.Links.{Ghosts as LinksOf}
+use Rattle.orc_history.specs.Journals.{Within}
+use Rattle.orc_history.specs.Parts.{part_begin}
+use Rattle.orc_cell.specs.Causes.{CausedIn, CausedInPart, CausedWithin}
 use Rattle.orc_heap.proofs.ByAnswer.{Tests-found, Tests-missed, unless_fresh, unless_same}
 use Rattle.orc_heap.specs.declared.holds.At.{At}
 use Rattle.orc_heap.specs.declared.holds.Want.{Want}
@@ -39,7 +46,7 @@ use Rattle.orc_cell.specs.declared.refused.CellRefused.{CellRefused}
 use Rattle.orc_cell.specs.declared.refused.CellRefused.TheVariants.{Again, NoNode, Spent}
 use Rattle.orc_cell.proofs.Others.{others_from_own-append}
 use Rattle.orc_cell.proofs.Pieces.{Known, finds_none, part_puts}
-use Rattle.orc_cell.proofs.Staging.{Answered-trans, Piece-trans, finds_staging, found_answered, root_kept, staging-trans}
+use Rattle.orc_cell.proofs.Staging.{Answered-trans, Piece-trans, answered_end, answered_more, answered_none, finds_staging, found_answered, root_kept, staging-trans, within_call}
 use Rattle.orc_cell.proofs.Swinging.{published_later, published_puts, same_slots, side_kept}
 
 -- a later piece's Moves by others are Moves of the whole
@@ -124,16 +131,10 @@ module _ (n : HeapNumbers) (s a : Seat PairsNote) (pair : Hold) (free : IsFree s
 -- no pair could be had
 pub pair_lacking : (n : HeapNumbers) (most : ℕ) (s t : Seat PairsNote) → 1 ≤ most → s.fresh ≡ None → Only [] s t → AllAllowed (PairsMay n) [] t.seen
     → AnswersPiece n most s [] t
-pair_lacking n most s t some none o all =
-    let f = found_answered n s t [] (finds_none s t o) all in
-    record {
-      answered = record {
-        piece = record { own = f.piece.own; puts = f.piece.puts; entries_are = f.piece.entries_are; gives = omega (arith, f.piece.gives, some) };
-        slots = f.slots;
-        staging = f.staging;
-      };
-      fresh = o.fresh ∙ none;
-    }
+pair_lacking n most s t some none o all = record {
+  answered = answered_more n 0 most s t [] (omega (arith, some)) (found_answered n s t [] (finds_none s t o) all);
+  fresh = o.fresh ∙ none;
+}
 
 -- a part was staged, and let go at the end: the staging roots are as they were
 module _ (n : HeapNumbers) (slot root value : ℕ) (s a b t : Seat PairsNote) (h : Hold) (free : IsFree s.slots slot) (own : IsStaging s.agent root)
@@ -171,10 +172,35 @@ given_slots n turns left right pair a b Over x = x.answered.slots
 given_slots n turns left right pair a b (Done u v) x = x.answered.slots
 given_slots n turns left right pair a b (Worn why) x = x.answered.slots
 
--- the refusal of the turns is that of the call
-pub spent_same : {turn : PublishTurn} {spent why : SpentRow} → turn ≡ Worn spent → ◌≡◌ {A = Result (ℕ × ℕ) CellRefused} (Err (Spent spent)) (Err (Spent why))
-    → turn ≡ Worn why
-spent_same {spent = spent} {why = why} is same = let one : spent ≡ why = cc in is ∙ ap Worn one
+-- the cause of a refusal of a piece of a call is one of the call
+module _ {L D P S : Type 0} (m : LinksOf L D P S PairsNote) (links : L) where
+  pub caused_call : (p q r u : P)
+      → ((who : ℕ) (seen more : List S) (from to : ℕ) → m.lacking links who seen from to → m.lacking links who (seen ++ more) from to)
+      → ((who : ℕ) (why : SpentRow) (seen more : List S) (from to : ℕ) → m.worn links who why seen from to → m.worn links who why (seen ++ more) from to)
+      → (m.seat links q).agent ≡ (m.seat links p).agent → IsPrefix (m.journal p) (m.journal q) → IsPrefix (m.journal r) (m.journal u)
+      → (x : Result (ℕ × ℕ) CellRefused) → IfErr x (λ why. CausedIn m links (Within (length (m.journal q)) (length (m.journal r))) q r why)
+      → IfErr x (λ why. CausedWithin m links p u why)
+  caused_call p q r u lacking_stays worn_stays same one two (Ok now) cause = tt
+  caused_call p q r u lacking_stays worn_stays same one two (Err Again) cause = tt
+  caused_call p q r u lacking_stays worn_stays same one two (Err NoNode) cause =
+      within_call m links p q r u (m.lacking links) lacking_stays same one two cause
+  caused_call p q r u lacking_stays worn_stays same one two (Err (Spent why)) cause =
+      within_call m links p q r u (λ who. m.worn links who why) (λ who. worn_stays who why) same one two cause
+
+  -- and behind the call's first step it stands in its part
+  pub caused_in_part : (p q r : P) → (m.seat links q).agent ≡ (m.seat links p).agent → IsPrefix (m.journal p) (m.journal q)
+      → IsPrefix (m.journal q) (m.journal r) → part_begin m.agent_of (m.seat links p).agent (m.journal p) (m.journal q) < length (m.journal q)
+      → (x : Result (ℕ × ℕ) CellRefused) → IfErr x (λ why. CausedWithin m links q r why) → IfErr x (λ why. CausedInPart m links p r why)
+  caused_in_part p q r same one two begun (Ok now) cause = tt
+  caused_in_part p q r same one two begun (Err Again) cause = tt
+  caused_in_part p q r same one two begun (Err NoNode) cause =
+      let who = (m.seat links p).agent in
+      part_of_piece m.agent_of who (λ j. m.lacking links who j) (m.journal p) (m.journal q) (m.journal r) one two begun
+      (subst (λ (i : ℕ). Within (length (m.journal q)) (length (m.journal r)) (m.lacking links i (m.journal r))) same cause)
+  caused_in_part p q r same one two begun (Err (Spent why)) cause =
+      let who = (m.seat links p).agent in
+      part_of_piece m.agent_of who (λ j. m.worn links who why j) (m.journal p) (m.journal q) (m.journal r) one two begun
+      (subst (λ (i : ℕ). Within (length (m.journal q)) (length (m.journal r)) (m.worn links i why (m.journal r))) same cause)
 
 stages_held : (n : HeapNumbers) (slot root value : ℕ) (s a : Seat PairsNote) (h : Hold) → IsFree s.slots slot → Stages n slot root value s h a
     → Staged n root value h a
@@ -235,6 +261,13 @@ ready_other n slot root k s a Kept side free all own ne r held =
     let f = (finds_none s a r.0).finds in
     side_kept n s a k side [] r.0.puts all own (finds_staging n s a [] f all) (same_slots s a r.0.slots) held
 
+-- a piece that only looks stood before
+found_first : (n : HeapNumbers) (given : ℕ) (s a t : Seat PairsNote) (es : List CellEntry) → FindsOnly s [] a → AllAllowed (PairsMay n) [] a.seen
+    → Answered n given a es t → Answered n given s es t
+found_first n given s a t es f all x =
+    let none : 0 + given ≡ given = omega arith in
+    subst (λ (k : ℕ). Answered n k s es t) none (Answered-trans n 0 given s a t [] es (found_answered n s a [] f all) x)
+
 pub go_slots : (n : HeapNumbers) (slot root : ℕ) (s a b t : Seat PairsNote) (new : New) (given : ℕ) (es : List CellEntry) → IsFree s.slots slot
     → IsStaging s.agent root → shown (heap_of n s) (Root root) ≡ Some null → s.fresh ≡ None → Readies n slot root s new a → AnswersPiece n given a es b
     → LetsGo n root new b t → AllAllowed (PairsMay n) [] a.seen → AllAllowed (PairsMay n) [] t.seen → AnswersPiece n (given + 1) s es t
@@ -242,23 +275,9 @@ go_slots n slot root s a b t (Given value h) given es free own empty none r x l 
     staged_join n slot root value s a b t h free own empty r l given es x
 go_slots n slot root s a b t (Zero h) given es free own empty none r x l all_a all_t = staged_join n slot root 0 s a b t h free own empty r l given es x
 go_slots n slot root s a b t Kept given es free own empty none r x l all_a all_t =
-    let y = x.answered in
-    let first = found_answered n s a [] (finds_none s a r.0) all_a in
     let last = found_answered n b t [] (finds_none b t l) all_t in
-    let w = Answered-trans n (0 + given) 0 s b t es [] (Answered-trans n 0 given s a b [] es first y) last in
-    record {
-      answered = record {
-        piece = record {
-          own = w.piece.own;
-          puts = w.piece.puts;
-          entries_are = w.piece.entries_are ∙ append-nil es;
-          gives = omega (arith, w.piece.gives);
-        };
-        slots = w.slots;
-        staging = w.staging;
-      };
-      fresh = l.fresh ∙ x.fresh;
-    }
+    let w = answered_end n given s b t es (found_first n given s a b es (finds_none s a r.0) all_a x.answered) last in
+    record { answered = answered_more n given (given + 1) s t es (omega arith) w; fresh = l.fresh ∙ x.fresh }
 
 ready_puts : (n : HeapNumbers) (slot root : ℕ) (s a : Seat PairsNote) (new : New) → Readies n slot root s new a → (xs : List (Event PairsNote)) × Puts s xs a
 ready_puts n slot root s a (Given value h) r = (r.piece.own, r.piece.puts)
@@ -348,12 +367,6 @@ null_missed n s t k all x =
     ] in
     subst (λ es. IsPublished (run_heap n es)) (sym (x.puts.is ∙ seen_is m)) (published_later n before (e ∷ m.later) (since m) now)
 
-found_first : (n : HeapNumbers) (given : ℕ) (s a t : Seat PairsNote) (es : List CellEntry) → FindsOnly s [] a → AllAllowed (PairsMay n) [] a.seen
-    → Answered n given a es t → Answered n given s es t
-found_first n given s a t es f all x =
-    let none : 0 + given ≡ given = omega arith in
-    subst (λ (k : ℕ). Answered n k s es t) none (Answered-trans n 0 given s a t [] es (found_answered n s a [] f all) x)
-
 pub answers_after : (n : HeapNumbers) (given turns : ℕ) (left right : Option ℕ) (s a t : Seat PairsNote) (r : Result (ℕ × ℕ) CellRefused) → FindsOnly s [] a
     → AllAllowed (PairsMay n) [] a.seen → PublishAnswers n given turns left right a r t → PublishAnswers n given turns left right s r t
 answers_after n given turns left right s a t (Ok now) f all x =
@@ -375,22 +388,7 @@ answers_after n given turns left right s a t (Err Again) f all x =
 
 -- with no turn nothing is done
 pub answers_none : (n : HeapNumbers) (turns : ℕ) (s : Seat PairsNote) → turns ≡ 0 → s.fresh ≡ None → AnswersAgain n 3 turns s s
-answers_none n turns s zero none = record {
-  answers = record {
-    answered = record {
-      piece = record {
-        own = [];
-        puts = record { part = []; is = sym (append-nil s.seen); agent = refl; own_is = refl };
-        entries_are = refl;
-        gives = omega arith;
-      };
-      slots = refl;
-      staging = λ root own. refl;
-    };
-    fresh = none;
-  };
-  moved = omega (arith, zero);
-}
+answers_none n turns s zero none = record { answers = record { answered = answered_none n 3 s; fresh = none }; moved = omega (arith, zero) }
 
 -- a test without a note
 pub tests_only : (at : At) (wanted : Want) (s t : Seat PairsNote) (done : Bool) → Tests at wanted None s done t → FindsOnly s [] t
@@ -407,10 +405,6 @@ pub tests_puts : (at : At) (wanted : Want) (s t : Seat PairsNote) (done : Bool) 
     → (own : List (Event PairsNote)) × Puts s own t × (1 ≤ length own)
 tests_puts at wanted s t true x = (_, Tests-found x refl, omega arith)
 tests_puts at wanted s t false x = let m = Tests-missed x refl in (_, m.puts, omega arith)
-
--- a call that did nothing
-pub only_none : (s : Seat PairsNote) → Only [] s s
-only_none s = record { slots = refl; fresh = refl; puts = record { part = []; is = sym (append-nil s.seen); agent = refl; own_is = refl } }
 
 -- the aims at the parts that are given, and then the turns
 pub given_turns : (n : HeapNumbers) (turns : ℕ) (left right : Option ℕ) (pair : Hold) (s b t : Seat PairsNote) (turn : PublishTurn) → Answered n 0 s [] b

@@ -24,7 +24,10 @@ use Rattle.orc_pairs_rule.proofs.Later.{holds_later, pair_later}
 use Rattle.orc_pairs_rule.specs.declared.pairs.PairsNote.{PairsNote}
 use Rattle.orc_pairs_rule.specs.CellHistory.{Parts}
 use Rattle.orc_pairs_rule.specs.PairsDiscipline.{HasPair, PairsMay, parts_of}
+use Rattle.orc_cell.specs.Publishes.{half_at}
 use Rattle.orc_cell.specs.Turns.{HoldsPart, IsPairOf, LeadsToPart}
+use Rattle.orc_cell.specs.declared.publish.Half.{Half}
+use Rattle.orc_cell.specs.declared.publish.Half.TheVariants.{Left, Right}
 use Rattle.orc_cell.proofs.Pieces.{Known, place_later}
 
 -- a look at a link of a pair finds its part
@@ -94,6 +97,11 @@ right_leads n es id two (left, right, parts, has) = record {
   value = parts.right;
   has = has.pair.right_part;
 }
+
+pub part_leads : (n : HeapNumbers) (es : List (Event PairsNote)) (id : ℕ) (half : Half) → n.links ≡ 2 → IsPairOf (run_heap n es) id
+    → LeadsToPart (run_heap n es) (half_at half id)
+part_leads n es id Left two pair = left_leads n es id pair
+part_leads n es id Right two pair = right_leads n es id two pair
 
 -- a look at root 0 found null, or a pair
 

@@ -18,7 +18,7 @@ use Rattle.orc_heap.specs.Seats.{IsUntouched, Seat, heap_of}
 use Rattle.orc_heap.specs.Slots.{Hold, id_in}
 use Rattle.orc_heap.specs.declared.links.Links.{Ghosts as LinksOf}
 use Rattle.orc_heap.specs.declared.events.Act.{Act}
-use Rattle.orc_heap.specs.declared.events.Act.TheVariants.{Aim, AimSide, Fill, Give, Look, Miss, Move}
+use Rattle.orc_heap.specs.declared.events.Act.TheVariants.{Move}
 use Rattle.orc_heap.specs.declared.events.Event.{Event}
 use Rattle.orc_heap.specs.declared.events.Link.{Link}
 use Rattle.orc_heap.specs.declared.events.Place.{Place}
@@ -48,30 +48,11 @@ linked_place h id place l (inl is) = subst (λ (x : Place). IsLinkedPlace x h) (
 linked_place h id place l (inr is) = subst (λ (x : Place). IsLinkedPlace x h) (sym is) l
 
 node_apart : (act : Act) (place : Place) (id : ℕ) → (place ≡ Next id) ⊎ (place ≡ Side id) → MovesRoot act → moves_place place act ≡ false
-node_apart act place id (inl is) m = subst (λ (x : Place). moves_place x act ≡ false) (sym is) (cases act m)
-  where
-    cases : (act : Act) → MovesRoot act → moves_place (Next id) act ≡ false
-    cases Give m = refl
-    cases (Fill i which value) m = refl
-    cases (Aim i to) m = refl
-    cases (AimSide i to) m = refl
-    cases (Look p link) m = refl
-    cases (Move (Root r) from to) m = refl
-    cases (Move (Next i) from to) m = absurd m
-    cases (Move (Side i) from to) m = absurd m
-    cases (Miss p wanted found) m = refl
-node_apart act place id (inr is) m = subst (λ (x : Place). moves_place x act ≡ false) (sym is) (cases act m)
-  where
-    cases : (act : Act) → MovesRoot act → moves_place (Side id) act ≡ false
-    cases Give m = refl
-    cases (Fill i which value) m = refl
-    cases (Aim i to) m = refl
-    cases (AimSide i to) m = refl
-    cases (Look p link) m = refl
-    cases (Move (Root r) from to) m = refl
-    cases (Move (Next i) from to) m = absurd m
-    cases (Move (Side i) from to) m = absurd m
-    cases (Miss p wanted found) m = refl
+node_apart (Move (Next i) from to) place id is m = absurd m
+node_apart (Move (Side i) from to) place id is m = absurd m
+node_apart (Move (Root r) from to) place id (inl is) m = subst (λ (x : Place). moves_place x (Move (Root r) from to) ≡ false) (sym is) refl
+node_apart (Move (Root r) from to) place id (inr is) m = subst (λ (x : Place). moves_place x (Move (Root r) from to) ≡ false) (sym is) refl
+node_apart act place id is m = refl
 
 -- what such a place shows never changes
 pub place_later : (n : HeapNumbers) (id : ℕ) (place : Place) (link : Link) (seen more : List (Event PairsNote)) → (place ≡ Next id) ⊎ (place ≡ Side id)
@@ -116,6 +97,10 @@ Finds-trans s t u xs ys p q = record {
 
 pub FindsOnly-trans : (s t u : Seat PairsNote) (xs ys : List CellEntry) → FindsOnly s xs t → FindsOnly t ys u → FindsOnly s (xs ++ ys) u
 FindsOnly-trans s t u xs ys p q = record { finds = Finds-trans s t u xs ys p.finds q.finds; slots = q.slots ∙ p.slots }
+
+-- a call that did nothing
+pub only_none : (s : Seat PairsNote) → Only [] s s
+only_none s = record { slots = refl; fresh = refl; puts = record { part = []; is = sym (append-nil s.seen); agent = refl; own_is = refl } }
 
 -- a call that makes no event
 pub finds_none : (s t : Seat PairsNote) → Only [] s t → FindsOnly s [] t

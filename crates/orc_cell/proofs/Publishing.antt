@@ -30,7 +30,7 @@ use Rattle.orc_cell.proofs.Others.{found_or_others, looks_differ_by_others, othe
 use Rattle.orc_cell.proofs.Pieces.{Known, pair_puts}
 use Rattle.orc_cell.proofs.Readying.{keeps_found, keeps_trans}
 use Rattle.orc_cell.proofs.Reading.{moved_more, null_seen, pair_seen}
-use Rattle.orc_cell.proofs.Staging.{Answered-trans, Piece-trans, finds_staging, finds_piece, found_answered, staging-trans}
+use Rattle.orc_cell.proofs.Staging.{Answered-trans, Piece-trans, answered_none, finds_staging, finds_piece, found_answered, staging-trans}
 use Rattle.orc_cell.proofs.Swinging.{published_later, side_kept}
 
 -- where a look found null, both parts are staged
@@ -183,20 +183,7 @@ from_slots n from left right pair a b (Worn why) x = x.answered.slots
 -- turns that are over
 
 pub published_none : (n : HeapNumbers) (s : Seat PairsNote) (pair : Hold) → HoldsFresh s pair → PublishOver n 0 pair s s
-published_none n s pair held = record {
-  answered = record {
-    piece = record {
-      own = [];
-      puts = record { part = []; is = sym (append-nil s.seen); agent = refl; own_is = refl };
-      entries_are = refl;
-      gives = omega arith;
-    };
-    slots = refl;
-    staging = λ root own. refl;
-  };
-  fresh = held;
-  moved = omega arith;
-}
+published_none n s pair held = record { answered = answered_none n 0 s; fresh = held; moved = omega arith }
 
 pub published_next_turn : (n : HeapNumbers) (k : ℕ) (pair : Hold) (s a t : Seat PairsNote) → PublishOver n k pair s a → PublishOver n 1 pair a t
     → PublishOver n (k + 1) pair s t

@@ -1,5 +1,5 @@
 -- Halves of a new pair that were aimed at parts that are given, and stay so.
-use Rattle.std.proofs.Common.{Err, List, None, Ok, Option, Result, Some, [], ap, append-nil, arith, refl, subst, sym, ℕ, ◌∙◌, ◌∷◌, ◌≡◌, ◌≢◌}
+use Rattle.std.proofs.Common.{Err, List, None, Ok, Option, Result, Some, [], ap, refl, subst, sym, ℕ, ◌*◌, ◌+◌, ◌∙◌, ◌∷◌, ◌≡◌, ◌≢◌}
 use Rattle.std.specs.List.{AllByRecursion, slice_get}
 use Rattle.std.specs.Prelude.{IfErr, IfOk}
 use Rattle.orc_fault.specs.declared.Spent.{Spent}
@@ -13,7 +13,7 @@ use Rattle.orc_heap.specs.Slots.{Hold, Holds, id_in}
 use Rattle.orc_heap.specs.declared.events.Event.{Event}
 use Rattle.orc_pairs_rule.specs.declared.pairs.PairsNote.{PairsNote}
 use Rattle.orc_pairs_rule.specs.PairsDiscipline.{PairsMay}
-use Rattle.orc_cell.specs.Publishes.{Aimed, AimsGiven, Answered, IsHalfReady, KeepsHalves, LeadsHalf, MakesReady, SideHeld, Staged, aim_act, given_of, half_link, other}
+use Rattle.orc_cell.specs.Publishes.{Aimed, AimsGiven, IsHalfReady, KeepsHalves, LeadsHalf, MakesReady, SideHeld, Staged, aim_act, given_for, given_of, half_link, other}
 use Rattle.orc_cell.specs.Turns.{IsFinding}
 use Rattle.orc_cell.specs.declared.publish.Half.{Half}
 use Rattle.orc_cell.specs.declared.publish.Half.TheVariants.{Left, Right}
@@ -21,26 +21,13 @@ use Rattle.orc_cell.specs.declared.publish.New.{New}
 use Rattle.orc_cell.specs.declared.publish.New.TheVariants.{Given, Kept, Zero}
 use Rattle.orc_cell.proofs.Aiming.{staged_aimed, staged_refused}
 use Rattle.orc_cell.proofs.Pieces.{Known}
-use Rattle.orc_cell.proofs.Staging.{own_found}
-
--- nothing was done
-pub answered_none : (n : HeapNumbers) (s : Seat PairsNote) → Answered n 0 s [] s
-answered_none n s = record {
-  piece = record {
-    own = [];
-    puts = record { part = []; is = sym (append-nil s.seen); agent = refl; own_is = refl };
-    entries_are = refl;
-    gives = omega arith;
-  };
-  slots = refl;
-  staging = λ root own. refl;
-}
+use Rattle.orc_cell.proofs.Staging.{answered_none, own_found}
 
 -- a half that was aimed at its part before
 pub ready_aimed : (n : HeapNumbers) (half : Half) (s : Seat PairsNote) (h pair : Hold) (root value : ℕ) → Staged n root value h s → HoldsFresh s pair
     → LeadsHalf n half pair (id_in s.slots h) s → Aimed n half pair (id_in s.slots h) value s s
 ready_aimed n half s h pair root value staged fresh l = record {
-  answered = answered_none n s;
+  answered = answered_none n 0 s;
   fresh = fresh;
   node = l.node;
   there = l.there;
@@ -93,7 +80,7 @@ given_aimed n half s t h pair root value (Err why) staged fresh known all untouc
 pub none_given : (n : HeapNumbers) (half : Half) (s : Seat PairsNote) (pair : Hold) (new : New) → HoldsFresh s pair
     → IsUntouched s.agent (heap_of n s) (id_in s.slots pair) → IsHalfReady n half pair new s → MakesReady n half pair new s s
 none_given n half s pair new fresh u ready = record {
-  answered = answered_none n s;
+  answered = answered_none n 0 s;
   fresh = fresh;
   node = u.node;
   there = u.there;
@@ -110,8 +97,7 @@ keeps_found n left right pair s a own p known all finding u same = record {
   node = u.node;
   there = subst (λ (i : ℕ). slice_get (heap_of n a).nodes i ≡ Some u.node) (sym same)
       (own_found n s a own (id_in s.slots pair) u.node p known all finding u u.there);
-  left_stays = λ some old there. ap (λ (z : Node). z.link) (some_same (sym u.there ∙ there));
-  right_stays = λ some old there. ap (λ (z : Node). z.side) (some_same (sym u.there ∙ there));
+  stays = λ half some old there. ap (half_link half) (some_same (sym u.there ∙ there));
 }
 
 pub keeps_trans : (n : HeapNumbers) (left right : Option ℕ) (pair : Hold) (s a t : Seat PairsNote) → KeepsHalves n left right pair s a
@@ -119,8 +105,7 @@ pub keeps_trans : (n : HeapNumbers) (left right : Option ℕ) (pair : Hold) (s a
 keeps_trans n left right pair s a t p q = record {
   node = q.node;
   there = q.there;
-  left_stays = λ some old there. q.left_stays some p.node p.there ∙ p.left_stays some old there;
-  right_stays = λ some old there. q.right_stays some p.node p.there ∙ p.right_stays some old there;
+  stays = λ half some old there. q.stays half some p.node p.there ∙ p.stays half some old there;
 }
 
 -- where nothing was done
@@ -129,42 +114,40 @@ pub keeps_none : (n : HeapNumbers) (left right : Option ℕ) (pair : Hold) (s : 
 keeps_none n left right pair s u = record {
   node = u.node;
   there = u.there;
-  left_stays = λ some old there. ap (λ (z : Node). z.link) (some_same (sym u.there ∙ there));
-  right_stays = λ some old there. ap (λ (z : Node). z.side) (some_same (sym u.there ∙ there));
+  stays = λ half some old there. ap (half_link half) (some_same (sym u.there ∙ there));
 }
 
 -- both halves were aimed, each that is given before
 pub aims_keep : (n : HeapNumbers) (left right : Option ℕ) (pair : Hold) (s a b : Seat PairsNote) (l r x y : ℕ) → Aimed n Left pair l x s a
     → Aimed n Right pair r y a b → (left ≢ None → a ≡ s) → (right ≢ None → b ≡ a) → KeepsHalves n left right pair s b
-aims_keep n left right pair s a b l r x y one two same_left same_right = record {
-  node = two.node;
-  there = two.there;
-  left_stays = λ some old there.
-      let at_s = subst (λ (z : Seat PairsNote). slice_get (heap_of n z).nodes (id_in z.slots pair) ≡ Some one.node) (same_left some) one.there in
-      two.keeps one.node one.there ∙ ap (λ (z : Node). z.link) (some_same (sym at_s ∙ there));
-  right_stays = λ some old there.
-      let at_a = subst (λ (z : Seat PairsNote). slice_get (heap_of n z).nodes (id_in z.slots pair) ≡ Some two.node) (same_right some) two.there in
-      ap (λ (z : Node). z.side) (some_same (sym at_a ∙ one.there)) ∙ one.keeps old there;
-}
+aims_keep n left right pair s a b l r x y one two same_left same_right = record { node = two.node; there = two.there; stays = by_half }
+  where
+    by_half : (half : Half) → given_for half left right ≢ None → (old : Node) → slice_get (heap_of n s).nodes (id_in s.slots pair) ≡ Some old
+        → half_link half two.node ≡ half_link half old
+    by_half Left some old there =
+        let at_s = subst (λ (z : Seat PairsNote). slice_get (heap_of n z).nodes (id_in z.slots pair) ≡ Some one.node) (same_left some) one.there in
+        two.keeps one.node one.there ∙ ap (λ (z : Node). z.link) (some_same (sym at_s ∙ there))
+    by_half Right some old there =
+        let at_a = subst (λ (z : Seat PairsNote). slice_get (heap_of n z).nodes (id_in z.slots pair) ≡ Some two.node) (same_right some) two.there in
+        ap (λ (z : Node). z.side) (some_same (sym at_a ∙ one.there)) ∙ one.keeps old there
 
--- so they stay ready
-
-pub left_ready : (n : HeapNumbers) (root : ℕ) (new : New) (right : Option ℕ) (pair : Hold) (s a : Seat PairsNote) → KeepsHalves n (given_of new) right pair s a
-    → ((h : Hold) → Holds s.slots h → id_in a.slots h ≡ id_in s.slots h) → SideHeld n root new s → IsHalfReady n Left pair new s → IsHalfReady n Left pair new a
-left_ready n root (Given v h) right pair s a k carries held l = record {
+-- so a half stays ready
+half_ready : (n : HeapNumbers) (half : Half) (root : ℕ) (new : New) (left right : Option ℕ) (pair : Hold) (s a : Seat PairsNote)
+    → given_for half left right ≡ given_of new → KeepsHalves n left right pair s a
+    → ((h : Hold) → Holds s.slots h → id_in a.slots h ≡ id_in s.slots h) → SideHeld n root new s → IsHalfReady n half pair new s → IsHalfReady n half pair new a
+half_ready n half root (Given v h) left right pair s a is k carries held l = record {
   node = k.node;
   there = k.there;
-  leads = k.left_stays (λ e. cc) l.node l.there ∙ (l.leads ∙ ap link_to (sym (carries h held.held)));
+  leads = k.stays half (λ e. cc) l.node l.there ∙ (l.leads ∙ ap link_to (sym (carries h held.held)));
 }
-left_ready n root (Zero h) right pair s a k carries held l = tt
-left_ready n root Kept right pair s a k carries held l = tt
+half_ready n half root (Zero h) left right pair s a is k carries held l = tt
+half_ready n half root Kept left right pair s a is k carries held l = tt
 
-pub right_ready : (n : HeapNumbers) (root : ℕ) (new : New) (left : Option ℕ) (pair : Hold) (s a : Seat PairsNote) → KeepsHalves n left (given_of new) pair s a
-    → ((h : Hold) → Holds s.slots h → id_in a.slots h ≡ id_in s.slots h) → SideHeld n root new s → IsHalfReady n Right pair new s → IsHalfReady n Right pair new a
-right_ready n root (Given v h) left pair s a k carries held l = record {
-  node = k.node;
-  there = k.there;
-  leads = k.right_stays (λ e. cc) l.node l.there ∙ (l.leads ∙ ap link_to (sym (carries h held.held)));
-}
-right_ready n root (Zero h) left pair s a k carries held l = tt
-right_ready n root Kept left pair s a k carries held l = tt
+-- and both do
+pub both_ready : (n : HeapNumbers) (left right : New) (pair : Hold) (s a : Seat PairsNote) → KeepsHalves n (given_of left) (given_of right) pair s a
+    → ((h : Hold) → Holds s.slots h → id_in a.slots h ≡ id_in s.slots h) → SideHeld n (1 + 2 * s.agent) left s → SideHeld n (2 + 2 * s.agent) right s
+    → IsHalfReady n Left pair left s × IsHalfReady n Right pair right s → IsHalfReady n Left pair left a × IsHalfReady n Right pair right a
+both_ready n left right pair s a k carries held_left held_right ready = (
+  half_ready n Left (1 + 2 * s.agent) left (given_of left) (given_of right) pair s a refl k carries held_left ready.0,
+  half_ready n Right (2 + 2 * s.agent) right (given_of left) (given_of right) pair s a refl k carries held_right ready.1,
+)

@@ -1,5 +1,5 @@
 -- A call and the settling after it, by the call's answer.
-use Rattle.std.proofs.Common.{Err, List, None, Ok, Option, Result, [], append-nil, arith, subst, ℕ, ◌<◌, ◌∙◌, ◌∷◌, ◌≡◌}
+use Rattle.std.proofs.Common.{Err, List, None, Ok, Option, Result, [], subst, ℕ, ◌<◌, ◌∙◌, ◌∷◌, ◌≡◌}
 use Rattle.std.specs.Prelude.{IfErr, IfOk, Some, length}
 use Rattle.orc_fault.specs.declared.Again.{Again as AgainFault}
 use Rattle.orc_heap.specs.Allowed.{AllAllowed}
@@ -24,27 +24,16 @@ use Rattle.orc_cell.proofs.Answering.{any_answered, moved_before}
 use Rattle.orc_cell.proofs.Journals.{call_adds, uses_turns}
 use Rattle.orc_heap.proofs.InJournal.{CallSeen}
 use Rattle.orc_cell.proofs.Pieces.{FindsOnly-trans, finds_none}
-use Rattle.orc_cell.proofs.Staging.{Answered-trans, finds_piece, found_answered}
+use Rattle.orc_cell.proofs.Staging.{answered_end, finds_piece, found_answered}
 
 -- a publish
 
 answers_settled : (n : HeapNumbers) (given : ℕ) (s t u : Seat PairsNote) (es : List CellEntry) → AnswersPiece n given s es t → Only [] t u
     → AllAllowed (PairsMay n) [] u.seen → AnswersPiece n given s es u
-answers_settled n given s t u es x o all =
-    let w = Answered-trans n given 0 s t u es [] x.answered (found_answered n t u [] (finds_none t u o) all) in
-    record {
-      answered = record {
-        piece = record {
-          own = w.piece.own;
-          puts = w.piece.puts;
-          entries_are = w.piece.entries_are ∙ append-nil es;
-          gives = omega (arith, w.piece.gives);
-        };
-        slots = w.slots;
-        staging = w.staging;
-      };
-      fresh = o.fresh ∙ x.fresh;
-    }
+answers_settled n given s t u es x o all = record {
+  answered = answered_end n given s t u es x.answered (found_answered n t u [] (finds_none t u o) all);
+  fresh = o.fresh ∙ x.fresh;
+}
 
 pub publish_settled : (n : HeapNumbers) (given turns : ℕ) (left right : Option ℕ) (s t u : Seat PairsNote) (r : Result (ℕ × ℕ) CellRefused)
     → PublishAnswers n given turns left right s r t → Only [] t u → AllAllowed (PairsMay n) [] u.seen → PublishAnswers n given turns left right s r u

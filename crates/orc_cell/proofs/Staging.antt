@@ -1,5 +1,5 @@
 -- Pieces of a publish, joined; and what they leave of the agent's fresh node and staging roots.
-use Rattle.std.proofs.Common.{Bool, List, Ok, Err, Result, Some, [], ap, append-nil, arith, false, length, refl, subst, sym, true, ℕ, ◌++◌, ◌+◌, ◌==◌, ◌∙◌, ◌∷◌, ◌≡◌}
+use Rattle.std.proofs.Common.{Bool, List, Ok, Err, Result, Some, [], ap, append-nil, arith, false, length, refl, subst, sym, true, ℕ, ◌++◌, ◌+◌, ◌==◌, ◌∙◌, ◌∷◌, ◌≡◌, ◌≤◌}
 use Rattle.std.proofs.lemmas.List.{length-append}
 use Rattle.std.specs.List.{AllByRecursion, list_any, slice_get}
 use Rattle.std.specs.Prelude.{IfErr, IfOk, ◌||◌}
@@ -22,8 +22,10 @@ use Rattle.orc_heap.specs.Moves.{give_with, gives_in, moves_place}
 use Rattle.orc_heap.specs.OwnEvents.{Puts}
 use Rattle.orc_heap.specs.Seats.{IsUntouched, Seat, heap_of}
 use Rattle.orc_heap.specs.declared.events.Act.{Act}
-use Rattle.orc_heap.specs.declared.events.Act.TheVariants.{Aim, AimSide, Fill, Give, Look, Miss, Move}
+use Rattle.orc_heap.specs.declared.events.Act.TheVariants.{Look, Miss}
 use Rattle.orc_heap.specs.declared.events.Event.{Event}
+use Rattle.orc_heap.specs.declared.events.Link.{Link}
+use Rattle.orc_heap.specs.declared.events.Place.{Place}
 use Rattle.orc_heap.specs.declared.events.Place.TheVariants.{Root}
 use Rattle.orc_heap.specs.declared.links.Links.{Ghosts as LinksOf}
 use Rattle.orc_history.specs.Journals.{Within}
@@ -35,13 +37,15 @@ use Rattle.orc_pairs_rule.specs.PairsDiscipline.{IsStaging, PairsHolds, PairsMay
 use Rattle.orc_pairs_rule.specs.Laws.Kept.{pairs_keeps, pairs_moves_linked}
 use Rattle.orc_cell.specs.Publishes.{Answered, KeepsStaging, Piece}
 use Rattle.orc_cell.specs.Turns.{OnlyLooks, FindsOnly, IsFinding}
-use Rattle.orc_cell.proofs.Pieces.{Known}
+use Rattle.orc_cell.proofs.Pieces.{Known, only_none}
 
 -- a cause that stands in a call's part stands within what is new
-pub err_within : {A E S : Type 0} (agent_of : S → ℕ) (agent : ℕ) (j k : List S) (r : Result A E) (Fact : E → ℕ → ℕ → Type 0) → IsPrefix j k
-    → IfErr r (λ e. InPart agent_of agent j k (Fact e)) → IfErr r (λ e. Within (length j) (length k) (Fact e))
-err_within agent_of agent j k (Ok x) Fact grows c = tt
-err_within agent_of agent j k (Err e) Fact grows c = part_within agent_of agent j k k (Fact e) grows ([], append-nil k) c
+pub err_within : {L D P S N A E : Type 0} (m : LinksOf L D P S N) (links : L) (p q : P) (r : Result A E) (Fact : E → ℕ → ℕ → Type 0)
+    → IsPrefix (m.journal p) (m.journal q) → IfErr r (λ e. InPart m.agent_of (m.seat links p).agent (m.journal p) (m.journal q) (Fact e))
+    → IfErr r (λ e. Within (length (m.journal p)) (length (m.journal q)) (Fact e))
+err_within m links p q (Ok x) Fact grows c = tt
+err_within m links p q (Err e) Fact grows c =
+    part_within m.agent_of (m.seat links p).agent (m.journal p) (m.journal q) (m.journal q) (Fact e) grows ([], append-nil (m.journal q)) c
 
 -- pieces
 
@@ -87,65 +91,69 @@ root_kept n s t own root p all staging none =
 none_or : (a b : Bool) → a ≡ false → b ≡ false → (a || b) ≡ false
 none_or a b e f = rw (e, f) refl
 
+-- an act that finds a link is a Look or a Miss
+by_finding : (P : Act → Type 0) → ((place : Place) (link : Link) → P (Look place link))
+    → ((place : Place) (wanted found : Link) → P (Miss place wanted found)) → (act : Act) → IsFinding act → P act
+by_finding P look miss (Look place link) x = look place link
+by_finding P look miss (Miss place wanted found) x = miss place wanted found
+by_finding P look miss act x = absurd x
+
 finding_gives : (es : List (Event PairsNote)) → AllByRecursion (λ (e : Event PairsNote). IsFinding e.act) es → gives_in es ≡ 0
 finding_gives [] f = refl
-finding_gives (e ∷ es) f = cases e.act f.0 (finding_gives es f.1)
-  where
-    cases : (act : Act) → IsFinding act → gives_in es ≡ 0 → give_with act + gives_in es ≡ 0
-    cases (Look place link) x k = omega (arith, k)
-    cases (Miss place wanted found) x k = omega (arith, k)
-    cases Give x k = absurd x
-    cases (Fill id which value) x k = absurd x
-    cases (Aim id to) x k = absurd x
-    cases (AimSide id to) x k = absurd x
-    cases (Move place from to) x k = absurd x
+finding_gives (e ∷ es) f =
+    let k = finding_gives es f.1 in
+    by_finding (λ act. give_with act + gives_in es ≡ 0) (λ place link. omega (arith, k)) (λ place wanted found. omega (arith, k)) e.act f.0
 
 finding_moves : (root : ℕ) (es : List (Event PairsNote)) → AllByRecursion (λ (e : Event PairsNote). IsFinding e.act) es
     → list_any (λ e. moves_place (Root root) e.act) es ≡ false
 finding_moves root [] f = refl
-finding_moves root (e ∷ es) f = none_or _ _ (cases e.act f.0) (finding_moves root es f.1)
-  where
-    cases : (act : Act) → IsFinding act → moves_place (Root root) act ≡ false
-    cases (Look place link) x = refl
-    cases (Miss place wanted found) x = refl
-    cases Give x = absurd x
-    cases (Fill id which value) x = absurd x
-    cases (Aim id to) x = absurd x
-    cases (AimSide id to) x = absurd x
-    cases (Move place from to) x = absurd x
+finding_moves root (e ∷ es) f =
+    none_or _ _ (by_finding (λ act. moves_place (Root root) act ≡ false) (λ place link. refl) (λ place wanted found. refl) e.act f.0)
+    (finding_moves root es f.1)
 
 finding_points : (id : ℕ) (es : List (Event PairsNote)) → AllByRecursion (λ (e : Event PairsNote). IsFinding e.act) es
     → list_any (λ e. points_to e.act id) es ≡ false
 finding_points id [] f = refl
-finding_points id (e ∷ es) f = none_or _ _ (cases e.act f.0) (finding_points id es f.1)
-  where
-    cases : (act : Act) → IsFinding act → points_to act id ≡ false
-    cases (Look place link) x = refl
-    cases (Miss place wanted found) x = refl
-    cases Give x = absurd x
-    cases (Fill i which value) x = absurd x
-    cases (Aim i to) x = absurd x
-    cases (AimSide i to) x = absurd x
-    cases (Move place from to) x = absurd x
+finding_points id (e ∷ es) f =
+    none_or _ _ (by_finding (λ act. points_to act id ≡ false) (λ place link. refl) (λ place wanted found. refl) e.act f.0) (finding_points id es f.1)
 
 finding_touches : (id : ℕ) (es : List (Event PairsNote)) (x : Node) → AllByRecursion (λ (e : Event PairsNote). IsFinding e.act) es → touched_by id es x ≡ x
 finding_touches id [] x f = refl
-finding_touches id (e ∷ es) x f = ap (touched_by id es) (cases e.act f.0) ∙ finding_touches id es x f.1
-  where
-    cases : (act : Act) → IsFinding act → touched act id x ≡ x
-    cases (Look place link) y = refl
-    cases (Miss place wanted found) y = refl
-    cases Give y = absurd y
-    cases (Fill i which value) y = absurd y
-    cases (Aim i to) y = absurd y
-    cases (AimSide i to) y = absurd y
-    cases (Move place from to) y = absurd y
+finding_touches id (e ∷ es) x f =
+    ap (touched_by id es) (by_finding (λ act. touched act id x ≡ x) (λ place link. refl) (λ place wanted found. refl) e.act f.0)
+    ∙ finding_touches id es x f.1
 
 pub finds_piece : (s t : Seat PairsNote) (es : List CellEntry) → OnlyLooks s es t → Piece 0 s es t
 finds_piece s t es f = record { own = f.own; puts = f.puts; entries_are = f.entries_are; gives = omega (arith, finding_gives f.own f.finding) }
 
 pub finds_staging : (n : HeapNumbers) (s t : Seat PairsNote) (es : List CellEntry) → OnlyLooks s es t → AllAllowed (PairsMay n) [] t.seen → KeepsStaging n s t
 finds_staging n s t es f all = λ root own. root_kept n s t f.own root f.puts all own (finding_moves root f.own f.finding)
+
+-- nothing was done
+pub answered_none : (n : HeapNumbers) (most : ℕ) (s : Seat PairsNote) → Answered n most s [] s
+answered_none n most s = record {
+  piece = record { own = []; puts = (only_none s).puts; entries_are = refl; gives = omega arith };
+  slots = refl;
+  staging = λ root own. refl;
+}
+
+-- at most more nodes
+pub answered_more : (n : HeapNumbers) (g most : ℕ) (s t : Seat PairsNote) (es : List CellEntry) → g ≤ most → Answered n g s es t → Answered n most s es t
+answered_more n g most s t es some x = record {
+  piece = record { own = x.piece.own; puts = x.piece.puts; entries_are = x.piece.entries_are; gives = omega (arith, x.piece.gives, some) };
+  slots = x.slots;
+  staging = x.staging;
+}
+
+-- the last piece entered nothing
+pub answered_end : (n : HeapNumbers) (g : ℕ) (s a t : Seat PairsNote) (es : List CellEntry) → Answered n g s es a → Answered n 0 a [] t → Answered n g s es t
+answered_end n g s a t es p q =
+    let w = Answered-trans n g 0 s a t es [] p q in
+    record {
+      piece = record { own = w.piece.own; puts = w.piece.puts; entries_are = w.piece.entries_are ∙ append-nil es; gives = omega (arith, w.piece.gives) };
+      slots = w.slots;
+      staging = w.staging;
+    }
 
 pub found_answered : (n : HeapNumbers) (s t : Seat PairsNote) (es : List CellEntry) → FindsOnly s es t → AllAllowed (PairsMay n) [] t.seen → Answered n 0 s es t
 found_answered n s t es f all = record { piece = finds_piece s t es f.finds; slots = f.slots; staging = finds_staging n s t es f.finds all }

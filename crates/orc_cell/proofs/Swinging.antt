@@ -19,7 +19,10 @@ use Rattle.orc_heap.specs.Calls.{Misses, event_of, links_made, unless_node}
 use Rattle.orc_heap.specs.Heap.{Heap, HeapNumbers, Node, link_to, null, shown}
 use Rattle.orc_heap.specs.Journals.{IsLawful, is_once_named, points_to, run_heap}
 use Rattle.orc_heap.specs.OwnEvents.{Puts}
-use Rattle.orc_heap.specs.Seats.{IsUntouched, Seat, heap_of}
+use Rattle.std.specs.Borrow.{Bor}
+use Rattle.orc_heap.specs.Seats.{HoldsWant, IsUntouched, Seat, heap_of, link_in}
+use Rattle.orc_heap.specs.declared.holds.Want.{Want}
+use Rattle.orc_heap.specs.declared.holds.Want.TheVariants.{Node as WantNode, Null as WantNull}
 use Rattle.orc_heap.specs.Slots.{Hold, Holds, Slots, id_in}
 use Rattle.orc_heap.specs.declared.events.Act.TheVariants.{Move}
 use Rattle.orc_heap.specs.declared.events.Event.{Event}
@@ -34,8 +37,9 @@ use Rattle.orc_pairs_rule.specs.declared.pairs.PairsNote.TheVariants.{Entry}
 use Rattle.orc_pairs_rule.specs.Laws.Shown.{not_root_0, roots_kept}
 use Rattle.orc_pairs_rule.specs.PairsDiscipline.{HasPart, IsStaging, PairsMay}
 use Rattle.orc_pairs_rule.specs.Watches.{MayFollow, IsKept, IsOwnPair}
-use Rattle.orc_cell.specs.Publishes.{Aimed, Answered, IsFirst, IsNewPart, IsPublished, KeepsStaging, MayPublish, NotAimed, PublishDone, PublishMissed, PublishSpent, SideHeld, SwingsPair, given_of}
+use Rattle.orc_cell.specs.Publishes.{Aimed, Answered, ComesAfter, HasStaged, IsFirst, IsNewPart, IsPartOf, IsPublished, KeepsStaging, MayPublish, NotAimed, PublishDone, PublishMissed, PublishSpent, SideHeld, SwingsPair, given_of}
 use Rattle.orc_cell.specs.Turns.{IsPairOf, others_moves}
+use Rattle.orc_cell.specs.declared.publish.Half.{Half}
 use Rattle.orc_cell.specs.declared.publish.Half.TheVariants.{Left, Right}
 use Rattle.orc_cell.specs.declared.publish.New.{New}
 use Rattle.orc_cell.specs.declared.publish.New.TheVariants.{Given, Kept, Zero}
@@ -100,7 +104,7 @@ module _ (n : HeapNumbers) (s a b : Seat PairsNote) (pair : Hold) (l r x y : ℕ
     module _ (t : Seat PairsNote) (from : Link) (given_left given_right : Option ℕ) (done : Bool)
         (w : SwingsPair from (id_in b.slots pair) given_left given_right x y b done t) (all_t : AllAllowed (PairsMay n) [] t.seen)
       where
-        pub was_published : done ≡ true → PublishDone n given_left given_right x y s t
+        was_published : done ≡ true → PublishDone n given_left given_right x y s t
         was_published is =
             let e : Event PairsNote =
             event_of b (Move (Root 0) from (link_to (id_in b.slots pair))) (Some (Entry (Published b.agent given_left given_right x y))) in
@@ -120,7 +124,7 @@ module _ (n : HeapNumbers) (s a b : Seat PairsNote) (pair : Hold) (l r x y : ℕ
               fresh = w.fresh ∙ ap (λ (v : Bool). if v then None else b.fresh) is;
             }
 
-        pub was_missed : done ≡ false → (given_left ≢ None → a ≡ s) → (given_right ≢ None → b ≡ a) → PublishMissed n from given_left given_right pair s t
+        was_missed : done ≡ false → (given_left ≢ None → a ≡ s) → (given_right ≢ None → b ≡ a) → PublishMissed n from given_left given_right pair s t
         was_missed is same_left same_right =
             let e : Event PairsNote =
             event_of b (Move (Root 0) from (link_to (id_in b.slots pair))) (Some (Entry (Published b.agent given_left given_right x y))) in
@@ -155,6 +159,11 @@ module _ (n : HeapNumbers) (s a b : Seat PairsNote) (pair : Hold) (l r x y : ℕ
                   ];
             }
 
+        -- by the swing's answer
+        pub swung_turn : (given_left ≢ None → a ≡ s) → (given_right ≢ None → b ≡ a) → (done ≡ true → PublishDone n given_left given_right x y s t)
+            × (done ≡ false → PublishMissed n from given_left given_right pair s t)
+        swung_turn same_left same_right = (λ is. was_published is, λ is. was_missed is same_left same_right)
+
 pub spent_right : (n : HeapNumbers) (s a b : Seat PairsNote) (pair : Hold) (l x : ℕ) → Aimed n Left pair l x s a → NotAimed n pair a b → PublishSpent n pair s b
 spent_right n s a b pair l x left right = record { answered = Answered-trans n 0 0 s a b [] [] left.answered right.answered; fresh = right.fresh }
 
@@ -165,7 +174,7 @@ first_value (Given given h) id value is = sym is
 first_value (Zero h) id value is = sym is
 first_value Kept id value is = absurd is
 
-pub follows_null : (h : Heap) (left right : New) (l r x y : ℕ) → IsFirst left l x → IsFirst right r y
+follows_null : (h : Heap) (left right : New) (l r x y : ℕ) → IsFirst left l x → IsFirst right r y
     → MayFollow h (given_of left) (given_of right) null l r (record { left = x; right = y })
 follows_null h left right l r x y one other =
     inl (
@@ -187,7 +196,7 @@ kept_part n s b Kept place old was id value at p q is =
     let same : old ≡ id = link_same old id (some_same (sym at ∙ is)) in
     (one_part (heap_of n b) id was value (subst (λ (i : ℕ). HasPart (heap_of n b) i was) same p) q, sym same)
 
-pub follows_pair : (n : HeapNumbers) (s a b : Seat PairsNote) (pair : Hold) (left right : New) (old l r x y : ℕ) → n.links ≡ 2 → IsPairOf (heap_of n s) old
+follows_pair : (n : HeapNumbers) (s a b : Seat PairsNote) (pair : Hold) (left right : New) (old l r x y : ℕ) → n.links ≡ 2 → IsPairOf (heap_of n s) old
     → Aimed n Left pair l x s a → Aimed n Right pair r y a b → AllAllowed (PairsMay n) [] a.seen → AllAllowed (PairsMay n) [] b.seen
     → IsNewPart (heap_of n s) (Next old) left l x → IsNewPart (heap_of n a) (Side old) right r y
     → MayFollow (heap_of n b) (given_of left) (given_of right) (link_to old) l r (record { left = x; right = y })
@@ -210,6 +219,21 @@ follows_pair n s a b pair left right old l r x y two (l0, r0, was, has) one seco
       keeps_left = lk.1;
       keeps_right = rk.1;
     })
+
+-- a pair after what the link leads to
+pub follows_from : (n : HeapNumbers) (s a b : Seat PairsNote) (pair : Hold) (from : Want) (left right : New) (l r x y : ℕ) → n.links ≡ 2
+    → ComesAfter n from s left → Aimed n Left pair l x s a → Aimed n Right pair r y a b → AllAllowed (PairsMay n) [] a.seen → AllAllowed (PairsMay n) [] b.seen
+    → IsPartOf n Left from s left l x → IsPartOf n Right from a right r y
+    → MayFollow (heap_of n b) (given_of left) (given_of right) (link_in b.slots from) l r (record { left = x; right = y })
+follows_from n s a b pair (WantNull false) left right l r x y two f one second all_a all_b is_left is_right =
+    follows_null (heap_of n b) left right l r x y is_left is_right
+follows_from n s a b pair (WantNode h false) left right l r x y two f one second all_a all_b is_left is_right =
+    let place = subst (λ (z : Slots). IsNewPart (heap_of n a) (Side (id_in z h.now)) right r y) one.answered.slots is_right in
+    let at_s = follows_pair n s a b pair left right (id_in s.slots h.now) l r x y two f.1 one second all_a all_b is_left place in
+    subst (λ (z : Slots). MayFollow (heap_of n b) (given_of left) (given_of right) (link_to (id_in z h.now)) l r (record { left = x; right = y }))
+    (sym (second.answered.slots ∙ one.answered.slots)) at_s
+follows_from n s a b pair (WantNull true) left right l r x y two f one second all_a all_b is_left is_right = absurd f
+follows_from n s a b pair (WantNode h true) left right l r x y two f one second all_a all_b is_left is_right = absurd f
 
 -- once a pair was published, root 0 names one
 published_next : (n : HeapNumbers) (es : List (Event PairsNote)) (e : Event PairsNote) → IsPublished (run_heap n es) → PairsMay n es e
@@ -279,9 +303,44 @@ pub swung_fresh : (fresh : Option ℕ) (id : ℕ) (done : Bool) → fresh ≡ So
 swung_fresh fresh id done is = ap (λ (o : Option ℕ). if done then o else fresh) (ap (λ (o : Option ℕ). unless_node o (Some id)) is ∙ unless_same id)
 
 -- the pair before stays one
-pub before_kept : (n : HeapNumbers) (s a : Seat PairsNote) (old : ℕ) (es : List CellEntry) → Answered n 0 s es a → AllAllowed (PairsMay n) [] a.seen
+before_kept : (n : HeapNumbers) (s a : Seat PairsNote) (old : ℕ) (es : List CellEntry) → Answered n 0 s es a → AllAllowed (PairsMay n) [] a.seen
     → IsPairOf (heap_of n s) old → IsPairOf (heap_of n a) old
 before_kept n s a old es x all (l, r, parts, has) = (l, r, parts, pair_puts n s a x.piece.own x.piece.puts all old l r parts has)
+
+-- so what a pair is to follow stays, after the other half was aimed
+pub follows_kept : (n : HeapNumbers) (s a : Seat PairsNote) (from : Want) (new : New) (es : List CellEntry) → Answered n 0 s es a
+    → AllAllowed (PairsMay n) [] a.seen → ComesAfter n from s new → ComesAfter n from a new
+follows_kept n s a (WantNull false) new es x all f = f
+follows_kept n s a (WantNode h false) new es x all f = (
+  subst (λ (z : Slots). Holds z h.now) (sym x.slots) f.0,
+  subst (λ (z : Slots). IsPairOf (heap_of n a) (id_in z h.now)) (sym x.slots) (before_kept n s a (id_in s.slots h.now) es x all f.1),
+)
+follows_kept n s a (WantNull true) new es x all f = absurd f
+follows_kept n s a (WantNode h true) new es x all f = absurd f
+
+-- the link's target is held
+pub follows_held : (n : HeapNumbers) (s : Seat PairsNote) (from : Want) (new : New) → ComesAfter n from s new → HoldsWant s.slots from
+follows_held n s (WantNull false) new f = tt
+follows_held n s (WantNode h false) new f = f.0
+follows_held n s (WantNull true) new f = absurd f
+follows_held n s (WantNode h true) new f = absurd f
+
+-- a link to a node leads to a pair
+pub follows_node : (n : HeapNumbers) (s : Seat PairsNote) (h : Bor Hold) (mark : Bool) (new : New) → ComesAfter n (WantNode h mark) s new
+    → Holds s.slots h.now × IsPairOf (heap_of n s) (id_in s.slots h.now)
+follows_node n s h false new f = f
+follows_node n s h true new f = absurd f
+
+-- behind a null link the part is staged
+pub follows_staged : (n : HeapNumbers) (s : Seat PairsNote) (mark : Bool) (new : New) → ComesAfter n (WantNull mark) s new → HasStaged new
+follows_staged n s false new f = f
+follows_staged n s true new f = absurd f
+
+-- a part that is given
+pub given_part : (n : HeapNumbers) (half : Half) (from : Want) (s : Seat PairsNote) (value : ℕ) (h : Hold) (id : ℕ)
+    → IsPartOf n half from s (Given value h) id value
+given_part n half (WantNull mark) s value h id = refl
+given_part n half (WantNode k mark) s value h id = refl
 
 -- a staged part, after the other half was aimed
 pub right_kept : (n : HeapNumbers) (s a : Seat PairsNote) (right : New) (es : List CellEntry) → Answered n 0 s es a → AllAllowed (PairsMay n) [] a.seen

@@ -1,5 +1,5 @@
 -- What the turns of a publish do.
-use Rattle.std.specs.Prelude.{Bool, List, MatchBool, None, Option, Result, Ok, Err, Some, [], if◌then◌else◌, slice_get, slice_set, ℕ, ◌*◌, ◌+◌, ◌∷◌, ◌≡◌, ◌≢◌, ◌≤◌}
+use Rattle.std.specs.Prelude.{Bool, List, MatchBool, None, Option, Result, Ok, Err, Some, [], false, if◌then◌else◌, slice_get, slice_set, ℕ, ◌*◌, ◌+◌, ◌∷◌, ◌≡◌, ◌≢◌, ◌≤◌}
 use Rattle.orc_fault.specs.declared.Spent.{Spent}
 use Rattle.orc_heap.specs.Allowed.{AllowedLater}
 use Rattle.orc_heap.proofs.Pieces.{InSlot}
@@ -22,7 +22,7 @@ use Rattle.orc_pairs_rule.specs.declared.entry.CellEntry.TheVariants.{Published}
 use Rattle.orc_pairs_rule.specs.declared.pairs.PairsNote.{PairsNote}
 use Rattle.orc_pairs_rule.specs.declared.pairs.PairsNote.TheVariants.{Entry}
 use Rattle.orc_pairs_rule.specs.PairsDiscipline.{HasPart, IsStaging, PairsMay, entries_of}
-use Rattle.orc_cell.specs.Turns.{others_moves}
+use Rattle.orc_cell.specs.Turns.{IsPairOf, others_moves}
 use Rattle.orc_cell.specs.declared.publish.Half.{Half}
 use Rattle.orc_cell.specs.declared.publish.Half.TheVariants.{Left, Right}
 use Rattle.orc_cell.specs.declared.publish.New.{New}
@@ -48,6 +48,11 @@ half_link Right node = node.side
 abbrev pub other : Half → Half
 other Left = Right
 other Right = Left
+
+-- what is given for that half
+abbrev pub given_for : Half → Option ℕ → Option ℕ → Option ℕ
+given_for Left left right = left
+given_for Right left right = right
 
 -- the agent's staging roots
 abbrev pub staging_root : Half → ℕ → ℕ
@@ -151,8 +156,8 @@ AimsGiven n half pair new s (Err why) t = NotAimed n pair s t
 pub record KeepsHalves (n : HeapNumbers) (left right : Option ℕ) (pair : Hold) (s t : Seat PairsNote) : Type 0 where
   pub node : Node
   pub there : slice_get (heap_of n t).nodes (id_in t.slots pair) ≡ Some node
-  pub left_stays : left ≢ None → (old : Node) → slice_get (heap_of n s).nodes (id_in s.slots pair) ≡ Some old → node.link ≡ old.link
-  pub right_stays : right ≢ None → (old : Node) → slice_get (heap_of n s).nodes (id_in s.slots pair) ≡ Some old → node.side ≡ old.side
+  pub stays : (half : Half) → given_for half left right ≢ None → (old : Node) → slice_get (heap_of n s).nodes (id_in s.slots pair) ≡ Some old
+      → half_link half node ≡ half_link half old
 
 -- a new part beside the pair before: it is given, or what that pair's place shows
 abbrev pub IsNewPart : Heap → Place → New → ℕ → ℕ → Type 0
@@ -165,6 +170,17 @@ abbrev pub IsFirst : New → ℕ → ℕ → Type 0
 IsFirst (Given given held) id value = value ≡ given
 IsFirst (Zero held) id value = value ≡ 0
 IsFirst Kept id value = ⊥
+
+-- one part of a pair that follows what this link leads to
+abbrev pub IsPartOf : HeapNumbers → Half → Want → Seat PairsNote → New → ℕ → ℕ → Type 0
+IsPartOf n half (WantNull mark) s new id value = IsFirst new id value
+IsPartOf n half (WantNode h mark) s new id value = IsNewPart (heap_of n s) (half_at half (id_in s.slots h.now)) new id value
+
+-- the link leads to a pair that is held; or it is null, and the part is staged
+abbrev pub ComesAfter : HeapNumbers → Want → Seat PairsNote → New → Type 0
+ComesAfter n (WantNull false) s new = HasStaged new
+ComesAfter n (WantNode h false) s new = Holds s.slots h.now × IsPairOf (heap_of n s) (id_in s.slots h.now)
+ComesAfter n link s new = ⊥
 
 -- a Published of these parts, wherever root 0 shows the link
 abbrev pub MayPublish : HeapNumbers → Seat PairsNote → Link → ℕ → Option ℕ → Option ℕ → ℕ → ℕ → Type 0

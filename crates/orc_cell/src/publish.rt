@@ -2,17 +2,17 @@
 
 ghost use Rattle.std.specs.Prelude.{◌≡◌, ◌≢◌, ◌<◌, ℕ, [], ◌∷◌, Some, None, IfOk, IfErr, length};
 ghost use mathlib.Core.List.{IsPrefix};
-ghost use Rattle.orc_heap.specs.Calls.{IsWorn, Swings, event_of};
-ghost use Rattle.orc_heap.specs.Heap.{link_to, null, shown};
+ghost use Rattle.orc_heap.specs.Calls.{event_of};
+ghost use Rattle.orc_heap.specs.Heap.{link_to, shown};
 ghost use Rattle.orc_heap.specs.OwnEvents.{Only};
-ghost use Rattle.orc_heap.specs.Seats.{HoldsFresh, HoldsPlace, HoldsWant, heap_of, link_in, place_in};
-ghost use Rattle.orc_heap.specs.Slots.{Hold, Holds, IsFree, id_in};
+ghost use Rattle.orc_heap.specs.Seats.{HoldsFresh, HoldsWant, heap_of, link_in};
+ghost use Rattle.orc_heap.specs.Slots.{Holds, IsFree, id_in};
 ghost use Rattle.orc_history.specs.Journals.{Within};
-ghost use Rattle.orc_cell.specs.Publishes.{Aims, AimsGiven, HasStaged, IsFirst, IsNewPart, IsHalfReady, MayPublish, NotFresh, PublishesFrom, PublishesGiven, PublishesTurns, SideHeld, Staged, SwingsPair, aim_act, given_of, half_at, staging_root};
+ghost use Rattle.orc_cell.specs.Publishes.{Aims, AimsGiven, ComesAfter, IsHalfReady, IsPartOf, MayPublish, NotFresh, PublishesFrom, PublishesGiven, PublishesTurns, SideHeld, Staged, SwingsPair, aim_act, given_of, half_at, staging_root};
 ghost use Rattle.orc_fault.specs.declared.Spent.{Spent as SpentRow};
 ghost use Rattle.orc_cell.specs.declared.publish.Half.{Half};
 ghost use Rattle.orc_cell.specs.declared.publish.PublishTurn.{PublishTurn};
-ghost use Rattle.orc_cell.specs.Turns.{IsCellDomain, IsPairOf, LeadsToPart};
+ghost use Rattle.orc_cell.specs.Turns.{HoldsPart, IsCellDomain, IsPairOf};
 
 use crate::read::{PAIR, hold_part};
 use orc_fault::Spent;
@@ -74,28 +74,53 @@ fn aim_half<L: Links<Rule = Pairs>>(
     }
 }
 
+// Holds the part to which one half of a pair leads.
+fn hold_half<L: Links<Rule = Pairs>>(
+    links: &L,
+    p: &mut L::Pass,
+    half: Half,
+    pair: &Held,
+    slot: u32,
+) -> Held
+    requires pass { L.belongs links.now p.old }
+    requires two { (L.numbers links.now).links ≡ 2 }
+    requires held { Holds (L.seat links.now p.old).slots pair.now }
+    requires slot { IsFree (L.seat links.now p.old).slots slot }
+    requires pair { IsPairOf (heap_of (L.numbers links.now) (L.seat links.now p.old)) (id_in (L.seat links.now p.old).slots pair.now) }
+    ensures pass { L.belongs links.now p.new }
+    ensures later { IsPrefix (L.journal p.old) (L.journal p.new) }
+    ensures held { HoldsPart (L.numbers links.now) (half_at half (id_in (L.seat links.now p.old).slots pair.now)) slot (L.seat links.now p.old) result
+        (L.seat links.now p.new) }
+    ensures holds { Holds (L.seat links.now p.new).slots result }
+{
+    match half {
+        Half::Left => hold_part(links, p, &At::Node(pair), slot),
+        Half::Right => hold_part(links, p, &At::Side(pair), slot),
+    }
+}
+
 // Aims one half of the new pair at the part of the pair before.
 fn aim_kept<L: Links<Rule = Pairs>>(
     links: &L,
     p: &mut L::Pass,
     half: Half,
     pair: &Held,
-    place: &At,
+    old: &Held,
 ) -> Result<u64, Spent>
     requires pass { L.belongs links.now p.old }
     requires made { IsCellDomain (L.numbers links.now) (L.agents links.now) (L.opening links.now) }
     requires fresh { HoldsFresh (L.seat links.now p.old) pair.now }
-    requires place { HoldsPlace (L.numbers links.now) (L.seat links.now p.old).slots place.now }
+    requires old { Holds (L.seat links.now p.old).slots old.now }
     requires slot { IsFree (L.seat links.now p.old).slots 5 }
-    requires leads { LeadsToPart (heap_of (L.numbers links.now) (L.seat links.now p.old)) (place_in (L.seat links.now p.old).slots place.now) }
+    requires before { IsPairOf (heap_of (L.numbers links.now) (L.seat links.now p.old)) (id_in (L.seat links.now p.old).slots old.now) }
     ensures pass { L.belongs links.now p.new }
     ensures later { IsPrefix (L.journal p.old) (L.journal p.new) }
     ensures aimed { Aims (L.numbers links.now) half pair.now (λ id value. shown (heap_of (L.numbers links.now) (L.seat links.now p.old))
-        (place_in (L.seat links.now p.old).slots place.now) ≡ Some (link_to id)) (L.seat links.now p.old) result (L.seat links.now p.new) }
+        (half_at half (id_in (L.seat links.now p.old).slots old.now)) ≡ Some (link_to id)) (L.seat links.now p.old) result (L.seat links.now p.new) }
     ensures worn { IfErr result (λ e. Within (length (L.journal p.old)) (length (L.journal p.new))
         (L.worn links.now (L.seat links.now p.old).agent e (L.journal p.new))) }
 {
-    let part = hold_part(links, p, place, 5);
+    let part = hold_half(links, p, half, old, 5);
     let value = links.value(p, &part, 0);
     let aimed = aim_half(links, p, half, pair, &part);
     links.release(p, part);
@@ -155,63 +180,40 @@ fn aim_given<L: Links<Rule = Pairs>>(
     }
 }
 
-// Aims one half of a pair that follows another; a part that is given was aimed at before.
-fn aim_next<L: Links<Rule = Pairs>>(
+// Aims one half of a pair that is to follow what this link leads to. A part that is given was aimed at before.
+fn aim_part<L: Links<Rule = Pairs>>(
     links: &L,
     p: &mut L::Pass,
     half: Half,
     pair: &Held,
     new: &New,
-    place: &At,
+    from: &Want,
 ) -> Result<u64, Spent>
     requires pass { L.belongs links.now p.old }
     requires made { IsCellDomain (L.numbers links.now) (L.agents links.now) (L.opening links.now) }
     requires fresh { HoldsFresh (L.seat links.now p.old) pair.now }
     requires new { SideHeld (L.numbers links.now) (staging_root half (L.seat links.now p.old).agent) new.now (L.seat links.now p.old) }
     requires ready { IsHalfReady (L.numbers links.now) half pair.now new.now (L.seat links.now p.old) }
-    requires place { HoldsPlace (L.numbers links.now) (L.seat links.now p.old).slots place.now }
+    requires follows { ComesAfter (L.numbers links.now) from.now (L.seat links.now p.old) new.now }
     requires slot { IsFree (L.seat links.now p.old).slots 5 }
-    requires leads { LeadsToPart (heap_of (L.numbers links.now) (L.seat links.now p.old)) (place_in (L.seat links.now p.old).slots place.now) }
     ensures pass { L.belongs links.now p.new }
     ensures later { IsPrefix (L.journal p.old) (L.journal p.new) }
-    ensures aimed { Aims (L.numbers links.now) half pair.now (IsNewPart (heap_of (L.numbers links.now) (L.seat links.now p.old))
-        (place_in (L.seat links.now p.old).slots place.now) new.now) (L.seat links.now p.old) result (L.seat links.now p.new) }
+    ensures aimed { Aims (L.numbers links.now) half pair.now (IsPartOf (L.numbers links.now) half from.now (L.seat links.now p.old) new.now)
+        (L.seat links.now p.old) result (L.seat links.now p.new) }
     ensures same { given_of new.now ≢ None → L.seat links.now p.new ≡ L.seat links.now p.old }
     ensures worn { IfErr result (λ e. Within (length (L.journal p.old)) (length (L.journal p.new))
         (L.worn links.now (L.seat links.now p.old).agent e (L.journal p.new))) }
 {
     match new {
         New::Given(value, _) => Ok(*value),
-        New::Zero(_) => aim_kept(links, p, half, pair, place),
-        New::Kept => aim_kept(links, p, half, pair, place),
-    }
-}
-
-// Aims one half of a first pair; a part that is given was aimed at before.
-fn aim_first<L: Links<Rule = Pairs>>(
-    links: &L,
-    p: &mut L::Pass,
-    half: Half,
-    pair: &Held,
-    new: &New,
-) -> Result<u64, Spent>
-    requires pass { L.belongs links.now p.old }
-    requires made { IsCellDomain (L.numbers links.now) (L.agents links.now) (L.opening links.now) }
-    requires fresh { HoldsFresh (L.seat links.now p.old) pair.now }
-    requires new { SideHeld (L.numbers links.now) (staging_root half (L.seat links.now p.old).agent) new.now (L.seat links.now p.old) }
-    requires ready { IsHalfReady (L.numbers links.now) half pair.now new.now (L.seat links.now p.old) }
-    requires staged { HasStaged new.now }
-    ensures pass { L.belongs links.now p.new }
-    ensures later { IsPrefix (L.journal p.old) (L.journal p.new) }
-    ensures aimed { Aims (L.numbers links.now) half pair.now (IsFirst new.now) (L.seat links.now p.old) result (L.seat links.now p.new) }
-    ensures same { given_of new.now ≢ None → L.seat links.now p.new ≡ L.seat links.now p.old }
-    ensures worn { IfErr result (λ e. Within (length (L.journal p.old)) (length (L.journal p.new))
-        (L.worn links.now (L.seat links.now p.old).agent e (L.journal p.new))) }
-{
-    match new {
-        New::Given(value, _) => Ok(*value),
-        New::Zero(part) => aim_staged(links, p, half, pair, part, 0),
-        New::Kept => unreachable!(),
+        New::Zero(part) => match *from {
+            Want::Null(_) => aim_staged(links, p, half, pair, part, 0),
+            Want::Node(old, _) => aim_kept(links, p, half, pair, old),
+        },
+        New::Kept => match *from {
+            Want::Null(_) => unreachable!(),
+            Want::Node(old, _) => aim_kept(links, p, half, pair, old),
+        },
     }
 }
 
@@ -267,11 +269,12 @@ fn swing_pair<L: Links<Rule = Pairs>>(
     }
 }
 
-// Publishes a first pair, if root 0 is still null.
-fn publish_first<L: Links<Rule = Pairs>>(
+// Publishes a pair that follows what this link leads to, if root 0 still shows the link.
+fn publish_from<L: Links<Rule = Pairs>>(
     links: &L,
     p: &mut L::Pass,
     pair: &Held,
+    from: &Want,
     left: &New,
     right: &New,
 ) -> PublishTurn
@@ -282,64 +285,25 @@ fn publish_first<L: Links<Rule = Pairs>>(
     requires right { SideHeld (L.numbers links.now) (staging_root Half.Right (L.seat links.now p.old).agent) right.now (L.seat links.now p.old) }
     requires ready { IsHalfReady (L.numbers links.now) Half.Left pair.now left.now (L.seat links.now p.old)
         × IsHalfReady (L.numbers links.now) Half.Right pair.now right.now (L.seat links.now p.old) }
-    requires staged { HasStaged left.now × HasStaged right.now }
-    ensures pass { L.belongs links.now p.new }
-    ensures later { IsPrefix (L.journal p.old) (L.journal p.new) }
-    ensures published { PublishesFrom (L.numbers links.now) null (given_of left.now) (given_of right.now) pair.now (L.seat links.now p.old) result
-        (L.seat links.now p.new) }
-    ensures worn { (why : SpentRow) → result ≡ PublishTurn.Spent why → Within (length (L.journal p.old)) (length (L.journal p.new))
-        (L.worn links.now (L.seat links.now p.old).agent why (L.journal p.new)) }
-{
-    let x = match aim_first(links, p, Half::Left, pair, left) {
-        Ok(x) => x,
-        Err(spent) => return PublishTurn::Spent(spent),
-    };
-    let y = match aim_first(links, p, Half::Right, pair, right) {
-        Ok(y) => y,
-        Err(spent) => return PublishTurn::Spent(spent),
-    };
-    if swing_pair(links, p, &Want::Null(false), pair, left, right, (x, y)) {
-        PublishTurn::Published(x, y)
-    } else {
-        PublishTurn::Over
-    }
-}
-
-// Publishes a pair after another, if root 0 still names that.
-fn publish_next<L: Links<Rule = Pairs>>(
-    links: &L,
-    p: &mut L::Pass,
-    pair: &Held,
-    old: &Held,
-    left: &New,
-    right: &New,
-) -> PublishTurn
-    requires pass { L.belongs links.now p.old }
-    requires made { IsCellDomain (L.numbers links.now) (L.agents links.now) (L.opening links.now) }
-    requires fresh { HoldsFresh (L.seat links.now p.old) pair.now }
-    requires left { SideHeld (L.numbers links.now) (staging_root Half.Left (L.seat links.now p.old).agent) left.now (L.seat links.now p.old) }
-    requires right { SideHeld (L.numbers links.now) (staging_root Half.Right (L.seat links.now p.old).agent) right.now (L.seat links.now p.old) }
-    requires ready { IsHalfReady (L.numbers links.now) Half.Left pair.now left.now (L.seat links.now p.old)
-        × IsHalfReady (L.numbers links.now) Half.Right pair.now right.now (L.seat links.now p.old) }
-    requires old { Holds (L.seat links.now p.old).slots old.now }
     requires slot { IsFree (L.seat links.now p.old).slots 5 }
-    requires before { IsPairOf (heap_of (L.numbers links.now) (L.seat links.now p.old)) (id_in (L.seat links.now p.old).slots old.now) }
+    requires follows { ComesAfter (L.numbers links.now) from.now (L.seat links.now p.old) left.now
+        × ComesAfter (L.numbers links.now) from.now (L.seat links.now p.old) right.now }
     ensures pass { L.belongs links.now p.new }
     ensures later { IsPrefix (L.journal p.old) (L.journal p.new) }
-    ensures published { PublishesFrom (L.numbers links.now) (link_to (id_in (L.seat links.now p.old).slots old.now)) (given_of left.now) (given_of right.now)
+    ensures published { PublishesFrom (L.numbers links.now) (link_in (L.seat links.now p.old).slots from.now) (given_of left.now) (given_of right.now)
         pair.now (L.seat links.now p.old) result (L.seat links.now p.new) }
     ensures worn { (why : SpentRow) → result ≡ PublishTurn.Spent why → Within (length (L.journal p.old)) (length (L.journal p.new))
         (L.worn links.now (L.seat links.now p.old).agent why (L.journal p.new)) }
 {
-    let x = match aim_next(links, p, Half::Left, pair, left, &At::Node(old)) {
+    let x = match aim_part(links, p, Half::Left, pair, left, from) {
         Ok(x) => x,
         Err(spent) => return PublishTurn::Spent(spent),
     };
-    let y = match aim_next(links, p, Half::Right, pair, right, &At::Side(old)) {
+    let y = match aim_part(links, p, Half::Right, pair, right, from) {
         Ok(y) => y,
         Err(spent) => return PublishTurn::Spent(spent),
     };
-    if swing_pair(links, p, &Want::Node(old, false), pair, left, right, (x, y)) {
+    if swing_pair(links, p, from, pair, left, right, (x, y)) {
         PublishTurn::Published(x, y)
     } else {
         PublishTurn::Over
@@ -371,11 +335,12 @@ fn publish_turn<L: Links<Rule = Pairs>>(
 {
     match links.look(p, &At::Root(PAIR), 4) {
         Looked::Stable(_, Some(old)) => {
-            let turn = publish_next(links, p, pair, &old, left, right);
+            let from = Want::Node(&old, false);
+            let turn = publish_from(links, p, pair, &from, left, right);
             links.release(p, old);
             turn
         }
-        Looked::Stable(_, None) => publish_first(links, p, pair, left, right),
+        Looked::Stable(_, None) => publish_from(links, p, pair, &Want::Null(false), left, right),
         Looked::Moved => PublishTurn::Over,
     }
 }

@@ -30,6 +30,7 @@ pub(crate) fn hold_part<L: Links<Rule = Pairs>>(
     ensures later { IsPrefix (L.journal p.old) (L.journal p.new) }
     ensures held { HoldsPart (L.numbers links.now) (place_in (L.seat links.now p.old).slots place.now) slot (L.seat links.now p.old) result
         (L.seat links.now p.new) }
+    ensures holds { Holds (L.seat links.now p.new).slots result }
 {
     match links.look(p, place, slot) {
         Looked::Stable(_, Some(part)) => part,

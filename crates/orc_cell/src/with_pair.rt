@@ -1,16 +1,15 @@
 //! A publish whose parts are staged: the new pair is given, published and let go.
 
-ghost use Rattle.std.specs.Prelude.{Err, None, Some, [], false, length, ℕ, ◌<◌, ◌≡◌};
+ghost use Rattle.std.specs.Prelude.{Err, IfErr, None, Some, [], false, length, ℕ, ◌<◌, ◌≡◌};
 ghost use mathlib.Core.List.{IsPrefix};
-ghost use Rattle.orc_fault.specs.declared.Spent.{Spent as SpentRow};
 ghost use Rattle.orc_heap.specs.Slots.{IsFree};
 ghost use Rattle.orc_heap.specs.OwnEvents.{Only};
-ghost use Rattle.orc_history.specs.Journals.{Within};
-ghost use Rattle.orc_history.specs.Parts.{WithinPart, part_begin};
+ghost use Rattle.orc_history.specs.Parts.{part_begin};
 ghost use Rattle.orc_heap.specs.Heap.{null, shown};
 ghost use Rattle.orc_heap.specs.Seats.{IsIdle, heap_of};
 ghost use Rattle.orc_heap.specs.declared.events.Place.{Place};
 ghost use Rattle.orc_cell.specs.Answers.{PublishAnswers};
+ghost use Rattle.orc_cell.specs.Causes.{CausedInPart, CausedWithin};
 ghost use Rattle.orc_cell.specs.Publishes.{IsPublished, SideHeld, given_of, staging_root};
 ghost use Rattle.orc_cell.specs.Turns.{FindsOnly, IsCellDomain};
 ghost use Rattle.orc_cell.specs.declared.publish.Half.{Half};
@@ -41,10 +40,7 @@ pub(crate) fn publish_pair<L: Links<Rule = Pairs>>(
     ensures later { IsPrefix (L.journal p.old) (L.journal p.new) }
     ensures answered { PublishAnswers (L.numbers links.now) 1 turns (given_of left.now) (given_of right.now) (L.seat links.now p.old) result
         (L.seat links.now p.new) }
-    ensures no_node { result ≡ Err CellRefused.NoNode → Within (length (L.journal p.old)) (length (L.journal p.new))
-        (L.lacking links.now (L.seat links.now p.old).agent (L.journal p.new)) }
-    ensures worn { (why : SpentRow) → result ≡ Err (CellRefused.Spent why) → Within (length (L.journal p.old)) (length (L.journal p.new))
-        (L.worn links.now (L.seat links.now p.old).agent why (L.journal p.new)) }
+    ensures refused { IfErr result (λ why. CausedWithin L.Links links.now p.old p.new why) }
 {
     let pair = match links.give(p, 3, 0, 0) {
         Ok(pair) => pair,
@@ -81,10 +77,7 @@ fn publish_right<L: Links<Rule = Pairs>>(
     ensures pass { L.belongs links.now p.new }
     ensures later { IsPrefix (L.journal p.old) (L.journal p.new) }
     ensures answered { PublishAnswers (L.numbers links.now) 2 turns (given_of left.now) right.0 (L.seat links.now p.old) result (L.seat links.now p.new) }
-    ensures no_node { result ≡ Err CellRefused.NoNode → Within (length (L.journal p.old)) (length (L.journal p.new))
-        (L.lacking links.now (L.seat links.now p.old).agent (L.journal p.new)) }
-    ensures worn { (why : SpentRow) → result ≡ Err (CellRefused.Spent why) → Within (length (L.journal p.old)) (length (L.journal p.new))
-        (L.worn links.now (L.seat links.now p.old).agent why (L.journal p.new)) }
+    ensures refused { IfErr result (λ why. CausedWithin L.Links links.now p.old p.new why) }
 {
     let part = match ready(links, p, 2, root, right.0, right.1) {
         Ok(part) => part,
@@ -118,10 +111,7 @@ pub(crate) fn publish_both<L: Links<Rule = Pairs>>(
     ensures pass { L.belongs links.now p.new }
     ensures later { IsPrefix (L.journal p.old) (L.journal p.new) }
     ensures answered { PublishAnswers (L.numbers links.now) 3 turns left.0 right.0 (L.seat links.now p.old) result (L.seat links.now p.new) }
-    ensures no_node { result ≡ Err CellRefused.NoNode → Within (length (L.journal p.old)) (length (L.journal p.new))
-        (L.lacking links.now (L.seat links.now p.old).agent (L.journal p.new)) }
-    ensures worn { (why : SpentRow) → result ≡ Err (CellRefused.Spent why) → Within (length (L.journal p.old)) (length (L.journal p.new))
-        (L.worn links.now (L.seat links.now p.old).agent why (L.journal p.new)) }
+    ensures refused { IfErr result (λ why. CausedWithin L.Links links.now p.old p.new why) }
 {
     let part = match ready(links, p, 1, roots.0, left.0, left.1) {
         Ok(part) => part,
@@ -166,10 +156,7 @@ pub(crate) fn publish_parts<L: Links<Rule = Pairs>>(
     ensures answered { PublishAnswers (L.numbers links.now) 3 turns left right (L.seat links.now p.old) result (L.seat links.now p.new) }
     ensures no_turns { turns ≡ 0 → result ≡ Err CellRefused.Again }
     ensures nothing { turns ≡ 0 → Only [] (L.seat links.now p.old) (L.seat links.now p.new) }
-    ensures no_node { result ≡ Err CellRefused.NoNode → WithinPart L.agent_of (L.seat links.now p.old).agent (L.journal p.old) (L.journal p.new)
-        (L.lacking links.now (L.seat links.now p.old).agent (L.journal p.new)) }
-    ensures worn { (why : SpentRow) → result ≡ Err (CellRefused.Spent why) → WithinPart L.agent_of (L.seat links.now p.old).agent
-        (L.journal p.old) (L.journal p.new) (L.worn links.now (L.seat links.now p.old).agent why (L.journal p.new)) }
+    ensures refused { IfErr result (λ why. CausedInPart L.Links links.now p.old p.new why) }
 {
     if turns == 0 {
         return Err(CellRefused::Again);

@@ -1,12 +1,6 @@
 -- The part is held, read and released.
-use Rattle.orc_heap.proofs.Pieces.{slot_holds}
 use Rattle.orc_cell.proofs.Reading.{part_read}
 use Rattle.orc_cell.proofs.read.read_part.Goals as goal
-
-pub value-value-requires-clause-held : goal.value-value-requires-clause-held
-value-value-requires-clause-held g c =
-    let h = c.hold_part-part.ensures.held in
-    slot_holds _ _ 2 h.id _ c.requires.slot h.in_slot
 
 pub returns-clause-read : goal.returns-clause-read
 returns-clause-read g c =

@@ -3,7 +3,7 @@ use Rattle.std.proofs.Common.{[], append-nil, arith, subst, sym, ℕ, ◌∙◌,
 use Rattle.orc_heap.proofs.Pieces.{goes_on}
 use Rattle.orc_heap.specs.Slots.{IsFree, Slots}
 use Rattle.orc_cell.specs.Turns.{ReadsOver}
-use Rattle.orc_cell.proofs.Answering.{only_none}
+use Rattle.orc_cell.proofs.Pieces.{only_none}
 use Rattle.orc_cell.proofs.Reading.{over_next, over_none, over_read}
 use Rattle.orc_cell.proofs.read.read_turns.Goals as goal
 

@@ -1,9 +1,7 @@
 -- The left part is made ready, and let go at the end.
-use Rattle.std.proofs.Common.{Option, ap, arith, inl, inr, subst, sym, ℕ, ◌*◌, ◌+◌, ◌∙◌, ◌≢◌}
-use Rattle.orc_cell.specs.Answers.{PublishAnswers}
+use Rattle.std.proofs.Common.{ap, arith, inl, inr, subst, sym, ℕ, ◌*◌, ◌+◌, ◌∙◌, ◌≢◌}
 use Rattle.orc_cell.specs.Publishes.{SideHeld, given_of}
-use Rattle.orc_cell.proofs.Answering.{answers_join, pair_lacking, ready_agent, ready_fresh, ready_held, ready_null, ready_published, ready_slot, ready_answered}
-use Rattle.orc_cell.proofs.Staging.{err_of, within_call}
+use Rattle.orc_cell.proofs.Answering.{answers_join, caused_call, pair_lacking, ready_agent, ready_fresh, ready_held, ready_null, ready_published, ready_slot, ready_answered}
 use Rattle.orc_cell.proofs.with_pair.publish_both.Goals as goal
 
 pub ready-requires-clause-staging : goal.ready-requires-clause-staging
@@ -50,32 +48,16 @@ returns-in-Err-clause-answered g c =
     pair_lacking _ 3 _ _ (omega arith) c.requires.no_fresh c.in-Err.ensures.none
     (g.met.L.Links.allowed _ _ c.in-Err.ensures.pass)
 
-pub returns-in-Err-clause-no_node : goal.returns-in-Err-clause-no_node
-returns-in-Err-clause-no_node g c = λ is. err_of _ c.in-Err.is c.ready.ensures.lacking
-
 pub returns-clause-answered : goal.returns-clause-answered
 returns-clause-answered g c =
     let e = c.in-Ok.ensures in
-    let n = g.L.Links.numbers _ in
-    let s = g.L.Links.seat _ c.args.p.now in
-    let t = g.L.Links.seat _ c.let_go.new.p in
-    let r = c.publish_right-answer.result in
-    let joined = answers_join n 1 c.args.roots.0 2 c.args.turns (given_of c.in-Ok.part) c.args.right.0 s _ _ t c.in-Ok.part r c.requires.slots.0
+    rw (← e.given) (answers_join (g.L.Links.numbers _) 1 c.args.roots.0 2 c.args.turns (given_of c.in-Ok.part) c.args.right.0
+    (g.L.Links.seat _ c.args.p.now) _ _ (g.L.Links.seat _ c.let_go.new.p) c.in-Ok.part c.publish_right-answer.result c.requires.slots.0
     (inl c.requires.roots.0) c.requires.null.0 c.requires.no_fresh e.ready c.publish_right-answer.ensures.answered c.let_go.ensures.gone
-    (g.met.L.Links.allowed _ _ e.pass) (g.met.L.Links.allowed _ _ c.let_go.ensures.pass) in
-    subst (λ (o : Option ℕ). PublishAnswers n 3 c.args.turns o c.args.right.0 s r t) e.given joined
+    (g.met.L.Links.allowed _ _ e.pass) (g.met.L.Links.allowed _ _ c.let_go.ensures.pass))
 
-pub returns-clause-no_node : goal.returns-clause-no_node
-returns-clause-no_node g c = λ is.
-    let agent = ready_agent _ 1 c.args.roots.0 _ _ c.in-Ok.part
-    c.in-Ok.ensures.ready in
-    within_call g.L.Links _ c.args.p.now c.ready.new.p c.publish_right-answer.new.p c.let_go.new.p (g.L.Links.lacking _) (g.met.L.Links.lacking_stays _) agent c.in-Ok.ensures.later
-    c.let_go.ensures.later (c.publish_right-answer.ensures.no_node is)
-
-pub returns-clause-worn : goal.returns-clause-worn
-returns-clause-worn g c = λ why is.
-    let d = c.args.links.now in
-    let agent = ready_agent _ 1 c.args.roots.0 _ _ c.in-Ok.part
-    c.in-Ok.ensures.ready in
-    within_call g.L.Links d c.args.p.now c.ready.new.p c.publish_right-answer.new.p c.let_go.new.p (λ who. g.L.Links.worn d who why) (λ who. g.met.L.Links.worn_stays d who why)
-    agent c.in-Ok.ensures.later c.let_go.ensures.later (c.publish_right-answer.ensures.worn why is)
+pub returns-clause-refused : goal.returns-clause-refused
+returns-clause-refused g c =
+    caused_call g.L.Links _ c.args.p.now c.ready.new.p c.publish_right-answer.new.p c.let_go.new.p (g.met.L.Links.lacking_stays _) (g.met.L.Links.worn_stays _)
+    (ready_agent _ 1 c.args.roots.0 _ _ c.in-Ok.part c.in-Ok.ensures.ready) c.in-Ok.ensures.later c.let_go.ensures.later c.publish_right-answer.result
+    c.publish_right-answer.ensures.refused

@@ -1,8 +1,9 @@
 -- The pair is given, published and let go.
 use Rattle.std.proofs.Common.{arith, inl, inr, refl, subst, sym}
 use Rattle.orc_heap.specs.Slots.{Holds, Slots}
+use Rattle.orc_fault.specs.declared.NoNode.{NoNode}
 use Rattle.orc_cell.specs.Publishes.{given_of}
-use Rattle.orc_cell.proofs.Answering.{pair_done, pair_fresh, pair_lacking, pair_over, pair_spent, side_given, slot_given, spent_same, given_slots}
+use Rattle.orc_cell.proofs.Answering.{pair_done, pair_fresh, pair_lacking, pair_over, pair_spent, side_given, slot_given, given_slots}
 use Rattle.orc_cell.proofs.Staging.{err_of, err_within, within_call}
 use Rattle.orc_cell.proofs.with_pair.publish_pair.Goals as goal
 
@@ -35,13 +36,11 @@ returns-in-Err-clause-answered g c =
     pair_lacking _ 1 _ _ (omega arith) c.requires.no_fresh c.in-Err.ensures.none
     (g.met.L.Links.allowed _ _ c.in-Err.ensures.pass)
 
-pub returns-in-Err-clause-no_node : goal.returns-in-Err-clause-no_node
-returns-in-Err-clause-no_node g c =
+pub returns-in-Err-clause-refused : goal.returns-in-Err-clause-refused
+returns-in-Err-clause-refused g c =
     let d = c.args.links.now in
-    let agent = (g.L.Links.seat d c.args.p.now).agent in
-    let k = g.L.Links.journal c.give.new.p in
-    λ is. err_of _ c.in-Err.is (err_within g.L.Links.agent_of agent _ k c.give.result (λ e. g.L.Links.lacking d agent k)
-    c.give.ensures.later c.give.ensures.lacking)
+    let Fact = λ (e : NoNode). g.L.Links.lacking d (g.L.Links.seat d c.args.p.now).agent (g.L.Links.journal c.give.new.p) in
+    err_of _ c.in-Err.is (err_within g.L.Links d c.args.p.now c.give.new.p c.give.result Fact c.give.ensures.later c.give.ensures.lacking)
 
 pub returns-in-Published-clause-answered : goal.returns-in-Published-clause-answered
 returns-in-Published-clause-answered g c =
@@ -62,8 +61,10 @@ returns-in-Spent-clause-answered g c =
     pair_spent _ _ _ _ c.requires.slots.0 e.given (g.met.L.Links.allowed _ _ e.pass) _ _ c.release.ensures.released
     (g.met.L.Links.allowed _ _ c.release.ensures.pass) c.in-Spent.ensures.published
 
-pub returns-in-Spent-clause-worn : goal.returns-in-Spent-clause-worn
-returns-in-Spent-clause-worn g c = λ why is.
+pub returns-in-Spent-clause-refused : goal.returns-in-Spent-clause-refused
+returns-in-Spent-clause-refused g c =
     let d = c.args.links.now in
-    within_call g.L.Links d c.args.p.now c.give.new.p c.publish_given-turn.new.p c.release.new.p (λ who. g.L.Links.worn d who why) (λ who. g.met.L.Links.worn_stays d who why)
-    c.in-Ok.ensures.given.puts.agent c.in-Ok.ensures.later c.release.ensures.later (c.publish_given-turn.ensures.worn why (spent_same c.in-Spent.is is))
+    let why = c.in-Spent.spent in
+    within_call g.L.Links d c.args.p.now c.give.new.p c.publish_given-turn.new.p c.release.new.p (λ who. g.L.Links.worn d who why)
+    (λ who. g.met.L.Links.worn_stays d who why) c.in-Ok.ensures.given.puts.agent c.in-Ok.ensures.later c.release.ensures.later
+    (c.publish_given-turn.ensures.worn why c.in-Spent.is)

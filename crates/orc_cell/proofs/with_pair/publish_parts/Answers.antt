@@ -1,9 +1,8 @@
 -- No turn, or the test of root 0, and then the parts.
-use Rattle.std.proofs.Common.{[], ap, arith, inl, inr, length, slice_get, subst, sym, ℕ, ◌*◌, ◌+◌, ◌∙◌}
+use Rattle.std.proofs.Common.{[], ap, arith, inl, inr, slice_get, sym, ℕ, ◌*◌, ◌+◌, ◌∙◌}
 use Rattle.orc_heap.specs.Slots.{Slots}
-use Rattle.orc_history.specs.Journals.{Within}
-use Rattle.orc_cell.proofs.Answering.{answers_after, answers_none, only_none}
-use Rattle.orc_heap.proofs.Parting.{part_of_piece}
+use Rattle.orc_cell.proofs.Answering.{answers_after, answers_none, caused_in_part}
+use Rattle.orc_cell.proofs.Pieces.{only_none}
 use Rattle.orc_cell.proofs.Staging.{finds_staging}
 use Rattle.orc_cell.proofs.with_pair.publish_parts.Goals as goal
 
@@ -44,24 +43,8 @@ returns-clause-answered g c =
 pub returns-then-turns-eq0-clause-nothing : goal.returns-then-turns-eq0-clause-nothing
 returns-then-turns-eq0-clause-nothing g c = λ zero. only_none _
 
-pub returns-clause-no_node : goal.returns-clause-no_node
-returns-clause-no_node g c =
-    let d = c.args.links.now in
-    let s = g.L.Links.seat d c.args.p.now in
+pub returns-clause-refused : goal.returns-clause-refused
+returns-clause-refused g c =
     let e = c.is_null-empty.ensures in
-    let k = g.L.Links.journal c.is_null-empty.new.p in
-    let m = g.L.Links.journal c.publish_both.new.p in
-    λ is. part_of_piece g.L.Links.agent_of s.agent (λ j. g.L.Links.lacking d s.agent j) _ k m e.later
-    c.publish_both.ensures.later e.begun
-    (subst (λ (i : ℕ). Within (length k) (length m) (g.L.Links.lacking d i m)) e.only.finds.puts.agent (c.publish_both.ensures.no_node is))
-
-pub returns-clause-worn : goal.returns-clause-worn
-returns-clause-worn g c =
-    let d = c.args.links.now in
-    let s = g.L.Links.seat d c.args.p.now in
-    let e = c.is_null-empty.ensures in
-    let k = g.L.Links.journal c.is_null-empty.new.p in
-    let m = g.L.Links.journal c.publish_both.new.p in
-    λ why is. part_of_piece g.L.Links.agent_of s.agent (λ j. g.L.Links.worn d s.agent why j) _ k m e.later
-    c.publish_both.ensures.later e.begun
-    (subst (λ (i : ℕ). Within (length k) (length m) (g.L.Links.worn d i why m)) e.only.finds.puts.agent (c.publish_both.ensures.worn why is))
+    caused_in_part g.L.Links _ c.args.p.now c.is_null-empty.new.p c.publish_both.new.p e.only.finds.puts.agent e.later c.publish_both.ensures.later e.begun
+    c.publish_both.result c.publish_both.ensures.refused

@@ -8,6 +8,7 @@ use Rattle.orc_pairs_rule.specs.PairsDiscipline.{PairsMay}
 use Rattle.orc_cell.proofs.Answering.{any_answered}
 use Rattle.orc_cell.proofs.Journals.{gave_at_most, no_event}
 use Rattle.orc_cell.proofs.Settled.{idle_after, publish_again, publish_ends, publish_err, publish_ok, staging_after}
+use Rattle.orc_cell.proofs.Staging.{err_of}
 use Rattle.orc_cell.proofs.cell.Cell.publish.Goals as goal
 
 pub staging_roots-roots-requires : goal.staging_roots-roots-requires
@@ -67,9 +68,9 @@ returns g c =
       no_event = λ zero. no_event _ _ (Puts-trans _ _ _ [] [] (done.nothing zero).puts settle.nothing.puts);
       again = publish_again seen 3 _ _ _ r ends.answers;
       no_node = λ is. part_goes_on g.L.Links.agent_of agent (g.L.Links.lacking d agent) _ _ _ (g.met.L.Links.lacking_stays d agent) done.later settle.later
-          (done.no_node is);
+          (err_of _ is done.refused);
       spent = λ why is. part_goes_on g.L.Links.agent_of agent (g.L.Links.worn d agent why) _ _ _ (g.met.L.Links.worn_stays d agent why) done.later
-          settle.later (done.worn why is);
+          settle.later (err_of _ is done.refused);
       gives = gave_at_most ends.after.answered.piece;
       settled = λ alone. settle.settled
           (settling_alone g.L.Links d c.args.p.now c.publish_parts-answer.new.p c.settle.new.p done.later settle.later ends.before alone);
