@@ -25,13 +25,23 @@ use Rattle.orc_fifo_rule.specs.QueueDiscipline.{FifoHolds, FifoMay, has_begun}
 use Rattle.orc_fifo_rule.specs.Laws.Events.{begun_more}
 use Rattle.orc_fifo_rule.specs.Laws.Nodes.{link_next, node_next}
 use Rattle.orc_fifo_rule.specs.Laws.Paths.{back_one, tail_steps}
+use Rattle.orc_queue.specs.Looking.{Known}
 use Rattle.orc_queue.specs.Turns.{EndsHelping, IsTurnOver, KeepsTail, Piece, TailIsLast, TailIsPast}
-use Rattle.orc_queue.proofs.Filled.{Known}
 use Rattle.orc_queue.proofs.Joins.{Join}
 use Rattle.orc_heap.proofs.SingleActs.{link_same, null_to, root_moved, root_other, shown_link, some_same}
 use Rattle.orc_heap.proofs.Pieces.{own_moves_left, alone_holds, moves_then}
 use Rattle.orc_heap.proofs.Moments.{look_found}
 use Rattle.orc_fifo_rule.specs.Laws.Kept.{fifo_keeps}
+
+-- the events of a turn: a look of a root, one of a node's link, and the swing of the tail
+abbrev pub look_root : Seat FifoNote → ℕ → Link → Event FifoNote
+look_root s root link = event_of s (Look (Root root) link) None
+
+abbrev pub look_next : Seat FifoNote → ℕ → ℕ → Event FifoNote
+look_next s id next = event_of s (Look (Next id) (link_to next)) None
+
+abbrev pub swing_tail : Seat FifoNote → ℕ → ℕ → Event FifoNote
+swing_tail s id next = event_of s (Move (Root 1) (link_to id) (link_to next)) (Some Swing)
 
 -- where no other agent steps, what follows from the own events, wherever they stand once the roots have begun, holds of the heap
 pub alone_runs : (n : HeapNumbers) (P : Heap → Type 0) (s t : Seat FifoNote) (own : List (Event FifoNote)) (p : Puts s own t) → Known n s.seen

@@ -19,7 +19,9 @@ use Rattle.orc_history.specs.declared.queue.QueueRefused.{QueueRefused}
 use Rattle.orc_history.specs.declared.queue.QueueRefused.TheVariants.{Again, NoNode, Positions}
 use Rattle.orc_fifo_rule.specs.declared.fifo.FifoNote.{FifoNote}
 use Rattle.orc_fifo_rule.specs.QueueDiscipline.{entries_of}
-use Rattle.orc_queue.specs.Answers.{IsCall, PutAnswers, PutFull, PutLacking, PutMade, PutTired, StopsPiece, StopsShort, TakeAnswers, TakeMade, Tires, gives_of}
+use Rattle.orc_queue.specs.declared.put.PutTurn.{PutTurn}
+use Rattle.orc_queue.specs.declared.put.PutTurn.TheVariants.{Full, Over as PutOver, Put as PutDone}
+use Rattle.orc_queue.specs.Answers.{gives_of, IsCall, PutAnswers, PutFull, PutLacking, PutMade, PutTired, stop_entries, StopsPiece, StopsShort, TakeAnswers, TakeMade, Tires}
 use Rattle.orc_queue.specs.Turns.{AreOver, EndsHelping, FindsFull, HoldsNode, IsFull, Piece, PutTires, PutsJob, TailIsPast}
 use Rattle.orc_queue.proofs.Backs.{backs_since_both}
 use Rattle.orc_queue.proofs.Joins.{full_join_left, full_join_right, room_join}
@@ -159,6 +161,12 @@ module _ {n : HeapNumbers} {job : ℕ} (turns : ℕ) {h : Hold} {s a b t : Seat 
         helps =
             ends_helping (event_of s Give None ∷ event_of s (Fill g.id 0 job) None ∷ event_of s (Fill g.id 1 0) None ∷ []) p.own l.helps;
       }
+
+-- a put that stops, and puts nothing
+pub no_entries : (agent job : ℕ) (turn : PutTurn) → ((at : ℕ) → turn ≢ PutDone at) → stop_entries agent job turn ≡ []
+no_entries agent job PutOver other = refl
+no_entries agent job Full other = refl
+no_entries agent job (PutDone at) other = absurd (other at refl)
 
 -- a put that stops
 module _ {n : HeapNumbers} {job : ℕ} {h : Hold} {s a b t : Seat FifoNote} (idle : IsIdle s) (g : Gives n 1 job 0 s h a) (w : Releases b h t) where

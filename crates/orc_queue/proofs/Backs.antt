@@ -30,8 +30,8 @@ use Rattle.orc_fifo_rule.specs.Counts.{off_the_head}
 use Rattle.orc_fifo_rule.specs.QueueDiscipline.{FifoHolds, FifoMay}
 use Rattle.orc_fifo_rule.specs.declared.fifo.FifoNote.{FifoNote}
 use Rattle.orc_heap.proofs.Moved.{linked_place_later}
+use Rattle.orc_queue.specs.Looking.{Known}
 use Rattle.orc_queue.specs.Turns.{back_moves_in}
-use Rattle.orc_queue.proofs.Filled.{Known}
 
 pub backs_append : (es fs : List (Event FifoNote)) → moves_in (off_the_head (es ++ fs)) ≡ moves_in (off_the_head es) + moves_in (off_the_head fs)
 backs_append es fs = ap (λ (z : List (Event FifoNote)). moves_in z) (off_the_head-append es fs) ∙ moves_in-append (off_the_head es) (off_the_head fs)

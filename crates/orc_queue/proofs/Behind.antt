@@ -13,7 +13,6 @@ use Rattle.orc_heap.specs.Seats.{IsUntouched, Seat, heap_of}
 use Rattle.orc_heap.specs.Slots.{Hold, Holds, id_in}
 use Rattle.orc_heap.specs.declared.events.Act.TheVariants.{Look, Miss, Move}
 use Rattle.orc_heap.specs.declared.events.Event.{Event}
-use Rattle.orc_heap.specs.declared.events.Link.{Link}
 use Rattle.orc_heap.specs.declared.events.Place.TheVariants.{Next, Root}
 use Rattle.orc_history.specs.declared.queue.QueueEntry.TheVariants.{Put}
 use Rattle.orc_fifo_rule.proofs.Reading.{successor_job}
@@ -21,14 +20,14 @@ use Rattle.orc_fifo_rule.specs.declared.fifo.FifoNote.{FifoNote}
 use Rattle.orc_fifo_rule.specs.declared.fifo.FifoNote.TheVariants.{Swing}
 use Rattle.orc_fifo_rule.specs.QueueDiscipline.{FifoMay, entries_of, position_of}
 use Rattle.orc_fifo_rule.specs.Watches.{WasNamed}
+use Rattle.orc_queue.specs.Looking.{FindsTwo, HoldsNext, Known}
 use Rattle.orc_queue.specs.declared.put.PutTurn.{PutTurn}
 use Rattle.orc_queue.specs.declared.put.PutTurn.TheVariants.{Full, Over as PutOver, Put as PutDone}
 use Rattle.orc_queue.specs.Turns.{FindsFull, Helps, HoldsNode, LinksBehind, PutsBehind, SwingsLast, TurnMissed}
 use Rattle.orc_queue.proofs.Backs.{backs_left, backs_right, backs_since, look_or_back, looks_back, miss_back, own_back}
-use Rattle.orc_queue.proofs.Filled.{Known}
 use Rattle.orc_queue.proofs.Holding.{found_fresh, found_id, found_other_id, found_released}
 use Rattle.orc_queue.proofs.Joins.{full_join_left, join, room_join}
-use Rattle.orc_queue.proofs.Looking.{HoldsNext, next_found}
+use Rattle.orc_queue.proofs.Looking.{next_found}
 use Rattle.orc_queue.proofs.Pieces.{linked_puts, node_puts, position_puts}
 use Rattle.orc_queue.proofs.Room.{full_at, room_at}
 use Rattle.orc_heap.proofs.Pieces.{linked_not_fresh, moves_left, moves_right, one_part, puts_released}
@@ -182,47 +181,49 @@ module _ (n : HeapNumbers) (job tail next : ℕ) (h : Hold) (s a b t : Seat Fifo
 -- by what the look of the link found
 pub behind_found : {n : HeapNumbers} {job : ℕ} {node : Hold} (tail : Hold) {next : Hold} {s a b t : Seat FifoNote} → HoldsNext n (id_in s.slots tail) 3 s next a
     → AllAllowed (FifoMay n) [] b.seen → AllAllowed (FifoMay n) [] t.seen → WasNamed (heap_of n s) 1 (id_in s.slots tail) → HoldsNode n job node s
-    → Holds s.slots tail → a.fresh ≡ s.fresh → ((i : ℕ) → a.fresh ≡ Some i → IsUntouched a.agent (heap_of n a) i)
+    → Holds s.slots tail → ((i : ℕ) → a.fresh ≡ Some i → IsUntouched a.agent (heap_of n a) i)
     → ((i : ℕ) → b.fresh ≡ Some i → IsUntouched b.agent (heap_of n b) i) → Helps (id_in a.slots tail) (id_in a.slots next) a b → Releases b next t
     → TurnMissed n job (id_in s.slots tail) node s t
-behind_found {n} {job} {node} tail {next} {s} {a} {b} {t} f all_b all_t named holds held fresh_a untouched_a untouched_b helped released =
+behind_found {n} {job} {node} tail {next} {s} {a} {b} {t} f all_b all_t named holds held untouched_a untouched_b helped released =
     let id = id_in s.slots tail in
     let x = f.node.id in
     let help = subst (λ (i : ℕ). Helps i x a b) (found_other_id f.node tail held)
     (subst (λ (i : ℕ). Helps (id_in a.slots tail) i a b) (found_id f.node) helped) in
     let fresh = found_fresh f.node helped.slots untouched_b (linked_helped n a b id x help all_b x f.node.linked) released in
     behind_held n job id x node s a b t f.before f.after named holds f.puts f.link help released.puts (found_released f.node helped.slots released)
-    (fresh ∙ (helped.fresh ∙ fresh_a)) all_t (fresh_apart n job x node s a holds fresh_a untouched_a f.node.linked)
+    (fresh ∙ (helped.fresh ∙ f.fresh)) all_t (fresh_apart n job x node s a holds f.fresh untouched_a f.node.linked)
 
 -- the link moved between two looks
-pub behind_moved : (n : HeapNumbers) (job tail : ℕ) (h : Hold) (s t : Seat FifoNote) (one two : Link) → Known n s.seen → Known n t.seen
-    → WasNamed (heap_of n s) 1 tail → HoldsNode n job h s → one ≢ two
-    → t.slots ≡ s.slots → t.fresh ≡ s.fresh → Puts s (event_of s (Look (Next tail) one) None ∷ event_of s (Look (Next tail) two) None ∷ []) t
-    → TurnMissed n job tail h s t
-behind_moved n job tail h s t one two k kt named node other slots fresh p = record {
+pub behind_moved : {n : HeapNumbers} (job tail : ℕ) (h : Hold) {s t : Seat FifoNote} → FindsTwo n (Next tail) s t → WasNamed (heap_of n s) 1 tail
+    → HoldsNode n job h s → TurnMissed n job tail h s t
+behind_moved {n} job tail h {s} {t} f named node = record {
   stops = record {
-    piece = record { own = _; slots = slots; puts = p; entries_are = refl; no_give = refl; few = omega arith };
-    fresh = fresh;
-    moved = λ at. omega
-        (arith, moves_from_own s.agent p.part, looks_differ n (FifoMay n) (λ es x k. k.fits) s t (Next tail) one two p kt.all named.linked other);
+    piece = record { own = _; slots = f.slots; puts = f.puts; entries_are = refl; no_give = refl; few = omega arith };
+    fresh = f.fresh;
+    moved = λ at. omega (
+      arith,
+      moves_from_own s.agent f.puts.part,
+      looks_differ n (FifoMay n) (λ es x k. k.fits) s t (Next tail) f.one f.two f.puts f.after.all named.linked f.other,
+    );
     own_moves = inl refl;
   };
-  room = room_at n s t _ tail p k (part_allowed (FifoMay n) s t _ p kt.all) named ((λ e. (one, refl)), ((λ e. (two, refl)), tt)) low;
-  node = node_puts n s t _ p kt.all job h node.second k node slots fresh refl refl;
-  back = λ at. omega (arith, backs_since s.agent p.part, looks_back n (Next tail) refl s t k kt.all named.linked one two p other);
+  room = room_at n s t _ tail f.puts f.before (part_allowed (FifoMay n) s t _ f.puts f.after.all) named ((λ e. (f.one, refl)), ((λ e. (f.two, refl)), tt)) low;
+  node = node_puts n s t _ f.puts f.after.all job h node.second f.before node f.slots f.fresh refl refl;
+  back = λ at. omega
+      (arith, backs_since s.agent f.puts.part, looks_back n (Next tail) refl s t f.before f.after.all named.linked f.one f.two f.puts f.other);
 }
   where
     has_next : (next : ℕ) × HasLink (heap_of n t) tail (link_to next)
     has_next =
-        let first = next_found n s t tail one [] _ k named.linked p kt.all in
-        let second = next_found n s t tail two (event_of s (Look (Next tail) one) None ∷ []) [] k named.linked p kt.all in
+        let first = next_found n s t tail f.one [] _ f.before named.linked f.puts f.after.all in
+        let second = next_found n s t tail f.two (event_of s (Look (Next tail) f.one) None ∷ []) [] f.before named.linked f.puts f.after.all in
         elim first.either [
           | inr some ↦ (some.0, some.2)
-          | inl none ↦ elim second.either [ inr some ↦ (some.0, some.2) | inl no_link ↦ absurd (other (none ∙ sym no_link)) ]
+          | inl none ↦ elim second.either [ inr some ↦ (some.0, some.2) | inl no_link ↦ absurd (f.other (none ∙ sym no_link)) ]
         ]
 
     low : position_of (heap_of n s) tail < 2 ^ 62
-    low = omega (arith, low_where_linked n t tail has_next.0 kt has_next.1, position_puts n s t _ p kt.all tail named.linked)
+    low = omega (arith, low_where_linked n t tail has_next.0 f.after has_next.1, position_puts n s t _ f.puts f.after.all tail named.linked)
 
 -- what the pass holds after it
 pub record BehindPiece (s t : Seat FifoNote) : Type 0 where

@@ -26,13 +26,13 @@ use Rattle.orc_fault.specs.declared.Again.{Again as AgainFault}
 use Rattle.orc_fifo_rule.proofs.OwnEntries.{entries_own}
 use Rattle.orc_fifo_rule.specs.declared.fifo.FifoNote.{FifoNote}
 use Rattle.orc_fifo_rule.specs.QueueDiscipline.{FifoMay, entries_of, position_of, entries_in}
+use Rattle.orc_queue.specs.Looking.{Known}
 use Rattle.orc_queue.specs.Answers.{CallFindsFull, IsCall, PutAnswers, StopsShort, TakeAnswers, gives_of}
 use Rattle.orc_queue.specs.Causes.{BeforeFirstStep, Cause, FromFirstStep, LacksPosition, UsesTurns}
 use Rattle.orc_queue.specs.Turns.{FindsFull, HasDummy, KeepsTail, TailIsLast}
 use Rattle.orc_queue.specs.Laws.Histories.{first_stays}
 use Rattle.orc_queue.proofs.Answering.{put_settled, take_settled}
 use Rattle.orc_queue.proofs.Alone.{tail_settles, alone_runs}
-use Rattle.orc_queue.proofs.Filled.{Known}
 use Rattle.orc_queue.proofs.Lacking.{lacks_within}
 use Rattle.orc_queue.proofs.Room.{full_puts}
 use Rattle.orc_heap.proofs.InJournal.{CallSeen, adds_entries, own_after, seen_part}

@@ -30,12 +30,12 @@ use Rattle.orc_fifo_rule.specs.Counts.{entries_of_others, off_the_head, tooks_in
 use Rattle.orc_fifo_rule.specs.Laws.Events.{begun_more}
 use Rattle.orc_fifo_rule.specs.QueueDiscipline.{FifoHolds, FifoMay, entries_in, entries_of, has_begun}
 use Rattle.orc_fifo_rule.specs.declared.fifo.FifoNote.{FifoNote}
+use Rattle.orc_queue.specs.Looking.{Known}
 use Rattle.orc_queue.specs.Answers.{IsCall, PutAnswers, TakeAnswers, Tires}
 use Rattle.orc_queue.specs.Causes.{UsesTurns, entered_by_others}
 use Rattle.orc_queue.specs.Turns.{back_moves_in}
 use Rattle.orc_queue.proofs.Backs.{none_off}
 use Rattle.orc_heap.proofs.InJournal.{CallSeen, seen_new, seen_part}
-use Rattle.orc_queue.proofs.Filled.{Known}
 
 -- where none is the agent's own, all are others'
 all_others : (agent : ℕ) (es : List QueueEntry) → own_of agent_of_entry agent es ≡ [] → entries_of_others agent es ≡ es

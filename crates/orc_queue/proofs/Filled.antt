@@ -15,7 +15,7 @@ use Rattle.orc_heap.specs.Allowed.{AllAllowed, IsLinkedNode}
 use Rattle.orc_heap.specs.Heap.{Heap, HeapNumbers, Node, link_to}
 use Rattle.orc_heap.specs.Journals.{IsPlainAct, moves_to, names_node, run_heap, event_by}
 use Rattle.orc_heap.specs.declared.events.Act.{Act}
-use Rattle.orc_heap.specs.declared.events.Act.TheVariants.{Aim, Fill, Give, Look, Miss, Move, AimSide}
+use Rattle.orc_heap.specs.declared.events.Act.TheVariants.{Look, Move}
 use Rattle.orc_heap.specs.declared.events.Event.{Event}
 use Rattle.orc_heap.specs.declared.events.Link.{Link}
 use Rattle.orc_heap.specs.declared.events.Place.TheVariants.{Next, Root, Side}
@@ -27,6 +27,7 @@ use Rattle.orc_fifo_rule.specs.Laws.Kinds.{each_kind}
 use Rattle.orc_fifo_rule.specs.Laws.Kept.{fifo_keeps}
 use Rattle.orc_fifo_rule.specs.Laws.Paths.{head_steps, successor_linked, tail_steps}
 use Rattle.orc_fifo_rule.specs.Laws.Running.{begin_late}
+use Rattle.orc_queue.specs.Looking.{Known}
 use Rattle.orc_queue.specs.Turns.{HasDummy}
 
 no_plain_link : (act : Act) (id : ℕ) → IsPlainAct act → moves_to act id ≡ true → ⊥
@@ -73,12 +74,6 @@ either P true x y p q = p
 either P false x y p q = q
 
 second_kept : (act : Act) (id : ℕ) (x : Node) → moves_to act id ≡ true → (touched act id x).second ≡ x.second
-second_kept Give id x m = cc
-second_kept (Fill i which value) id x m = cc
-second_kept (Aim i to) id x m = cc
-second_kept (AimSide i to) id x m = cc
-second_kept (Look place link) id x m = cc
-second_kept (Miss place wanted found) id x m = cc
 second_kept (Move (Root r) from to) id x m = either (λ y. y.second ≡ x.second) (names_node to.to id) _ _ refl refl
 second_kept (Move (Side i) from to) id x m =
     let k : (link_touched (Side i) to id x).second ≡ x.second = either (λ y. y.second ≡ x.second) (i == id) (with_side to x) x refl refl in
@@ -86,6 +81,7 @@ second_kept (Move (Side i) from to) id x m =
 second_kept (Move (Next i) from to) id x m =
     let k : (link_touched (Next i) to id x).second ≡ x.second = either (λ y. y.second ≡ x.second) (i == id) (with_link to x) x refl refl in
     either (λ y. y.second ≡ x.second) (names_node to.to id) (as_linked (link_touched (Next i) to id x)) (link_touched (Next i) to id x) k k
+second_kept act id x m = cc
 
 filled_next : (n : HeapNumbers) (es : List (Event FifoNote)) (e : Event FifoNote) → FifoHolds n es → HasDummy n es → FifoMay n es e → HasDummy n (es ++ e ∷ [])
 filled_next n es e holds d may = record {
@@ -115,12 +111,6 @@ dummy_later n seen [] holds d all = subst (λ es. HasDummy n es) (sym (append-ni
 dummy_later n seen (e ∷ more) holds d all =
     subst (λ es. HasDummy n es) (append_assoc seen (e ∷ []) more)
     (dummy_later n (seen ++ e ∷ []) more (fifo_keeps n seen e holds all.0) (filled_next n seen e holds d all.0) all.1)
-
--- what is known of the events that a pass has seen
-pub record Known (n : HeapNumbers) (es : List (Event FifoNote)) : Type 0 where
-  pub holds : FifoHolds n es
-  pub all : AllAllowed (FifoMay n) [] es
-  pub dummy : HasDummy n es
 
 pub known : (n : HeapNumbers) (opening es : List (Event FifoNote)) → HasDummy n opening → IsPrefix opening es → AllAllowed (FifoMay n) [] es
     → FifoHolds n es → Known n es

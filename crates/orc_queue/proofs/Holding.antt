@@ -1,7 +1,7 @@
 -- What a pass knows of the events that it has seen, and of the node that a look has put into one of its slots.
 use Rattle.std.proofs.Common.{Some, [], ap, subst, sym, ℕ, ◌∙◌, ◌≡◌, ◌≢◌}
 use mathlib.Core.List.{IsPrefix}
-use Rattle.orc_heap.proofs.Pieces.{InSlot, release_fresh, slot_free, slot_holds, slot_id, slot_other, slot_other_id, slot_released}
+use Rattle.orc_heap.proofs.Pieces.{release_fresh, slot_free, slot_holds, slot_id, slot_other, slot_other_id, slot_released}
 use Rattle.orc_heap.specs.Allowed.{AllAllowed, IsLinkedNode}
 use Rattle.orc_heap.specs.Calls.{Releases}
 use Rattle.orc_heap.specs.Heap.{HeapNumbers}
@@ -10,8 +10,9 @@ use Rattle.orc_heap.specs.Slots.{Hold, Holds, IsFree, Slots, id_in}
 use Rattle.orc_heap.specs.declared.links.Links.{Ghosts as LinksOf}
 use Rattle.orc_fifo_rule.specs.declared.fifo.FifoNote.{FifoNote}
 use Rattle.orc_fifo_rule.specs.QueueDiscipline.{FifoHolds, FifoMay}
+use Rattle.orc_queue.specs.Looking.{Found, Known}
 use Rattle.orc_queue.specs.Turns.{HasDummy}
-use Rattle.orc_queue.proofs.Filled.{Known, known}
+use Rattle.orc_queue.proofs.Filled.{known}
 
 -- a pass of a queue's domain knows the events that it has seen, by three laws of the domain
 pub pass_known : {L D P S : Type 0} (m : LinksOf L D P S FifoNote)
@@ -23,12 +24,6 @@ pass_known m opens allowed obeys links p made pass =
     known (m.numbers links) (m.opening links) (m.seat links p).seen made (opens links p pass) (allowed links p pass) (obeys links p pass)
 
 -- the once linked node that a look has put into a free slot
-pub record Found (n : HeapNumbers) (slot : ℕ) (s : Seat FifoNote) (h : Hold) (t : Seat FifoNote) : Type 0 where
-  pub id : ℕ
-  pub free : IsFree s.slots slot
-  pub in_slot : InSlot s slot id h t
-  pub linked : IsLinkedNode (heap_of n t) id
-
 module _ {n : HeapNumbers} {slot : ℕ} {s : Seat FifoNote} {h : Hold} {t : Seat FifoNote} (f : Found n slot s h t) where
   pub found_holds : Holds t.slots h
   found_holds = slot_holds s t slot f.id h f.free f.in_slot

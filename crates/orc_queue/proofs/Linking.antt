@@ -26,12 +26,12 @@ use Rattle.orc_fifo_rule.specs.declared.fifo.FifoNote.TheVariants.{Entry}
 use Rattle.orc_fifo_rule.specs.QueueDiscipline.{FifoMay, entries_of, position_of, entries_in}
 use Rattle.orc_fifo_rule.specs.Watches.{WasNamed, node_to_put}
 use Rattle.orc_fifo_rule.specs.Laws.Nodes.{link_next}
+use Rattle.orc_queue.specs.Looking.{Known}
 use Rattle.orc_queue.specs.declared.put.PutTurn.{PutTurn}
 use Rattle.orc_queue.specs.declared.put.PutTurn.TheVariants.{Full, Over as PutOver, Put as PutDone}
 use Rattle.orc_queue.specs.Answers.{StopsPiece, stop_entries}
 use Rattle.orc_queue.specs.Turns.{Helps, HoldsNode, KeepsTail, LinkMissed, LinksBehind, LinksJob, SwingsLast, SwingsTail}
 use Rattle.orc_queue.proofs.Backs.{miss_back}
-use Rattle.orc_queue.proofs.Filled.{Known}
 use Rattle.orc_queue.proofs.Joins.{join, room_join}
 use Rattle.orc_queue.proofs.Looking.{position_read}
 use Rattle.orc_queue.proofs.Pieces.{link_puts, linked_puts, named_puts, node_puts, node_touched, position_puts}

@@ -4,10 +4,10 @@ use Rattle.orc_heap.proofs.Moved.{target_roots}
 use Rattle.std.specs.List.{slice_set}
 use Rattle.std.specs.Prelude.{unwrap_or}
 use Rattle.std.proofs.lemmas.List.{length-replicate}
-use Rattle.orc_heap.proofs.ByAnswer.{LookedHeld, LookedNull, Looks-held}
+use Rattle.orc_heap.proofs.ByAnswer.{LookedHeld, LookedNull}
 use Rattle.orc_heap.proofs.Changes.{length-change, get_lt}
 use Rattle.orc_heap.specs.Allowed.{AllAllowed, IsLinkedNode, HasLink}
-use Rattle.orc_heap.specs.Calls.{ReadsValue, RefusesSwing, event_of}
+use Rattle.orc_heap.specs.Calls.{Looks, ReadsValue, RefusesSwing, event_of}
 use Rattle.orc_heap.specs.Heap.{Heap, HeapNumbers, Node, new_heap, null, link_to}
 use Rattle.orc_heap.specs.Acts.{as_linked, as_named, heap_after}
 use Rattle.orc_heap.specs.Journals.{run_from, run_heap}
@@ -18,7 +18,9 @@ use Rattle.orc_heap.specs.Slots.{Hold, Holds, IsFree, Slots, id_in}
 use Rattle.orc_heap.specs.declared.events.Act.TheVariants.{Aim, Fill, Give, Look, Miss, Move, AimSide}
 use Rattle.orc_heap.specs.declared.events.Event.{Event}
 use Rattle.orc_heap.specs.declared.events.Link.{Link}
+use Rattle.orc_heap.specs.declared.events.Place.{Place}
 use Rattle.orc_heap.specs.declared.events.Place.TheVariants.{Next, Root, Side}
+use Rattle.orc_heap.specs.declared.holds.Looked.TheVariants.{Moved}
 use Rattle.orc_heap.specs.declared.holds.Want.{Want}
 use Rattle.orc_heap.specs.declared.holds.Want.TheVariants.{Node as WantNode, Null as WantNull}
 use Rattle.orc_fault.specs.declared.Spent.{Spent}
@@ -31,9 +33,10 @@ use Rattle.orc_fifo_rule.specs.Watches.{WasNamed}
 use Rattle.orc_fifo_rule.specs.Laws.Events.{begun_more}
 use Rattle.orc_fifo_rule.specs.Laws.Nodes.{position_at}
 use Rattle.orc_fifo_rule.specs.Laws.Paths.{successor_linked}
-use Rattle.orc_queue.specs.Turns.{HoldsNode, LooksAtRoot}
-use Rattle.orc_queue.proofs.Filled.{Known, some_value}
-use Rattle.orc_queue.proofs.Holding.{Found, found_id, found_other, found_other_id}
+use Rattle.orc_queue.specs.Looking.{FindsNull, FindsTwo, HoldsNext, HoldsRoot, Known}
+use Rattle.orc_queue.specs.Turns.{HoldsNode}
+use Rattle.orc_queue.proofs.Filled.{some_value}
+use Rattle.orc_queue.proofs.Holding.{found_id, found_other, found_other_id}
 use Rattle.orc_queue.proofs.Pieces.{named_puts, node_held}
 use Rattle.orc_heap.proofs.SingleActs.{has_link, some_same}
 use Rattle.orc_heap.proofs.Calls.{Puts-stood}
@@ -93,25 +96,31 @@ next_found n s t id link own rest k l p all =
       ];
     }
 
--- a node that a look of a root holds
-pub record HoldsRoot (n : HeapNumbers) (root slot : ℕ) (s : Seat FifoNote) (h : Hold) (t : Seat FifoNote) : Type 0 where
-  pub before : Known n s.seen
-  pub after : Known n t.seen
-  pub node : Found n slot s h t
-  pub named : WasNamed (heap_of n t) root node.id
-  pub one : Link
-  pub puts : Puts s (event_of s (Look (Root root) one) None ∷ event_of s (Look (Root root) (link_to node.id)) None ∷ []) t
+-- two loads differed
+pub found_two : (n : HeapNumbers) (s t : Seat FifoNote) (place : Place) (slot : ℕ) → Known n s.seen → Known n t.seen → Looks place slot s Moved t
+    → FindsTwo n place s t
+found_two n s t place slot before after l = record {
+  before = before;
+  after = after;
+  one = l.tells.0;
+  two = l.tells.1;
+  other = l.tells.2;
+  slots = l.tells.3;
+  fresh = l.fresh;
+  puts = l.tells.4;
+}
 
-pub root_held : (n : HeapNumbers) (s t : Seat FifoNote) (root slot : ℕ) (h : Hold) → root < 2 → IsFree s.slots slot → Known n s.seen
-    → Known n t.seen → LooksAtRoot root slot s (Some h) t → HoldsRoot n root slot s h t
-root_held n s t root slot h low free before after looked =
-    let l = Looks-held {place = Root root} looked.1 refl in
-    let link : Link = record { to = Some l.id; mark = looked.0.mark } in
+-- a node that a look of a root holds
+pub root_held : (n : HeapNumbers) (s t : Seat FifoNote) (root slot : ℕ) (mark : Bool) (h : Hold) → root < 2 → IsFree s.slots slot → Known n s.seen
+    → Known n t.seen → t.fresh ≡ s.fresh → LookedHeld (Root root) slot mark h s t → HoldsRoot n root slot s h t
+root_held n s t root slot mark h low free before after fresh l =
+    let link : Link = record { to = Some l.id; mark = mark } in
     let f = root_found n s t root link (event_of s (Look (Root root) l.one) None ∷ []) [] low before l.puts after.all in
     let id_is : l.id ≡ f.id = some_same (ap (λ (x : Link). x.to) f.is) in
     record {
       before = before;
       after = after;
+      fresh = fresh;
       node = record {
         id = f.id;
         free = free;
@@ -128,10 +137,10 @@ module _ {n : HeapNumbers} {root slot : ℕ} {s : Seat FifoNote} {h : Hold} {t :
   root_named = subst (λ (i : ℕ). WasNamed (heap_of n t) root i) (sym (found_id f.node)) f.named
 
   -- the look leaves the fresh node
-  pub root_fresh : (job : ℕ) (node : Hold) → HoldsNode n job node s → t.fresh ≡ s.fresh → HoldsNode n job node t
-  root_fresh job node held fresh =
-      node_held n s t _ f.puts f.after.all job node held.second f.before held (found_other f.node node held.held) (found_other_id f.node node held.held) fresh
-      refl refl
+  pub root_fresh : (job : ℕ) (node : Hold) → HoldsNode n job node s → HoldsNode n job node t
+  root_fresh job node held =
+      node_held n s t _ f.puts f.after.all job node held.second f.before held (found_other f.node node held.held) (found_other_id f.node node held.held)
+      f.fresh refl refl
 
 -- no look of a root finds null
 pub root_not_null : (n : HeapNumbers) (s t : Seat FifoNote) (root : ℕ) (mark : Bool) → root < 2 → Known n s.seen → AllAllowed (FifoMay n) [] t.seen
@@ -142,15 +151,8 @@ root_not_null n s t root mark low k all l =
     cc
 
 -- the successor that a look of a node's link holds
-pub record HoldsNext (n : HeapNumbers) (id slot : ℕ) (s : Seat FifoNote) (h : Hold) (t : Seat FifoNote) : Type 0 where
-  pub before : Known n s.seen
-  pub after : Known n t.seen
-  pub node : Found n slot s h t
-  pub link : HasLink (heap_of n t) id (link_to node.id)
-  pub puts : Puts s (event_of s (Look (Next id) (link_to node.id)) None ∷ event_of s (Look (Next id) (link_to node.id)) None ∷ []) t
-
 module _ (n : HeapNumbers) (s t : Seat FifoNote) (id slot : ℕ) (mark : Bool) (h : Hold) (free : IsFree s.slots slot) (before : Known n s.seen)
-    (after : Known n t.seen) (l : LookedHeld (Next id) slot mark h s t) where
+    (after : Known n t.seen) (fresh : t.fresh ≡ s.fresh) (l : LookedHeld (Next id) slot mark h s t) where
   -- the link of the first look is that of the second, since it doesn't change any more
   next_both : (next : ℕ) × (record { to = Some l.id; mark = mark } ≡ link_to next) × HasLink (heap_of n t) id (link_to next)
       → (l.one ≡ null) ⊎ ((next : ℕ) × (l.one ≡ link_to next) × HasLink (heap_of n t) id (link_to next)) → HoldsNext n id slot s h t
@@ -165,6 +167,7 @@ module _ (n : HeapNumbers) (s t : Seat FifoNote) (id slot : ℕ) (mark : Bool) (
       record {
         before = before;
         after = after;
+        fresh = fresh;
         node = record {
           id = next;
           free = free;
@@ -194,21 +197,16 @@ next_link n s t slot k h held f =
     (subst (λ (i : ℕ). HasLink (heap_of n t) (id_in s.slots k) (link_to i)) (sym (found_id f.node)) f.link)
 
 -- a look of a once linked node's link found null
-pub record FindsNull (n : HeapNumbers) (id : ℕ) (s t : Seat FifoNote) : Type 0 where
-  pub before : Known n s.seen
-  pub after : Known n t.seen
-  pub slots : t.slots ≡ s.slots
-  pub puts : Puts s (event_of s (Look (Next id) null) None ∷ []) t
-
-pub next_null : (n : HeapNumbers) (s t : Seat FifoNote) (id : ℕ) (mark : Bool) → Known n s.seen → Known n t.seen → IsLinkedNode (heap_of n s) id
-    → LookedNull (Next id) mark s t → FindsNull n id s t
-next_null n s t id mark before after linked l =
+pub next_null : (n : HeapNumbers) (s t : Seat FifoNote) (id : ℕ) (mark : Bool) → Known n s.seen → Known n t.seen → t.fresh ≡ s.fresh
+    → IsLinkedNode (heap_of n s) id → LookedNull (Next id) mark s t → FindsNull n id s t
+next_null n s t id mark before after fresh linked l =
     let link : Link = record { to = None; mark = mark } in
     let f = next_found n s t id link [] [] before linked l.puts after.all in
     record {
       before = before;
       after = after;
       slots = l.slots;
+      fresh = fresh;
       puts = elim f.either [
         | inl none ↦ subst (λ (x : Link). Puts s (event_of s (Look (Next id) x) None ∷ []) t) none l.puts
         | inr some ↦ let bad : None ≡ Some some.0 = ap (λ (x : Link). x.to) some.1 in absurd (cc)

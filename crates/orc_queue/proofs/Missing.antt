@@ -17,19 +17,17 @@ use Rattle.orc_heap.specs.Seats.{Seat, heap_of}
 use Rattle.orc_heap.specs.Slots.{Hold, id_in}
 use Rattle.orc_heap.specs.declared.events.Act.TheVariants.{Look}
 use Rattle.orc_heap.specs.declared.events.Event.{Event}
-use Rattle.orc_heap.specs.declared.events.Link.{Link}
 use Rattle.orc_heap.specs.declared.events.Place.{Place}
 use Rattle.orc_heap.specs.declared.events.Place.TheVariants.{Next, Root}
 use Rattle.orc_fifo_rule.proofs.Reading.{look_names}
 use Rattle.orc_fifo_rule.specs.QueueDiscipline.{FifoMay, position_of}
 use Rattle.orc_fifo_rule.specs.declared.fifo.FifoNote.{FifoNote}
+use Rattle.orc_queue.specs.Looking.{FindsTwo, HoldsRoot, Known}
 use Rattle.orc_queue.specs.declared.put.PutTurn.{PutTurn}
 use Rattle.orc_queue.specs.declared.put.PutTurn.TheVariants.{Full, Over as PutOver, Put as PutDone}
 use Rattle.orc_queue.specs.Answers.{IsFullAlone}
 use Rattle.orc_queue.specs.Turns.{KeepsTail, LinksBehind, TailIsLast}
-use Rattle.orc_queue.proofs.Filled.{Known}
 use Rattle.orc_queue.proofs.Holding.{found_id}
-use Rattle.orc_queue.proofs.Looking.{HoldsRoot}
 use Rattle.orc_queue.proofs.Pieces.{position_puts}
 
 -- the last node, which root 1 names, has been linked
@@ -90,11 +88,15 @@ root_still {n} {slot} {s} {h} {t} f alone =
     ]
 
 -- no look of root 1 finds two links
-pub moved_full : (n : HeapNumbers) (s t : Seat FifoNote) (one two : Link) → one ≢ two
-    → Puts s (event_of s (Look (Root 1) one) None ∷ event_of s (Look (Root 1) two) None ∷ []) t → AllAllowed (FifoMay n) [] t.seen → IsFullAlone n s t
-moved_full n s t one two other p all = λ part is alone l.
-    let quiet = quiet_part n s t _ p refl (subst (λ z. AllOwn s.agent z) (same_part s t _ part p is) alone) in
-    absurd (omega (arith, looks_differ n (FifoMay n) (λ es x k. k.fits) s t (Root 1) one two p all tt other, moves_from_own s.agent p.part, quiet))
+pub moved_full : {n : HeapNumbers} {s t : Seat FifoNote} → FindsTwo n (Root 1) s t → IsFullAlone n s t
+moved_full {n} {s} {t} f = λ part is alone l.
+    let quiet = quiet_part n s t _ f.puts refl (subst (λ z. AllOwn s.agent z) (same_part s t _ part f.puts is) alone) in
+    absurd (omega (
+      arith,
+      looks_differ n (FifoMay n) (λ es x k. k.fits) s t (Root 1) f.one f.two f.puts f.after.all tt f.other,
+      moves_from_own s.agent f.puts.part,
+      quiet,
+    ))
 
 -- the new node wasn't linked behind the node that root 1 names
 pub link_full : (n : HeapNumbers) (job tail : ℕ) (h : Hold) (s t : Seat FifoNote) (turn : PutTurn) → LinksBehind n 2 KeepsTail job tail h s turn t

@@ -22,8 +22,8 @@ use Rattle.orc_fifo_rule.specs.declared.fifo.FifoNote.TheVariants.{Swing}
 use Rattle.orc_fifo_rule.specs.QueueDiscipline.{FifoHolds, FifoMay, position_of}
 use Rattle.orc_fifo_rule.specs.Watches.{IsLeftBehind, WasNamed}
 use Rattle.orc_fifo_rule.specs.Laws.Kept.{fifo_keeps, fifo_moves_linked}
+use Rattle.orc_queue.specs.Looking.{Known}
 use Rattle.orc_queue.specs.Turns.{Helps, HoldsNode}
-use Rattle.orc_queue.proofs.Filled.{Known}
 use Rattle.orc_heap.proofs.Pieces.{own_node_puts, unless_other}
 use Rattle.orc_heap.proofs.Moved.{linked_place_later}
 

@@ -22,16 +22,15 @@ use Rattle.orc_fifo_rule.specs.declared.fifo.FifoNote.{FifoNote}
 use Rattle.orc_fifo_rule.specs.declared.fifo.FifoNote.TheVariants.{Swing}
 use Rattle.orc_fifo_rule.specs.QueueDiscipline.{FifoHolds, FifoMay, entries_of, has_begun, entries_in}
 use Rattle.orc_fifo_rule.specs.Laws.Events.{begun_more}
+use Rattle.orc_queue.specs.Looking.{FindsTwo, HoldsRoot, Known}
 use Rattle.orc_queue.specs.declared.put.PutTurn.{PutTurn}
 use Rattle.orc_queue.specs.declared.put.PutTurn.TheVariants.{Full, Over as PutOver, Put as PutDone}
 use Rattle.orc_queue.specs.Turns.{AreOver, EndsHelping, FindsFull, HoldsNode, IsTurnOver, Piece, PutMissed, PutTires, PutsBehind, PutsTurn, PutsTurns, TailIsLast, back_moves_in}
-use Rattle.orc_queue.proofs.Alone.{over_helped, over_missed, over_quiet, swing_settles}
+use Rattle.orc_queue.proofs.Alone.{look_next, look_root, over_helped, over_missed, over_quiet, swing_settles, swing_tail}
 use Rattle.orc_queue.proofs.Backs.{backs_left, backs_since_both, backs_then, look_or_back, looks_back}
 use Rattle.orc_queue.proofs.Behind.{behind_piece}
-use Rattle.orc_queue.proofs.Filled.{Known}
 use Rattle.orc_queue.proofs.Holding.{found_fresh, found_id, found_other_id, found_released}
 use Rattle.orc_queue.proofs.Joins.{full_join_left, full_join_right, join, room_join}
-use Rattle.orc_queue.proofs.Looking.{HoldsRoot}
 use Rattle.orc_queue.proofs.Pieces.{linked_puts, node_held, node_puts}
 use Rattle.orc_queue.proofs.Room.{room_unseen}
 use Rattle.orc_heap.proofs.OwnEntries.{noted-append}
@@ -42,36 +41,29 @@ use Rattle.orc_heap.proofs.Moved.{gives_in-append}
 
 -- two looks at the tail, two at its link, and the Swing
 module _ (n : HeapNumbers) (s : Seat FifoNote) (one : Link) (tail next : ℕ) where
-  abbrev at_first : Event FifoNote
-  at_first = event_of s (Look (Root 1) one) None
+  abbrev looks : List (Event FifoNote)
+  looks = look_root s 1 one ∷ look_root s 1 (link_to tail) ∷ look_next s tail next ∷ look_next s tail next ∷ []
 
-  abbrev at_tail : Event FifoNote
-  at_tail = event_of s (Look (Root 1) (link_to tail)) None
+  abbrev helping : List (Event FifoNote)
+  helping = look_root s 1 one ∷ look_root s 1 (link_to tail) ∷ look_next s tail next ∷ look_next s tail next ∷ swing_tail s tail next ∷ []
 
-  abbrev at_next : Event FifoNote
-  at_next = event_of s (Look (Next tail) (link_to next)) None
-
-  abbrev swing : Event FifoNote
-  swing = event_of s (Move (Root 1) (link_to tail) (link_to next)) (Some Swing)
-
-  helped_settles : (es : List (Event FifoNote)) → FifoHolds n es → has_begun es ≡ true
-      → AllAllowed (FifoMay n) es (at_first ∷ at_tail ∷ at_next ∷ at_next ∷ swing ∷ [])
-      → TailIsLast (run_heap n (es ++ at_first ∷ at_tail ∷ at_next ∷ at_next ∷ swing ∷ []))
+  helped_settles : (es : List (Event FifoNote)) → FifoHolds n es → has_begun es ≡ true → AllAllowed (FifoMay n) es helping
+      → TailIsLast (run_heap n (es ++ helping))
   helped_settles es holds begun all =
-      let looks : List (Event FifoNote) = at_first ∷ at_tail ∷ at_next ∷ at_next ∷ [] in
-      let first = allowed-left (FifoMay n) es looks (swing ∷ []) all in
-      let last = allowed-right (FifoMay n) es looks (swing ∷ []) all in
+      let first = allowed-left (FifoMay n) es looks (swing_tail s tail next ∷ []) all in
+      let last = allowed-right (FifoMay n) es looks (swing_tail s tail next ∷ []) all in
       let r = swing_settles n (es ++ looks) s.agent tail next (holds_later n es looks holds first) (begun_more es looks begun) last.0 in
-      subst (λ z. TailIsLast (run_heap n z)) (append_assoc es looks (swing ∷ [])) r
+      subst (λ z. TailIsLast (run_heap n z)) (append_assoc es looks (swing_tail s tail next ∷ [])) r
 
-  helped_unsettled : (es : List (Event FifoNote)) → AllAllowed (FifoMay n) es (at_first ∷ at_tail ∷ at_next ∷ at_next ∷ swing ∷ [])
-      → TailIsLast (run_heap n es) → ⊥
+  helped_unsettled : (es : List (Event FifoNote)) → AllAllowed (FifoMay n) es helping → TailIsLast (run_heap n es) → ⊥
   helped_unsettled es all settled =
-      let same : run_heap n ((es ++ at_first ∷ []) ++ at_tail ∷ []) ≡ run_heap n es =
-      ap (λ z. run_heap n z) (append_assoc es (at_first ∷ []) (at_tail ∷ [])) ∙ run_from-append (new_heap n) es (at_first ∷ at_tail ∷ []) in
+      let first = look_root s 1 one in
+      let second = look_root s 1 (link_to tail) in
+      let same : run_heap n ((es ++ first ∷ []) ++ second ∷ []) ≡ run_heap n es =
+      ap (λ z. run_heap n z) (append_assoc es (first ∷ []) (second ∷ [])) ∙ run_from-append (new_heap n) es (first ∷ second ∷ []) in
       let link : shown (run_heap n es) (Next tail) ≡ Some (link_to next) =
       subst (λ (h : Heap). shown h (Next tail) ≡ Some (link_to next)) same all.1.1.0.fits in
-      let before : run_heap n (es ++ at_first ∷ []) ≡ run_heap n es = run_from-append (new_heap n) es (at_first ∷ []) in
+      let before : run_heap n (es ++ first ∷ []) ≡ run_heap n es = run_from-append (new_heap n) es (first ∷ []) in
       let tail_at : shown (run_heap n es) (Root 1) ≡ Some (link_to tail) = subst (λ (h : Heap). shown h (Root 1) ≡ Some (link_to tail)) before all.1.0.fits in
       let last_is : settled.last ≡ tail = link_same settled.last tail (some_same (sym settled.tail_is ∙ tail_at)) in
       null_to next (some_same (sym (subst (λ (x : ℕ). shown (run_heap n es) (Next x) ≡ Some null) last_is settled.ends) ∙ link))
@@ -93,7 +85,7 @@ module _ (n : HeapNumbers) (one : Link) (job tail : ℕ) (h : Hold) (s a b t : S
     turn_done PutOver l =
         let q0 = l.stops.piece in
         let q = puts_released a b t q0.own q0.puts freed in
-        let j = join 6 s a t (at_first n s one tail 0 ∷ at_tail n s one tail 0 ∷ []) q0.own [] p q slots q0.entries_are (omega (arith, q0.no_give))
+        let j = join 6 s a t (look_root s 1 one ∷ look_root s 1 (link_to tail) ∷ []) q0.own [] p q slots q0.entries_are (omega (arith, q0.no_give))
         (omega (arith, q0.few)) in
         let fresh = fresh_t ∙ (l.stops.fresh ∙ fresh_a) in
         let moved = λ (at : shown (heap_of n a) (Root 1) ≡ Some (link_to tail)). enough (l.stops.moved at)
@@ -102,35 +94,35 @@ module _ (n : HeapNumbers) (one : Link) (job tail : ℕ) (h : Hold) (s a b t : S
           | inl none ↦ over_missed n TailIsLast 1 tail one s a t k all_a all_t p q0.own q j fresh moved none
           | inr helping ↦
               let next : ℕ = helping.0 in
-              let is : q0.own ≡ at_next n s one tail next ∷ at_next n s one tail next ∷ swing n s one tail next ∷ [] =
+              let is : q0.own ≡ look_next s tail next ∷ look_next s tail next ∷ swing_tail s tail next ∷ [] =
               helping.1 ∙ ap (λ (x : ℕ). record { agent = x; act = Look (Next tail) (link_to next); note = None }
               ∷ record { agent = x; act = Look (Next tail) (link_to next); note = None }
               ∷ record { agent = x; act = Move (Root 1) (link_to tail) (link_to next); note = Some Swing } ∷ []) p.agent in
               over_helped n TailIsLast 1 tail one s a t k all_a all_t p q0.own q j fresh moved
-              (λ es holds begun all. subst (λ z. TailIsLast (run_heap n (es ++ at_first n s one tail 0 ∷ at_tail n s one tail 0 ∷ z))) (sym is)
+              (λ es holds begun all. subst (λ z. TailIsLast (run_heap n (es ++ look_root s 1 one ∷ look_root s 1 (link_to tail) ∷ z))) (sym is)
               (helped_settles n s one tail next es holds begun
-              (subst (λ z. AllAllowed (FifoMay n) es (at_first n s one tail 0 ∷ at_tail n s one tail 0 ∷ z)) is all)))
+              (subst (λ z. AllAllowed (FifoMay n) es (look_root s 1 one ∷ look_root s 1 (link_to tail) ∷ z)) is all)))
               (λ es all settled. helped_unsettled n s one tail next es
-              (subst (λ z. AllAllowed (FifoMay n) es (at_first n s one tail 0 ∷ at_tail n s one tail 0 ∷ z)) is all) settled)
+              (subst (λ z. AllAllowed (FifoMay n) es (look_root s 1 one ∷ look_root s 1 (link_to tail) ∷ z)) is all) settled)
         ] in
         record {
           over = over;
           room = room_join n s a t _ _ over.piece.own p q over.piece.puts first_room
               (room_join n a b t _ _ _ q0.puts freed q l.room (room_unseen n b t [] freed refl));
           node = node_held n b t [] freed all_t job h l.node.second kb l.node held same_id fresh_t refl refl;
-          back = elim (look_or_back n (Root 1) refl s a k all_a tt (link_to tail) None (at_first n s one tail 0 ∷ []) [] p) [
+          back = elim (look_or_back n (Root 1) refl s a k all_a tt (link_to tail) None (look_root s 1 one ∷ []) [] p) [
             | inl at ↦
                 omega (
                   arith,
                   l.back at,
                   backs_left a b t q0.own [] q0.own q0.puts freed q,
-                  backs_then s a t (at_first n s one tail 0)
-                      (at_tail n s one tail 0 ∷ []) q0.own over.piece.own p q over.piece.puts refl refl,
+                  backs_then s a t (look_root s 1 one)
+                      (look_root s 1 (link_to tail) ∷ []) q0.own over.piece.own p q over.piece.puts refl refl,
                 )
             | inr some ↦ omega (
               arith,
               some,
-              backs_since_both s a t (at_first n s one tail 0 ∷ at_tail n s one tail 0 ∷ []) q0.own
+              backs_since_both s a t (look_root s 1 one ∷ look_root s 1 (link_to tail) ∷ []) q0.own
                   over.piece.own p q over.piece.puts,
             )
           ];
@@ -139,14 +131,14 @@ module _ (n : HeapNumbers) (one : Link) (job tail : ℕ) (h : Hold) (s a b t : S
         let q0 = l.piece in
         let q = puts_released a b t q0.own q0.puts freed in
         let entries : entries_of q0.own ≡ Put s.agent job at ∷ [] = q0.entries_are ∙ ap (λ (x : ℕ). Put x job at ∷ []) p.agent in
-        let j = join 6 s a t (at_first n s one tail 0 ∷ at_tail n s one tail 0 ∷ []) q0.own (Put s.agent job at ∷ []) p q slots entries
+        let j = join 6 s a t (look_root s 1 one ∷ look_root s 1 (link_to tail) ∷ []) q0.own (Put s.agent job at ∷ []) p q slots entries
         (omega (arith, q0.no_give)) (omega (arith, q0.few)) in
         record {
           piece = j.piece;
           helps = record {
-            before = at_first n s one tail 0 ∷ [];
+            before = look_root s 1 one ∷ [];
             tail = tail;
-            look = at_tail n s one tail 0;
+            look = look_root s 1 (link_to tail);
             sees = refl;
             rest = q0.own;
             es_are =
@@ -160,7 +152,7 @@ module _ (n : HeapNumbers) (one : Link) (job tail : ℕ) (h : Hold) (s a b t : S
     turn_done Full l =
         let q0 = l.piece in
         let q = puts_released a b t q0.own q0.puts freed in
-        let j = join 6 s a t (at_first n s one tail 0 ∷ at_tail n s one tail 0 ∷ []) q0.own [] p q slots q0.entries_are (omega (arith, q0.no_give))
+        let j = join 6 s a t (look_root s 1 one ∷ look_root s 1 (link_to tail) ∷ []) q0.own [] p q slots q0.entries_are (omega (arith, q0.no_give))
         (omega (arith, q0.few)) in
         record {
           piece = j.piece;
@@ -170,31 +162,30 @@ module _ (n : HeapNumbers) (one : Link) (job tail : ℕ) (h : Hold) (s a b t : S
 
 -- by what the look of the tail found
 pub turn_found : {n : HeapNumbers} (job : ℕ) (node : Hold) {tail : Hold} {s a b t : Seat FifoNote} → HoldsRoot n 1 2 s tail a → Known n b.seen
-    → AllAllowed (FifoMay n) [] t.seen → Holds s.slots node → a.fresh ≡ s.fresh
+    → AllAllowed (FifoMay n) [] t.seen → Holds s.slots node
     → ((i : ℕ) → b.fresh ≡ Some i → IsUntouched b.agent (heap_of n b) i) → Releases b tail t → (turn : PutTurn)
     → PutsBehind n job (id_in a.slots tail) node a turn b → PutsTurn n job node s turn t
-turn_found {n} job node {tail} {s} {a} {b} {t} f kb all held fresh_a untouched released turn put =
+turn_found {n} job node {tail} {s} {a} {b} {t} f kb all held untouched released turn put =
     let piece = behind_piece n job (id_in a.slots tail) node a b turn put in
     let linked = linked_puts n a b piece.own piece.puts kb.all f.node.id f.node.linked in
     let fresh = found_fresh f.node piece.slots untouched linked released in
     let slots = found_released f.node piece.slots released in
     let same = ap (λ z. id_in z node) slots ∙ sym (ap (λ z. id_in z node) piece.slots ∙ found_other_id f.node node held) in
-    turn_done n f.one job f.node.id node s a b t f.before kb f.after.all all f.puts released.puts slots fresh_a fresh
+    turn_done n f.one job f.node.id node s a b t f.before kb f.after.all all f.puts released.puts slots f.fresh fresh
     (subst (λ z. Holds z node) (sym slots) held) same turn (subst (λ (i : ℕ). PutsBehind n job i node a turn b) (found_id f.node) put)
 
 -- the tail moved between two looks
-pub turn_moved : (n : HeapNumbers) (job : ℕ) (h : Hold) (s t : Seat FifoNote) (one two : Link) → Known n s.seen → AllAllowed (FifoMay n) [] t.seen
-    → HoldsNode n job h s → one ≢ two → t.slots ≡ s.slots → t.fresh ≡ s.fresh
-    → Puts s (event_of s (Look (Root 1) one) None ∷ event_of s (Look (Root 1) two) None ∷ []) t → PutMissed n job h s t
-turn_moved n job h s t one two k all node other slots fresh p =
-    let piece : Piece 6 s [] t = record { own = _; slots = slots; puts = p; entries_are = refl; no_give = refl; few = omega arith } in
-    let over = over_quiet n TailIsLast s t piece fresh refl (looks_differ n (FifoMay n) (λ es x k. k.fits) s t (Root 1) one two p all tt other) in
+pub turn_moved : {n : HeapNumbers} (job : ℕ) (h : Hold) {s t : Seat FifoNote} → FindsTwo n (Root 1) s t → HoldsNode n job h s → PutMissed n job h s t
+turn_moved {n} job h {s} {t} f node =
+    let piece : Piece 6 s [] t = record { own = _; slots = f.slots; puts = f.puts; entries_are = refl; no_give = refl; few = omega arith } in
+    let over = over_quiet n TailIsLast s t piece f.fresh refl
+    (looks_differ n (FifoMay n) (λ es x k. k.fits) s t (Root 1) f.one f.two f.puts f.after.all tt f.other) in
     record {
       over = over;
-      room = λ f. room_unseen n s t _ p refl (subst (λ z. FindsFull n s.agent s.seen z) (one_part s t _ _ over.piece.puts p) f);
-      node = node_puts n s t _ p all job h node.second k node slots fresh refl refl;
-      back = subst (λ z. 1 ≤ back_moves_in s.agent z) (one_part s t _ _ p over.piece.puts)
-          (looks_back n (Root 1) refl s t k all tt one two p other);
+      room = λ x. room_unseen n s t _ f.puts refl (subst (λ z. FindsFull n s.agent s.seen z) (one_part s t _ _ over.piece.puts f.puts) x);
+      node = node_puts n s t _ f.puts f.after.all job h node.second f.before node f.slots f.fresh refl refl;
+      back = subst (λ z. 1 ≤ back_moves_in s.agent z) (one_part s t _ _ f.puts over.piece.puts)
+          (looks_back n (Root 1) refl s t f.before f.after.all tt f.one f.two f.puts f.other);
     }
 
 -- one turn more

@@ -25,8 +25,8 @@ use Rattle.orc_fifo_rule.specs.Watches.{WasNamed}
 use Rattle.orc_fifo_rule.specs.Laws.Events.{begun_more}
 use Rattle.orc_fifo_rule.specs.Laws.Kept.{fifo_keeps}
 use Rattle.orc_fifo_rule.specs.Laws.Nodes.{position_next}
+use Rattle.orc_queue.specs.Looking.{Known}
 use Rattle.orc_queue.specs.Turns.{FindsFull, next_position}
-use Rattle.orc_queue.proofs.Filled.{Known}
 use Rattle.orc_heap.proofs.OwnEntries.{noted-append}
 use Rattle.orc_heap.proofs.SingleActs.{has_link}
 use Rattle.orc_heap.proofs.Calls.{Puts-stood}

@@ -1,5 +1,5 @@
 -- A turn of a take, and so many.
-use Rattle.std.proofs.Common.{List, Option, Some, None, [], ap, append_assoc, arith, inl, inr, refl, subst, sym, true, ℕ, ◌*◌, ◌++◌, ◌<◌, ◌∙◌, ◌∷◌, ◌≡◌, ◌≢◌, ◌≤◌}
+use Rattle.std.proofs.Common.{List, Some, None, [], ap, append_assoc, arith, inl, inr, refl, subst, sym, true, ℕ, ◌*◌, ◌++◌, ◌<◌, ◌∙◌, ◌∷◌, ◌≡◌, ◌≢◌, ◌≤◌}
 use Rattle.std.proofs.lemmas.List.{length-append}
 use Rattle.orc_heap.proofs.OwnParts.{moves_from_own}
 use Rattle.orc_heap.proofs.Runs.{run_from-append}
@@ -22,14 +22,13 @@ use Rattle.orc_fifo_rule.specs.declared.fifo.FifoNote.{FifoNote}
 use Rattle.orc_fifo_rule.specs.declared.fifo.FifoNote.TheVariants.{Swing}
 use Rattle.orc_fifo_rule.specs.QueueDiscipline.{FifoHolds, FifoMay, entries_of, has_begun, entries_in}
 use Rattle.orc_fifo_rule.specs.Laws.Events.{begun_more}
+use Rattle.orc_queue.specs.Looking.{FindsTwo, HoldsNext, HoldsRoot, Known}
 use Rattle.orc_queue.specs.declared.take.TakeTurn.{TakeTurn}
 use Rattle.orc_queue.specs.declared.take.TakeTurn.TheVariants.{Empty as TakeEmpty, Over as TakeOver, Took as TakeDone}
 use Rattle.orc_queue.specs.Turns.{AreOver, HelpsHead, IsTurnOver, HasStopped, TailIsPast, TakesBehind, TakesJob, TakesFromHead, TakesNone, TakesTurn, TakesTurns}
-use Rattle.orc_queue.proofs.Alone.{over_helped, over_missed, over_quiet, swing_past}
-use Rattle.orc_queue.proofs.Filled.{Known}
+use Rattle.orc_queue.proofs.Alone.{look_next, look_root, over_helped, over_missed, over_quiet, swing_past, swing_tail}
 use Rattle.orc_queue.proofs.Holding.{found_fresh, found_id, found_other_id, found_released}
 use Rattle.orc_queue.proofs.Joins.{join}
-use Rattle.orc_queue.proofs.Looking.{HoldsNext, HoldsRoot}
 use Rattle.orc_queue.proofs.Pieces.{linked_puts}
 use Rattle.orc_queue.proofs.Taking.{still_puts}
 use Rattle.orc_heap.proofs.OwnEntries.{noted-append}
@@ -75,7 +74,7 @@ module _ (n : HeapNumbers) (head next : ℕ) (s a b t : Seat FifoNote)
     (p : Puts s (event_of s (Look (Next head) (link_to next)) None ∷ event_of s (Look (Next head) (link_to next)) None ∷ []) a)
     (all_a : AllAllowed (FifoMay n) [] a.seen) (freed : Puts b [] t) (slots : t.slots ≡ s.slots) (fresh_a : a.fresh ≡ s.fresh) (fresh_t : t.fresh ≡ b.fresh)
   where
-    pub behind_over : TakesFromHead n head next a None b → HasStopped n 4 (Root 0) (link_to head) (HelpsHead s head) s t
+    pub behind_over : TakesFromHead n head next a TakeOver b → HasStopped n 4 (Root 0) (link_to head) (HelpsHead s head) s t
     behind_over l =
         let first : Event FifoNote = event_of s (Look (Next head) (link_to next)) None in
         let q0 = l.piece in
@@ -107,13 +106,16 @@ module _ (n : HeapNumbers) (head next : ℕ) (s a b t : Seat FifoNote)
         record { piece = j.piece; fresh = fresh_t ∙ (l.fresh ∙ fresh_a) }
 
 -- the head's link moved between two looks
-pub behind_differs : (n : HeapNumbers) (head : ℕ) (s t : Seat FifoNote) (one two : Link) → AllAllowed (FifoMay n) [] t.seen
-    → IsLinkedNode (heap_of n s) head → one ≢ two → t.slots ≡ s.slots → t.fresh ≡ s.fresh
-    → Puts s (event_of s (Look (Next head) one) None ∷ event_of s (Look (Next head) two) None ∷ []) t → HasStopped n 4 (Root 0) (link_to head) (HelpsHead s head) s t
-behind_differs n head s t one two all linked other slots fresh p = record {
-  piece = record { own = _; slots = slots; puts = p; entries_are = refl; no_give = refl; few = omega arith };
-  fresh = fresh;
-  moved = λ at. omega (arith, moves_from_own s.agent p.part, looks_differ n (FifoMay n) (λ es x k. k.fits) s t (Next head) one two p all linked other);
+pub behind_differs : {n : HeapNumbers} (head : ℕ) {s t : Seat FifoNote} → FindsTwo n (Next head) s t → IsLinkedNode (heap_of n s) head
+    → HasStopped n 4 (Root 0) (link_to head) (HelpsHead s head) s t
+behind_differs {n} head {s} {t} f linked = record {
+  piece = record { own = _; slots = f.slots; puts = f.puts; entries_are = refl; no_give = refl; few = omega arith };
+  fresh = f.fresh;
+  moved = λ at. omega (
+    arith,
+    moves_from_own s.agent f.puts.part,
+    looks_differ n (FifoMay n) (λ es x k. k.fits) s t (Next head) f.one f.two f.puts f.after.all linked f.other,
+  );
   own_moves = inl refl;
 }
 
@@ -124,38 +126,40 @@ pub record TakenPiece (s t : Seat FifoNote) : Type 0 where
   pub fresh : t.fresh ≡ s.fresh
   pub puts : Puts s own t
 
-pub next_piece : (n : HeapNumbers) (head next : ℕ) (s t : Seat FifoNote) (got : Option (ℕ × ℕ)) → TakesFromHead n head next s got t → TakenPiece s t
-next_piece n head next s t None l = record { own = l.piece.own; slots = l.piece.slots; fresh = l.fresh; puts = l.piece.puts }
-next_piece n head next s t (Some got) l = record { own = l.piece.own; slots = l.piece.slots; fresh = l.fresh; puts = l.piece.puts }
+pub next_piece : (n : HeapNumbers) (head next : ℕ) (s t : Seat FifoNote) (turn : TakeTurn) → TakesFromHead n head next s turn t → TakenPiece s t
+next_piece n head next s t TakeOver l = record { own = l.piece.own; slots = l.piece.slots; fresh = l.fresh; puts = l.piece.puts }
+next_piece n head next s t (TakeDone job at) l = record { own = l.piece.own; slots = l.piece.slots; fresh = l.fresh; puts = l.piece.puts }
+next_piece n head next s t TakeEmpty l = absurd l
 
 -- the successor that the pass held is released
 module _ (n : HeapNumbers) (s a b t : Seat FifoNote) (slot : ℕ) (head next : Hold) (held : Holds s.slots head)
-    (f : HoldsNext n (id_in s.slots head) slot s next a) (fresh : a.fresh ≡ s.fresh) (all : AllAllowed (FifoMay n) [] b.seen)
+    (f : HoldsNext n (id_in s.slots head) slot s next a) (all : AllAllowed (FifoMay n) [] b.seen)
     (untouched : (i : ℕ) → b.fresh ≡ Some i → IsUntouched b.agent (heap_of n b) i) (released : Releases b next t)
   where
-    told : (got : Option (ℕ × ℕ)) → TakesFromHead n (id_in a.slots head) (id_in a.slots next) a got b → TakesFromHead n (id_in s.slots head) f.node.id a got b
-    told got l = subst (λ (i : ℕ). TakesFromHead n i f.node.id a got b) (found_other_id f.node head held)
-        (subst (λ (i : ℕ). TakesFromHead n (id_in a.slots head) i a got b) (found_id f.node) l)
+    told : (turn : TakeTurn) → TakesFromHead n (id_in a.slots head) (id_in a.slots next) a turn b
+        → TakesFromHead n (id_in s.slots head) f.node.id a turn b
+    told turn l = subst (λ (i : ℕ). TakesFromHead n i f.node.id a turn b) (found_other_id f.node head held)
+        (subst (λ (i : ℕ). TakesFromHead n (id_in a.slots head) i a turn b) (found_id f.node) l)
 
-    piece : (got : Option (ℕ × ℕ)) → TakesFromHead n (id_in a.slots head) (id_in a.slots next) a got b → TakenPiece a b
-    piece got l = next_piece n (id_in a.slots head) (id_in a.slots next) a b got l
+    piece : (turn : TakeTurn) → TakesFromHead n (id_in a.slots head) (id_in a.slots next) a turn b → TakenPiece a b
+    piece turn l = next_piece n (id_in a.slots head) (id_in a.slots next) a b turn l
 
-    still_fresh : (got : Option (ℕ × ℕ)) → TakesFromHead n (id_in a.slots head) (id_in a.slots next) a got b → t.fresh ≡ b.fresh
-    still_fresh got l =
-        let p = piece got l in
+    still_fresh : (turn : TakeTurn) → TakesFromHead n (id_in a.slots head) (id_in a.slots next) a turn b → t.fresh ≡ b.fresh
+    still_fresh turn l =
+        let p = piece turn l in
         found_fresh f.node p.slots untouched (linked_puts n a b p.own p.puts all f.node.id f.node.linked) released
 
-    pub next_over : TakesFromHead n (id_in a.slots head) (id_in a.slots next) a None b → TakesBehind n (id_in s.slots head) s TakeOver t
-    next_over l =
-        let slots = found_released f.node (piece None l).slots released in
-        behind_over n (id_in s.slots head) f.node.id s a b t f.puts f.after.all released.puts slots fresh (still_fresh None l) (told None l)
+    back : (turn : TakeTurn) → TakesFromHead n (id_in a.slots head) (id_in a.slots next) a turn b → t.slots ≡ s.slots
+    back turn l = found_released f.node (piece turn l).slots released
 
-    pub next_taken : (job at : ℕ) → TakesFromHead n (id_in a.slots head) (id_in a.slots next) a (Some (job, at)) b
-        → TakesBehind n (id_in s.slots head) s (TakeDone job at) t
-    next_taken job at l =
-        let got = Some (job, at) in
-        let slots = found_released f.node (piece got l).slots released in
-        behind_taken n (id_in s.slots head) f.node.id s a b t f.puts f.after.all released.puts slots fresh (still_fresh got l) job at (told got l)
+    pub next_turn : (turn : TakeTurn) → TakesFromHead n (id_in a.slots head) (id_in a.slots next) a turn b → TakesBehind n (id_in s.slots head) s turn t
+    next_turn TakeOver l =
+        behind_over n (id_in s.slots head) f.node.id s a b t f.puts f.after.all released.puts (back TakeOver l) f.fresh (still_fresh TakeOver l)
+        (told TakeOver l)
+    next_turn (TakeDone job at) l =
+        let turn = TakeDone job at in
+        behind_taken n (id_in s.slots head) f.node.id s a b t f.puts f.after.all released.puts (back turn l) f.fresh (still_fresh turn l) job at (told turn l)
+    next_turn TakeEmpty l = absurd l
 
 -- and after all that a turn does behind the head
 pub behind_kept : (n : HeapNumbers) (head : ℕ) (s t : Seat FifoNote) (turn : TakeTurn) → TakesBehind n head s turn t → TakenPiece s t
@@ -165,43 +169,28 @@ behind_kept n head s t TakeEmpty l = record { own = l.piece.own; slots = l.piece
 
 -- two looks at the head, two at its link, the test of the tail, and the Swing
 module _ (n : HeapNumbers) (s : Seat FifoNote) (one : Link) (head next : ℕ) where
-  abbrev at_first : Event FifoNote
-  at_first = event_of s (Look (Root 0) one) None
-
-  abbrev at_head : Event FifoNote
-  at_head = event_of s (Look (Root 0) (link_to head)) None
-
-  abbrev at_next : Event FifoNote
-  at_next = event_of s (Look (Next head) (link_to next)) None
-
-  abbrev at_tail : Event FifoNote
-  at_tail = event_of s (Look (Root 1) (link_to head)) None
-
-  abbrev swing : Event FifoNote
-  swing = event_of s (Move (Root 1) (link_to head) (link_to next)) (Some Swing)
-
   abbrev helping : List (Event FifoNote)
-  helping = at_next ∷ at_next ∷ at_tail ∷ swing ∷ []
+  helping = look_next s head next ∷ look_next s head next ∷ look_root s 1 (link_to head) ∷ swing_tail s head next ∷ []
 
-  helped_settles : (es : List (Event FifoNote)) → FifoHolds n es → has_begun es ≡ true → AllAllowed (FifoMay n) es (at_first ∷ at_head ∷ helping)
-      → TailIsPast (run_heap n (es ++ at_first ∷ at_head ∷ helping))
+  helped_settles : (es : List (Event FifoNote)) → FifoHolds n es → has_begun es ≡ true → AllAllowed (FifoMay n) es (look_root s 0 one ∷ look_root s 0 (link_to head) ∷ helping)
+      → TailIsPast (run_heap n (es ++ look_root s 0 one ∷ look_root s 0 (link_to head) ∷ helping))
   helped_settles es holds begun all =
-      let looks : List (Event FifoNote) = at_first ∷ at_head ∷ at_next ∷ at_next ∷ at_tail ∷ [] in
-      let first = allowed-left (FifoMay n) es looks (swing ∷ []) all in
-      let last = allowed-right (FifoMay n) es looks (swing ∷ []) all in
+      let looks : List (Event FifoNote) = look_root s 0 one ∷ look_root s 0 (link_to head) ∷ look_next s head next ∷ look_next s head next ∷ look_root s 1 (link_to head) ∷ [] in
+      let first = allowed-left (FifoMay n) es looks (swing_tail s head next ∷ []) all in
+      let last = allowed-right (FifoMay n) es looks (swing_tail s head next ∷ []) all in
       let same : run_heap n (es ++ looks) ≡ run_heap n es = run_from-append (new_heap n) es looks in
-      let before : run_heap n (es ++ at_first ∷ []) ≡ run_heap n es = run_from-append (new_heap n) es (at_first ∷ []) in
+      let before : run_heap n (es ++ look_root s 0 one ∷ []) ≡ run_heap n es = run_from-append (new_heap n) es (look_root s 0 one ∷ []) in
       let at : shown (run_heap n (es ++ looks)) (Root 0) ≡ Some (link_to head) = ap (λ (h : Heap). shown h (Root 0)) (same ∙ sym before) ∙ all.1.0.fits in
       let r = swing_past n (es ++ looks) s.agent head next (holds_later n es looks holds first) (begun_more es looks begun) at last.0 in
-      subst (λ z. TailIsPast (run_heap n z)) (append_assoc es looks (swing ∷ [])) r
+      subst (λ z. TailIsPast (run_heap n z)) (append_assoc es looks (swing_tail s head next ∷ [])) r
 
-  helped_unsettled : (es : List (Event FifoNote)) → AllAllowed (FifoMay n) es (at_first ∷ at_head ∷ helping) → TailIsPast (run_heap n es) → ⊥
+  helped_unsettled : (es : List (Event FifoNote)) → AllAllowed (FifoMay n) es (look_root s 0 one ∷ look_root s 0 (link_to head) ∷ helping) → TailIsPast (run_heap n es) → ⊥
   helped_unsettled es all settled =
-      let looks : List (Event FifoNote) = at_first ∷ at_head ∷ at_next ∷ at_next ∷ [] in
-      let last = allowed-right (FifoMay n) es looks (at_tail ∷ swing ∷ []) all in
+      let looks : List (Event FifoNote) = look_root s 0 one ∷ look_root s 0 (link_to head) ∷ look_next s head next ∷ look_next s head next ∷ [] in
+      let last = allowed-right (FifoMay n) es looks (look_root s 1 (link_to head) ∷ swing_tail s head next ∷ []) all in
       let same : run_heap n (es ++ looks) ≡ run_heap n es = run_from-append (new_heap n) es looks in
       let tail_is : shown (run_heap n es) (Root 1) ≡ Some (link_to head) = ap (λ (h : Heap). shown h (Root 1)) (sym same) ∙ last.0.fits in
-      let before : run_heap n (es ++ at_first ∷ []) ≡ run_heap n es = run_from-append (new_heap n) es (at_first ∷ []) in
+      let before : run_heap n (es ++ look_root s 0 one ∷ []) ≡ run_heap n es = run_from-append (new_heap n) es (look_root s 0 one ∷ []) in
       let head_at : shown (run_heap n es) (Root 0) ≡ Some (link_to head) = ap (λ (h : Heap). shown h (Root 0)) (sym before) ∙ all.1.0.fits in
       let head_same : settled.head ≡ head = link_same settled.head head (some_same (sym settled.head_is ∙ head_at)) in
       settled.tail_apart (tail_is ∙ ap (λ (x : ℕ). Some (link_to x)) (sym head_same))
@@ -216,7 +205,7 @@ module _ (n : HeapNumbers) (one : Link) (head : ℕ) (s a b t : Seat FifoNote) (
     turn_taken TakeOver l =
         let q0 = l.piece in
         let q = puts_released a b t q0.own q0.puts freed in
-        let looks : List (Event FifoNote) = at_first n s one head 0 ∷ at_head n s one head 0 ∷ [] in
+        let looks : List (Event FifoNote) = look_root s 0 one ∷ look_root s 0 (link_to head) ∷ [] in
         let j = join 6 s a t looks q0.own [] p q slots q0.entries_are (omega (arith, q0.no_give)) (omega (arith, q0.few)) in
         let fresh = fresh_t ∙ (l.fresh ∙ fresh_a) in
         let moved = λ (at : shown (heap_of n a) (Root 0) ≡ Some (link_to head)). enough (l.moved at) (moves_left a b t q0.own [] q0.own q0.puts freed q) in
@@ -230,11 +219,11 @@ module _ (n : HeapNumbers) (one : Link) (head : ℕ) (s a b t : Seat FifoNote) (
               ∷ record { agent = x; act = Look (Root 1) (link_to head); note = None }
               ∷ record { agent = x; act = Move (Root 1) (link_to head) (link_to next); note = Some Swing } ∷ []) p.agent in
               over_helped n TailIsPast 0 head one s a t k all_a all_t p q0.own q j fresh moved
-              (λ es holds begun all. subst (λ z. TailIsPast (run_heap n (es ++ at_first n s one head 0 ∷ at_head n s one head 0 ∷ z))) (sym is)
+              (λ es holds begun all. subst (λ z. TailIsPast (run_heap n (es ++ look_root s 0 one ∷ look_root s 0 (link_to head) ∷ z))) (sym is)
               (helped_settles n s one head next es holds begun
-              (subst (λ z. AllAllowed (FifoMay n) es (at_first n s one head 0 ∷ at_head n s one head 0 ∷ z)) is all)))
+              (subst (λ z. AllAllowed (FifoMay n) es (look_root s 0 one ∷ look_root s 0 (link_to head) ∷ z)) is all)))
               (λ es all settled. helped_unsettled n s one head next es
-              (subst (λ z. AllAllowed (FifoMay n) es (at_first n s one head 0 ∷ at_head n s one head 0 ∷ z)) is all) settled)
+              (subst (λ z. AllAllowed (FifoMay n) es (look_root s 0 one ∷ look_root s 0 (link_to head) ∷ z)) is all) settled)
         ]
     turn_taken (TakeDone job at) l =
         let q0 = l.piece in
@@ -251,21 +240,19 @@ module _ (n : HeapNumbers) (one : Link) (head : ℕ) (s a b t : Seat FifoNote) (
 
 -- by what the look of the head found
 pub turn_found : {n : HeapNumbers} {head : Hold} {s a b t : Seat FifoNote} → HoldsRoot n 0 1 s head a → AllAllowed (FifoMay n) [] b.seen
-    → AllAllowed (FifoMay n) [] t.seen → a.fresh ≡ s.fresh → ((i : ℕ) → b.fresh ≡ Some i → IsUntouched b.agent (heap_of n b) i)
+    → AllAllowed (FifoMay n) [] t.seen → ((i : ℕ) → b.fresh ≡ Some i → IsUntouched b.agent (heap_of n b) i)
     → Releases b head t → (turn : TakeTurn) → TakesBehind n (id_in a.slots head) a turn b → TakesTurn n s turn t
-turn_found {n} {head} {s} {a} {b} {t} f all_b all_t fresh_a untouched released turn took =
+turn_found {n} {head} {s} {a} {b} {t} f all_b all_t untouched released turn took =
     let piece = behind_kept n (id_in a.slots head) a b turn took in
     let linked = linked_puts n a b piece.own piece.puts all_b f.node.id f.node.linked in
-    turn_taken n f.one f.node.id s a b t f.before f.after.all all_t f.puts released.puts (found_released f.node piece.slots released) fresh_a
+    turn_taken n f.one f.node.id s a b t f.before f.after.all all_t f.puts released.puts (found_released f.node piece.slots released) f.fresh
     (found_fresh f.node piece.slots untouched linked released) turn (subst (λ (i : ℕ). TakesBehind n i a turn b) (found_id f.node) took)
 
 -- the head moved between two looks
-pub turn_differs : (n : HeapNumbers) (s t : Seat FifoNote) (one two : Link) → AllAllowed (FifoMay n) [] t.seen → one ≢ two → t.slots ≡ s.slots
-    → t.fresh ≡ s.fresh
-    → Puts s (event_of s (Look (Root 0) one) None ∷ event_of s (Look (Root 0) two) None ∷ []) t → IsTurnOver n TailIsPast s t
-turn_differs n s t one two all other slots fresh p =
-    over_quiet n TailIsPast s t (record { own = _; slots = slots; puts = p; entries_are = refl; no_give = refl; few = omega arith }) fresh refl
-    (looks_differ n (FifoMay n) (λ es x k. k.fits) s t (Root 0) one two p all tt other)
+pub turn_differs : {n : HeapNumbers} {s t : Seat FifoNote} → FindsTwo n (Root 0) s t → IsTurnOver n TailIsPast s t
+turn_differs {n} {s} {t} f =
+    over_quiet n TailIsPast s t (record { own = _; slots = f.slots; puts = f.puts; entries_are = refl; no_give = refl; few = omega arith }) f.fresh refl
+    (looks_differ n (FifoMay n) (λ es x k. k.fits) s t (Root 0) f.one f.two f.puts f.after.all tt f.other)
 
 -- the turn that answers
 pub turns_taken : (n : HeapNumbers) (turns more : ℕ) (s t u : Seat FifoNote) (turn : TakeTurn) → turn ≢ TakeOver → turns < more

@@ -31,8 +31,10 @@ use Rattle.orc_fifo_rule.specs.declared.fifo.FifoNote.TheVariants.{Entry, Swing}
 use Rattle.orc_fifo_rule.specs.QueueDiscipline.{FifoMay, HasJob, entries_of, entries_in, position_of}
 use Rattle.orc_fifo_rule.specs.Watches.{IsLeftBehind, WasNamed}
 use Rattle.orc_fifo_rule.specs.Laws.Events.{begun_more}
+use Rattle.orc_queue.specs.Looking.{Known}
+use Rattle.orc_queue.specs.declared.take.TakeTurn.{TakeTurn}
+use Rattle.orc_queue.specs.declared.take.TakeTurn.TheVariants.{Empty as TakeEmpty, Over as TakeOver, Took as TakeDone}
 use Rattle.orc_queue.specs.Turns.{FindsEnd, Helps, HelpsPast, HasStopped, TakesFrom, TakesJob, TakesFromHead}
-use Rattle.orc_queue.proofs.Filled.{Known}
 use Rattle.orc_queue.proofs.Joins.{join}
 use Rattle.orc_queue.proofs.Looking.{job_read}
 use Rattle.orc_queue.proofs.Pieces.{left_puts, link_puts}
@@ -201,9 +203,9 @@ past_left n h s a k all slots named miss =
 -- and then the job was taken, or not
 pub past_taken : (n : HeapNumbers) (head next : ℕ) (s a t : Seat FifoNote) (own : List (Event FifoNote)) (p : Puts s own a)
     → AllAllowed (FifoMay n) [] a.seen → a.slots ≡ s.slots → a.fresh ≡ s.fresh
-    → entries_of own ≡ [] → gives_in own ≡ 0 → moves_in own ≡ 0 → length own ≤ 1 → (got : Option (ℕ × ℕ)) → TakesFrom n head a got t
-    → TakesFromHead n head next s got t
-past_taken n head next s a t own p all slots fresh no_entry no_give no_move one None l =
+    → entries_of own ≡ [] → gives_in own ≡ 0 → moves_in own ≡ 0 → length own ≤ 1 → (turn : TakeTurn) → TakesFrom n head a turn t
+    → TakesFromHead n head next s turn t
+past_taken n head next s a t own p all slots fresh no_entry no_give no_move one TakeOver l =
     let q = l.piece in
     let j = join 2 s a t own q.own [] p q.puts (q.slots ∙ slots)
     (noted-append entries_in own q.own ∙ (ap (λ z. z ++ entries_of q.own) no_entry ∙ q.entries_are))
@@ -219,11 +221,12 @@ past_taken n head next s a t own p all slots fresh no_entry no_give no_move one 
           (ap (λ (z : List (Event FifoNote)). moves_in z) j.own_is
           ∙ elim l.own_moves [ inl none ↦ omega (arith, moves_in-append own q.own, no_move, none) | inr bad ↦ absurd bad ]);
     }
-past_taken n head next s a t own p all slots fresh no_entry no_give no_move one (Some got) l =
+past_taken n head next s a t own p all slots fresh no_entry no_give no_move one TakeEmpty l = absurd l
+past_taken n head next s a t own p all slots fresh no_entry no_give no_move one (TakeDone job at) l =
     let q = l.piece in
-    let entries : entries_of (own ++ q.own) ≡ Took s.agent got.0 got.1 ∷ [] =
-    noted-append entries_in own q.own ∙ (ap (λ z. z ++ entries_of q.own) no_entry ∙ (q.entries_are ∙ ap (λ (x : ℕ). Took x got.0 got.1 ∷ []) p.agent)) in
-    let j = join 2 s a t own q.own (Took s.agent got.0 got.1 ∷ []) p q.puts (q.slots ∙ slots) entries
+    let entries : entries_of (own ++ q.own) ≡ Took s.agent job at ∷ [] =
+    noted-append entries_in own q.own ∙ (ap (λ z. z ++ entries_of q.own) no_entry ∙ (q.entries_are ∙ ap (λ (x : ℕ). Took x job at ∷ []) p.agent)) in
+    let j = join 2 s a t own q.own (Took s.agent job at ∷ []) p q.puts (q.slots ∙ slots) entries
     (omega (arith, gives_in-append own q.own, no_give, q.no_give)) (omega (arith, length-append own q.own, one, q.few)) in
     record { piece = j.piece; fresh = l.fresh ∙ fresh }
 

@@ -1,8 +1,8 @@
 -- What the turns of a call do. After Michael and Scott 1996.
-use Rattle.std.specs.Prelude.{Bool, List, None, Option, Some, [], false, is_some, length, slice_get, true, ℕ, ◌*◌, ◌++◌, ◌+◌, ◌<◌, ◌^◌, ◌∷◌, ◌≡◌, ◌≢◌, ◌≤◌, ◌⊎◌}
+use Rattle.std.specs.Prelude.{Bool, List, None, Some, [], false, is_some, length, slice_get, true, ℕ, ◌*◌, ◌++◌, ◌+◌, ◌<◌, ◌^◌, ◌∷◌, ◌≡◌, ◌≢◌, ◌≤◌, ◌⊎◌}
 use Rattle.std.specs.List.{list_any}
 use Rattle.orc_heap.specs.Allowed.{IsLinkedNode, HasLink}
-use Rattle.orc_heap.specs.Calls.{Looks, Misses, event_of, given_node}
+use Rattle.orc_heap.specs.Calls.{Misses, event_of, given_node}
 use Rattle.orc_heap.specs.Heap.{Heap, HeapNumbers, Node, null, shown, link_to}
 use Rattle.orc_heap.specs.Journals.{run_heap}
 use Rattle.orc_heap.specs.Moves.{AllOwn, from_own, gives_in, moves_in, moves_place}
@@ -14,8 +14,6 @@ use Rattle.orc_heap.specs.declared.events.Event.{Event}
 use Rattle.orc_heap.specs.declared.events.Link.{Link}
 use Rattle.orc_heap.specs.declared.events.Place.{Place}
 use Rattle.orc_heap.specs.declared.events.Place.TheVariants.{Next, Root}
-use Rattle.orc_heap.specs.declared.holds.Looked.TheVariants.{Moved, Stable}
-use Rattle.orc_heap.specs.declared.holds.Seen.{Seen}
 use Rattle.orc_history.specs.QueueHistory.{puts_in}
 use Rattle.orc_history.specs.declared.queue.QueueEntry.{QueueEntry}
 use Rattle.orc_history.specs.declared.queue.QueueEntry.TheVariants.{Empty, Put, Took}
@@ -93,11 +91,6 @@ pub record IsTurnOver (n : HeapNumbers) (IsSettled : Heap → Type 0) (s t : Sea
   pub moved : 1 ≤ moves_in (from_own s.agent piece.puts.part)
   pub settles : AllOwn s.agent (from_own s.agent piece.puts.part) → IsSettled (heap_of n t)
   pub unsettled : AllOwn s.agent piece.puts.part → IsSettled (heap_of n s) → ⊥
-
--- a look of a root, by its answer: the node that the root names is held, or two loads differed
-abbrev pub LooksAtRoot : ℕ → ℕ → Seat FifoNote → Option Hold → Seat FifoNote → Type 0
-LooksAtRoot root slot s (Some h) t = (seen : Seen) × Looks (Root root) slot s (Stable seen (Some h)) t
-LooksAtRoot root slot s None t = Looks (Root root) slot s Moved t
 
 -- so many turns that are over: as many Moves stand in them, and another agent steps in them if they are two or more
 pub record AreOver (n : HeapNumbers) (IsSettled : Heap → Type 0) (turns : ℕ) (s t : Seat FifoNote) : Type 0 where
@@ -248,14 +241,16 @@ abbrev pub HelpsPast : Seat FifoNote → ℕ → ℕ → List (Event FifoNote) �
 HelpsPast s head next own = own ≡ event_of s (Look (Root 1) (link_to head)) None ∷ event_of s (Move (Root 1) (link_to head) (link_to next)) (Some Swing) ∷ []
 
 -- the swing of the head on to the successor
-abbrev pub TakesFrom : HeapNumbers → ℕ → Seat FifoNote → Option (ℕ × ℕ) → Seat FifoNote → Type 0
-TakesFrom n head s None t = HasStopped n 1 (Root 0) (link_to head) (λ own. ⊥) s t
-TakesFrom n head s (Some got) t = TakesJob 1 got.0 got.1 s t
+abbrev pub TakesFrom : HeapNumbers → ℕ → Seat FifoNote → TakeTurn → Seat FifoNote → Type 0
+TakesFrom n head s TakeOver t = HasStopped n 1 (Root 0) (link_to head) (λ own. ⊥) s t
+TakesFrom n head s (TakeDone job at) t = TakesJob 1 job at s t
+TakesFrom n head s TakeEmpty t = ⊥
 
 -- from the head and its successor on
-abbrev pub TakesFromHead : HeapNumbers → ℕ → ℕ → Seat FifoNote → Option (ℕ × ℕ) → Seat FifoNote → Type 0
-TakesFromHead n head next s None t = HasStopped n 2 (Root 0) (link_to head) (HelpsPast s head next) s t
-TakesFromHead n head next s (Some got) t = TakesJob 2 got.0 got.1 s t
+abbrev pub TakesFromHead : HeapNumbers → ℕ → ℕ → Seat FifoNote → TakeTurn → Seat FifoNote → Type 0
+TakesFromHead n head next s TakeOver t = HasStopped n 2 (Root 0) (link_to head) (HelpsPast s head next) s t
+TakesFromHead n head next s (TakeDone job at) t = TakesJob 2 job at s t
+TakesFromHead n head next s TakeEmpty t = ⊥
 
 -- the test whether the head's link is null
 abbrev pub FindsEnd : HeapNumbers → ℕ → Seat FifoNote → Bool → Seat FifoNote → Type 0

@@ -11,9 +11,9 @@ ghost use Rattle.orc_history.specs.declared.queue.QueueRefused.{QueueRefused};
 ghost use Rattle.orc_queue.specs.Answers.{PutAnswers};
 ghost use Rattle.orc_queue.specs.Turns.{HasDummy, HoldsNode, KeepsTail, LinksBehind, PutsBehind, PutsTurn, PutsTurns, SwingsLast};
 
-use crate::swings::{TAIL, change, help_tail, hold_root};
+use crate::swings::{Successor, TAIL, change, help_tail, hold_next, hold_root};
 use orc_fifo_rule::{Fifo, FifoNote};
-use orc_heap::{At, Held, Links, Looked, Want};
+use orc_heap::{At, Held, Links, Want};
 use orc_history::{QueueEntry, QueueRefused};
 
 // Every position is below this.
@@ -110,14 +110,14 @@ fn put_behind<L: Links<Rule = Fifo>>(
     ensures put { PutsBehind (L.numbers links.now) job (id_in (L.seat links.now p.old).slots tail.now) node.now (L.seat links.now p.old) result
         (L.seat links.now p.new) }
 {
-    match links.look(p, &At::Node(tail), 3) {
-        Looked::Stable(_, None) => link_behind(links, p, node, job, tail),
-        Looked::Stable(_, Some(next)) => {
+    match hold_next(links, p, tail, 3) {
+        Successor::Nothing => link_behind(links, p, node, job, tail),
+        Successor::Node(next) => {
             help_tail(links, p, tail, &next);
             links.release(p, next);
             PutTurn::Over
         }
-        Looked::Moved => PutTurn::Over,
+        Successor::Differs => PutTurn::Over,
     }
 }
 

@@ -34,8 +34,7 @@ pub(crate) fn stop_a_put<L: Links<Rule = Fifo>>(links: &L, p: &mut L::Pass, job:
     links.release(p, node);
     match turn {
         PutTurn::Put(at) => Some(at),
-        PutTurn::Full => None,
-        PutTurn::Over => None,
+        _ => None,
     }
 }
 

@@ -2,17 +2,28 @@
 
 ghost use Rattle.std.specs.Prelude.{◌≡◌, ◌<◌, ℕ, Some, true};
 ghost use mathlib.Core.List.{IsPrefix};
-ghost use Rattle.orc_heap.specs.Allowed.{AllowedLater, HasLink};
+ghost use Rattle.orc_heap.specs.Allowed.{AllowedLater, HasLink, IsLinkedNode};
 ghost use Rattle.orc_heap.specs.Calls.{Swings, move_of};
 ghost use Rattle.orc_heap.specs.Journals.{run_heap};
 ghost use Rattle.orc_heap.specs.Seats.{HoldsPlace, HoldsWant, IsNotFresh, link_in, place_in};
 ghost use Rattle.orc_heap.specs.Slots.{Holds, IsFree, id_in};
 ghost use Rattle.orc_fifo_rule.specs.QueueDiscipline.{FifoMay};
-ghost use Rattle.orc_queue.specs.Turns.{HasDummy, Helps, LooksAtRoot};
+ghost use Rattle.orc_queue.specs.Looking.{LooksAtRoot, LooksBehind};
+ghost use Rattle.orc_queue.specs.Turns.{HasDummy, Helps};
 ghost use Rattle.orc_heap.specs.Heap.{link_to};
 
 use orc_fifo_rule::{Fifo, FifoNote};
 use orc_heap::{At, Held, Links, Looked, Want};
+
+/// What a look at the link of a node found.
+pub enum Successor {
+    /// No node is linked.
+    Nothing,
+    /// This one, which is held.
+    Node(Held),
+    /// Two loads differed.
+    Differs,
+}
 
 // The root that names the dummy in front of the queue.
 pub(crate) const HEAD: u32 = 0;
@@ -34,12 +45,37 @@ pub(crate) fn hold_root<L: Links<Rule = Fifo>>(
     requires slot { IsFree (L.seat links.now p.old).slots slot }
     ensures pass { L.belongs links.now p.new }
     ensures later { IsPrefix (L.journal p.old) (L.journal p.new) }
-    ensures looked { LooksAtRoot root slot (L.seat links.now p.old) result (L.seat links.now p.new) }
+    ensures looked { LooksAtRoot (L.numbers links.now) root slot (L.seat links.now p.old) result (L.seat links.now p.new) }
 {
     match links.look(p, &At::Root(root), slot) {
         Looked::Stable(_, Some(node)) => Some(node),
         Looked::Stable(_, None) => unreachable!(),
         Looked::Moved => None,
+    }
+}
+
+// Looks at the link of a node that has been linked, and holds its successor.
+#[inline(always)]
+pub(crate) fn hold_next<L: Links<Rule = Fifo>>(
+    links: &L,
+    p: &mut L::Pass,
+    node: &Held,
+    slot: u32,
+) -> Successor
+    requires pass { L.belongs links.now p.old }
+    requires made { HasDummy (L.numbers links.now) (L.opening links.now) }
+    requires held { Holds (L.seat links.now p.old).slots node.now }
+    requires linked { IsLinkedNode (run_heap (L.numbers links.now) (L.seat links.now p.old).seen) (id_in (L.seat links.now p.old).slots node.now) }
+    requires slot { IsFree (L.seat links.now p.old).slots slot }
+    ensures pass { L.belongs links.now p.new }
+    ensures later { IsPrefix (L.journal p.old) (L.journal p.new) }
+    ensures looked { LooksBehind (L.numbers links.now) (id_in (L.seat links.now p.old).slots node.now) slot (L.seat links.now p.old) result
+        (L.seat links.now p.new) }
+{
+    match links.look(p, &At::Node(node), slot) {
+        Looked::Stable(_, Some(next)) => Successor::Node(next),
+        Looked::Stable(_, None) => Successor::Nothing,
+        Looked::Moved => Successor::Differs,
     }
 }
 

@@ -11,10 +11,10 @@ ghost use Rattle.orc_queue.specs.Turns.{HasDummy, FindsEnd, TakesBehind, TakesFr
 ghost use Rattle.orc_heap.specs.Allowed.{HasLink};
 ghost use Rattle.orc_heap.specs.Heap.{link_to};
 
-use crate::swings::{HEAD, TAIL, change, help_tail, hold_root};
+use crate::swings::{HEAD, Successor, TAIL, change, help_tail, hold_next, hold_root};
 use orc_fault::Again;
 use orc_fifo_rule::{Fifo, FifoNote};
-use orc_heap::{At, Held, Links, Looked, Want};
+use orc_heap::{At, Held, Links, Want};
 use orc_history::QueueEntry;
 
 /// How a turn of a take ended.
@@ -34,7 +34,7 @@ fn swing_head<L: Links<Rule = Fifo>>(
     p: &mut L::Pass,
     head: &Held,
     next: &Held,
-) -> Option<(u64, u64)>
+) -> TakeTurn
     requires pass { L.belongs links.now p.old }
     requires made { HasDummy (L.numbers links.now) (L.opening links.now) }
     requires held { Holds (L.seat links.now p.old).slots head.now × Holds (L.seat links.now p.old).slots next.now }
@@ -58,9 +58,9 @@ fn swing_head<L: Links<Rule = Fifo>>(
         &new,
         took,
     ) {
-        Some((job, at))
+        TakeTurn::Took(job, at)
     } else {
-        None
+        TakeTurn::Over
     }
 }
 
@@ -70,7 +70,7 @@ fn take_next<L: Links<Rule = Fifo>>(
     p: &mut L::Pass,
     head: &Held,
     next: &Held,
-) -> Option<(u64, u64)>
+) -> TakeTurn
     requires pass { L.belongs links.now p.old }
     requires made { HasDummy (L.numbers links.now) (L.opening links.now) }
     requires held { Holds (L.seat links.now p.old).slots head.now × Holds (L.seat links.now p.old).slots next.now }
@@ -84,7 +84,7 @@ fn take_next<L: Links<Rule = Fifo>>(
 {
     if links.same(p, &At::Root(TAIL), &Want::Node(head, false), None) {
         help_tail(links, p, head, next);
-        return None;
+        return TakeTurn::Over;
     }
     swing_head(links, p, head, next)
 }
@@ -115,23 +115,20 @@ fn take_behind<L: Links<Rule = Fifo>>(links: &L, p: &mut L::Pass, head: &Held) -
     ensures later { IsPrefix (L.journal p.old) (L.journal p.new) }
     ensures took { TakesBehind (L.numbers links.now) (id_in (L.seat links.now p.old).slots head.now) (L.seat links.now p.old) result (L.seat links.now p.new) }
 {
-    match links.look(p, &At::Node(head), 2) {
-        Looked::Stable(_, None) => {
+    match hold_next(links, p, head, 2) {
+        Successor::Nothing => {
             if finds_end(links, p, head) {
                 TakeTurn::Empty
             } else {
                 TakeTurn::Over
             }
         }
-        Looked::Stable(_, Some(next)) => {
-            let took = take_next(links, p, head, &next);
+        Successor::Node(next) => {
+            let turn = take_next(links, p, head, &next);
             links.release(p, next);
-            match took {
-                Some((job, at)) => TakeTurn::Took(job, at),
-                None => TakeTurn::Over,
-            }
+            turn
         }
-        Looked::Moved => TakeTurn::Over,
+        Successor::Differs => TakeTurn::Over,
     }
 }
 

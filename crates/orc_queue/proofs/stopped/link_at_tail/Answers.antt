@@ -4,23 +4,14 @@ use Rattle.orc_heap.specs.Slots.{id_in}
 use Rattle.orc_heap.proofs.Calls.{Puts-trans}
 use Rattle.orc_heap.proofs.Pieces.{puts_released}
 use Rattle.orc_queue.specs.Answers.{stop_entries}
-use Rattle.orc_queue.proofs.Holding.{found_fresh, found_holds, found_kept, found_released, pass_known}
+use Rattle.orc_queue.proofs.Holding.{found_fresh, found_holds, found_kept, found_released}
 use Rattle.orc_queue.proofs.Linking.{LinkKept, link_kept}
-use Rattle.orc_queue.proofs.Looking.{HoldsRoot, root_fresh, root_held, root_named}
+use Rattle.orc_queue.proofs.Looking.{root_fresh, root_named}
 use Rattle.orc_queue.proofs.Missing.{full_over, link_full, moved_full, root_still}
 use Rattle.orc_queue.proofs.Pieces.{linked_puts}
 use Rattle.orc_queue.proofs.stopped.link_at_tail.Given.{Over}
-use Rattle.orc_queue.proofs.stopped.link_at_tail.Goals.{After-link_node-turn, In-Some}
+use Rattle.orc_queue.proofs.stopped.link_at_tail.Goals.{After-link_node-turn}
 use Rattle.orc_queue.proofs.stopped.link_at_tail.Goals as goal
-
--- what the look of the tail found
-found : (g : Over) (c : In-Some g) → let d = c.args.links.now in
-    HoldsRoot (g.L.Links.numbers d) 1 2 (g.L.Links.seat d c.args.p.now) c.in-Some.tail (g.L.Links.seat d c.hold_root.new.p)
-found g c =
-    let e = c.in-Some.ensures in
-    let known = pass_known g.L.Links g.met.L.Links.opens g.met.L.Links.allowed g.met.L.Links.obeys _ in
-    root_held _ _ _ 1 2 _ (omega arith) c.requires.slot (known c.args.p.now c.requires.made c.requires.pass) (known c.hold_root.new.p c.requires.made e.pass)
-    e.looked
 
 -- what the pass did behind it
 kept : (g : Over) (c : After-link_node-turn g) → let d = c.args.links.now in
@@ -31,12 +22,11 @@ kept g c =
 
 pub link_node-turn-requires : goal.link_node-turn-requires
 link_node-turn-requires g c =
-    let f = found g (goal.at.link_node-turn-requires g c).In-Some in
-    let e = c.in-Some.ensures in
+    let f = c.in-Some.ensures.looked in
     record {
-      pass = e.pass;
+      pass = c.in-Some.ensures.pass;
       made = c.requires.made;
-      node = root_fresh f c.args.job c.args.node.now c.requires.node e.looked.1.fresh;
+      node = root_fresh f c.args.job c.args.node.now c.requires.node;
       tail = found_holds f.node;
       named = root_named f;
     }
@@ -44,12 +34,12 @@ link_node-turn-requires g c =
 pub release-requires-clause-held : goal.release-requires-clause-held
 release-requires-clause-held g c =
     let at = goal.at.release-requires-clause-held g c in
-    found_kept (found g at.In-Some).node (kept g at.After-link_node-turn).stops.piece.slots
+    found_kept c.in-Some.ensures.looked.node (kept g at.After-link_node-turn).stops.piece.slots
 
 pub returns-in-Some-clause-stopped : goal.returns-in-Some-clause-stopped
 returns-in-Some-clause-stopped g c =
     let at = goal.at.returns-in-Some-clause-stopped g c in
-    let f = found g at.In-Some in
+    let f = c.in-Some.ensures.looked in
     let k = (kept g at.After-link_node-turn).stops in
     let q = puts_released _ _ _ k.piece.own k.piece.puts c.release.ensures.released.puts in
     record {
@@ -67,29 +57,27 @@ returns-in-Some-clause-stopped g c =
 pub returns-in-Some-clause-fresh : goal.returns-in-Some-clause-fresh
 returns-in-Some-clause-fresh g c =
     let at = goal.at.returns-in-Some-clause-fresh g c in
-    let node = (found g at.In-Some).node in
+    let node = c.in-Some.ensures.looked.node in
     let k = kept g at.After-link_node-turn in
     let d = c.args.links.now in
     let e = c.link_node-turn.ensures in
     let all = g.met.L.Links.allowed _ _ e.pass in
     let linked = linked_puts _ _ _ k.stops.piece.own k.stops.piece.puts all node.id node.linked in
     let fresh = found_fresh node k.stops.piece.slots (λ i is. g.met.L.Links.fresh_is d c.link_node-turn.new.p i e.pass is) linked c.release.ensures.released in
-    elim k.fresh [ inl is ↦ inl (fresh ∙ (is ∙ c.in-Some.ensures.looked.1.fresh)) | inr is ↦ inr (fresh ∙ is) ]
+    elim k.fresh [ inl is ↦ inl (fresh ∙ (is ∙ c.in-Some.ensures.looked.fresh)) | inr is ↦ inr (fresh ∙ is) ]
 
 pub returns-in-None-clause-stopped : goal.returns-in-None-clause-stopped
 returns-in-None-clause-stopped g c =
-    let r = c.in-None.ensures.looked.tells in
-    record { piece = record { own = _; slots = r.3; puts = r.4; entries_are = refl; no_give = refl; few = omega arith }; keeps = refl }
+    let f = c.in-None.ensures.looked in
+    record { piece = record { own = _; slots = f.slots; puts = f.puts; entries_are = refl; no_give = refl; few = omega arith }; keeps = refl }
 
 pub returns-in-Some-clause-missed : goal.returns-in-Some-clause-missed
 returns-in-Some-clause-missed g c = λ other.
     let at = goal.at.returns-in-Some-clause-missed g c in
-    let f = found g at.In-Some in
+    let f = c.in-Some.ensures.looked in
     let p = (kept g at.After-link_node-turn).stops.piece in
     full_over _ _ _ _ _ _ p.own f.puts p.puts c.release.ensures.released.puts f.before f.after.all refl
     (λ alone. link_full _ c.args.job _ c.args.node.now _ _ c.link_node-turn.result c.link_node-turn.ensures.linked other (root_still f alone))
 
 pub returns-in-None-clause-missed : goal.returns-in-None-clause-missed
-returns-in-None-clause-missed g c = λ other.
-    let r = c.in-None.ensures.looked.tells in
-    moved_full _ _ _ r.0 r.1 r.2 r.4 (g.met.L.Links.allowed _ _ c.in-None.ensures.pass)
+returns-in-None-clause-missed g c = λ other. moved_full c.in-None.ensures.looked

@@ -1,7 +1,7 @@
 -- The node, the turn, and the release.
 use Rattle.std.proofs.Common.{[], ap, inl, inr, refl, ℕ, ◌∷◌}
 use Rattle.orc_history.specs.declared.queue.QueueEntry.TheVariants.{Put}
-use Rattle.orc_queue.proofs.Answering.{put_stops, stops_lacking}
+use Rattle.orc_queue.proofs.Answering.{no_entries, put_stops, stops_lacking}
 use Rattle.orc_queue.proofs.Holding.{pass_known}
 use Rattle.orc_queue.proofs.Missing.{full_over}
 use Rattle.orc_queue.proofs.stopped.stop_a_put.Goals as goal
@@ -15,13 +15,11 @@ returns-in-Put-clause-stopped g c =
     put_stops c.requires.idle given c.release.ensures.released _ _ c.in-Put.ensures.stopped c.in-Put.ensures.fresh
     (ap (λ (x : ℕ). Put x c.args.job c.in-Put.at ∷ []) given.puts.agent)
 
-pub returns-in-Full-clause-stopped : goal.returns-in-Full-clause-stopped
-returns-in-Full-clause-stopped g c =
-    inl (put_stops c.requires.idle c.in-Ok.ensures.given c.release.ensures.released [] [] c.in-Full.ensures.stopped c.in-Full.ensures.fresh refl)
-
-pub returns-in-Over-clause-stopped : goal.returns-in-Over-clause-stopped
-returns-in-Over-clause-stopped g c =
-    inl (put_stops c.requires.idle c.in-Ok.ensures.given c.release.ensures.released [] [] c.in-Over.ensures.stopped c.in-Over.ensures.fresh refl)
+pub returns-in_default-clause-stopped : goal.returns-in_default-clause-stopped
+returns-in_default-clause-stopped g c =
+    let e = c.link_at_tail-turn.ensures in
+    let none = no_entries _ c.args.job c.link_at_tail-turn.result c.in_default.not-Put in
+    inl (put_stops c.requires.idle c.in-Ok.ensures.given c.release.ensures.released _ [] e.stopped e.fresh none)
 
 pub returns-in-Err-clause-missed : goal.returns-in-Err-clause-missed
 returns-in-Err-clause-missed g c = λ is. inl c.in-Err.ensures.lacking
@@ -29,16 +27,9 @@ returns-in-Err-clause-missed g c = λ is. inl c.in-Err.ensures.lacking
 pub returns-in-Put-clause-missed : goal.returns-in-Put-clause-missed
 returns-in-Put-clause-missed g c = λ is. cc
 
-pub returns-in-Full-clause-missed : goal.returns-in-Full-clause-missed
-returns-in-Full-clause-missed g c = λ is.
+pub returns-in_default-clause-missed : goal.returns-in_default-clause-missed
+returns-in_default-clause-missed g c = λ is.
     let known = pass_known g.L.Links g.met.L.Links.opens g.met.L.Links.allowed g.met.L.Links.obeys _ _ c.requires.made c.requires.pass in
-    let e = c.in-Full.ensures in
+    let e = c.link_at_tail-turn.ensures in
     inr (full_over _ _ _ _ _ _ e.stopped.piece.own c.in-Ok.ensures.given.puts e.stopped.piece.puts c.release.ensures.released.puts known
-    (g.met.L.Links.allowed _ _ c.in-Ok.ensures.pass) refl (λ alone. e.missed (λ at full. cc)))
-
-pub returns-in-Over-clause-missed : goal.returns-in-Over-clause-missed
-returns-in-Over-clause-missed g c = λ is.
-    let known = pass_known g.L.Links g.met.L.Links.opens g.met.L.Links.allowed g.met.L.Links.obeys _ _ c.requires.made c.requires.pass in
-    let e = c.in-Over.ensures in
-    inr (full_over _ _ _ _ _ _ e.stopped.piece.own c.in-Ok.ensures.given.puts e.stopped.piece.puts c.release.ensures.released.puts known
-    (g.met.L.Links.allowed _ _ c.in-Ok.ensures.pass) refl (λ alone. e.missed (λ at over. cc)))
+    (g.met.L.Links.allowed _ _ c.in-Ok.ensures.pass) refl (λ alone. e.missed c.in_default.not-Put))
