@@ -2,11 +2,11 @@
 use Rattle.std.proofs.lemmas.List.{length-append}
 use Rattle.std.proofs.lemmas.List.Elements.{filter-append}
 use Rattle.std.specs.Prelude.{filter}
-use Rattle.std.proofs.Common.{Bool, List, None, Option, Some, [], ap, append_assoc, arith, false, inl, inr, refl, subst, sym, true, ℕ, ◌%◌, ◌++◌, ◌∙◌, ◌∷◌, ◌≡◌, ◌≢◌, ◌≤◌, length, ◌⊎◌}
+use Rattle.std.proofs.Common.{Bool, List, None, Option, Some, [], ap, append-nil, append_assoc, arith, false, inl, inr, refl, subst, sym, true, ℕ, ◌%◌, ◌++◌, ◌∙◌, ◌∷◌, ◌≡◌, ◌≢◌, ◌≤◌, length, ◌⊎◌}
 use Rattle.std.specs.List.{Contains}
 use Rattle.orc_heap.proofs.Calls.{Puts-trans, part_allowed}
 use Rattle.orc_heap.proofs.Moved.{moves_in-append}
-use Rattle.orc_heap.proofs.OwnParts.{from_own-begun, own_is_all, own_left, own_right, quiet_not_alone}
+use Rattle.orc_heap.proofs.OwnParts.{from_own-begun, from_own-others, own_is_all, own_left, own_right, quiet_not_alone}
 use Rattle.orc_heap.proofs.Pieces.{new_is, own_moves_left, puts_released}
 use Rattle.orc_heap.proofs.Runs.{run_heap-snoc}
 use Rattle.orc_heap.proofs.SingleActs.{some_same}
@@ -38,8 +38,8 @@ use Rattle.orc_list.specs.Inserts.{SeesAbsent}
 use Rattle.orc_list.specs.Searches.{list_reading}
 use Rattle.orc_list.specs.Stops.{MarkStops}
 use Rattle.orc_list.specs.Turns.{LeavesOff, StopsBefore, TakesOff}
-use Rattle.orc_ordered_search.specs.Turns.{HasManyLinks, Marks, TakesNode, made_from}
-use Rattle.orc_ordered_search.proofs.Removing.{marked_at, marked_link, run_from}
+use Rattle.orc_ordered_search.specs.Turns.{HasManyLinks, Marks, TakesNode, Tires, made_from}
+use Rattle.orc_ordered_search.proofs.Removing.{marked_at, marked_link, removes_missed, run_from}
 use Rattle.orc_ordered_search.proofs.Making.{made_after, made_on, missed}
 use Rattle.orc_ordered_search.proofs.Seen.{sees_left, sees_run_left}
 use Rattle.orc_ordered_search.proofs.Since.{made_is}
@@ -61,11 +61,27 @@ alone_exact s t y own ys zs q p w some alone =
           last,
     )
 
--- where a link moved and the pass moved none, it wasn't alone
-pub not_alone : (s t y : Seat ChainNote) (own : List (Event ChainNote)) (q : Puts s own t) (p : Puts t [] y) (w : Puts s own y) → moves_in own ≡ 0
-    → 1 ≤ moves_in (from_own s.agent q.part) → AllOwn s.agent (from_own s.agent w.part) → ⊥
-not_alone s t y own q p w none moved alone =
-    quiet_not_alone s.agent w.part own w.own_is none (omega (arith, moved, own_moves_left s t y own [] own q p w)) alone
+-- a Move of others stands after an own event, so there is one
+some_own : (agent : ℕ) (part own : List (Event ChainNote)) → events_by agent part ≡ own → 1 ≤ moves_in (from_own agent part) → 1 ≤ length own
+some_own agent part [] is moved =
+    absurd (omega (arith, moved, ap (λ es. moves_in (from_own agent es)) (sym (append-nil part)), ap (λ es. moves_in es) (from_own-others agent part [] is)))
+some_own agent part (e ∷ es) is moved = omega arith
+
+-- a turn that is over
+pub tires_stops : (n : HeapNumbers) (key : ℕ) (s y : Seat ChainNote) → Tires (list_reading n) 1 s y → MarkStops n key s false y
+tires_stops n key s y a =
+    let o = a.over in
+    let p = o.made.puts in
+    record {
+      own = a.own;
+      puts = p;
+      slots = a.slots;
+      fresh = a.fresh;
+      some = some_own s.agent p.part a.own p.own_is o.moved;
+      entries_are = o.made.entries_are;
+      moves = o.no_move;
+      absent = λ is alone. absurd (quiet_not_alone s.agent p.part a.own p.own_is o.no_move o.moved alone);
+    }
 
 -- a search alone, that let all go
 pub quiet_stops : (n : HeapNumbers) (key : ℕ) (s t y : Seat ChainNote) (own : List (Event ChainNote)) → Quiet (list_reading n) s own t → Puts t [] y
@@ -114,7 +130,7 @@ module _ {n : HeapNumbers} {start : Place} {key passed : ℕ} {left first : Opti
   over = f.behind.leads.over ++ f.id ∷ []
 
   from_head : f.behind.leads.from ≡ link_to (run_head first f.first_id f.id)
-  from_head = (run_from (list_ordering n) start key passed left first node next s t f).from_is
+  from_head = (run_from (list_ordering n) f).from_is
 
   abbrev mark : Event ChainNote
   mark = event_of t (Move (Next f.id) (link_over (node_of next f.next_id)) (record { to = node_of next f.next_id; mark = true }))
@@ -141,24 +157,7 @@ module _ {n : HeapNumbers} {start : Place} {key passed : ℕ} {left first : Opti
         );
         absent = λ is. cc;
       }
-  mark_stops false u y m g all =
-      let q = f.behind.quiet in
-      let from : Link = link_over to in
-      let miss : Event ChainNote = event_of t (Miss (Next f.id) (link_over to) m.puts.found) None in
-      let tried = made_after (list_reading n) 0 s t u f.own (miss ∷ []) [] q m.puts.puts refl refl in
-      let made = made_on (list_reading n) 0 s u y (f.own ++ miss ∷ []) [] tried g.puts in
-      let moved = missed (list_ordering n) s t u f.own _ (Next f.id) from q.puts q.some f.still (key_linked (heap_of n t) f.id key f.is_of.has_key) m.puts all tried.puts in
-      let still : moves_in (f.own ++ miss ∷ []) ≡ 0 = omega (arith, moves_in-append f.own (miss ∷ []), q.no_move) in
-      record {
-        own = f.own ++ miss ∷ [];
-        puts = made.puts;
-        slots = g.slots_are;
-        fresh = g.fresh ∙ (m.fresh ∙ q.fresh);
-        some = omega (arith, length-append f.own (miss ∷ []));
-        entries_are = made.entries_are;
-        moves = still;
-        absent = λ is alone. absurd (not_alone s u y (f.own ++ miss ∷ []) tried.puts g.puts made.puts still moved alone);
-      }
+  mark_stops false u y m g all = tires_stops n key s y (removes_missed (list_ordering n) f (Entry (Removed t.agent key true)) u y m g all).0
 
   -- where the pass was alone: what it saw, and that the place showed its link when the node was marked
   record Alone (ys : List (Event ChainNote)) (y : Seat ChainNote) : Type 0 where

@@ -10,11 +10,10 @@ ghost use Rattle.orc_ordered_search.specs.Searches.{HasRoom};
 ghost use Rattle.orc_ordered_search.specs.Turns.{AnswersTurn, AnswersTurns};
 
 use crate::key::Key;
-use crate::search::search;
 use orc_chain_rule::Chain;
 use orc_fault::Again;
 use orc_heap::Links;
-use orc_ordered_search::{Call, answer_found};
+use orc_ordered_search::{Call, answer_found, search_chain};
 
 // One turn of a call.
 fn call_turn<L: Links<Rule = Chain>>(
@@ -36,7 +35,7 @@ fn call_turn<L: Links<Rule = Chain>>(
         (HasWorn (L.worn links.now (L.seat links.now p.old).agent) (L.journal p.old) (L.journal p.new))
         (L.seat links.now p.old) (L.seat links.now p.new) }
 {
-    let found = search(links, p, root, key);
+    let found = search_chain(links, p, root, Key(key), None);
     answer_found::<Key, L>(links, p, root, key, call, found)
 }
 

@@ -16,11 +16,10 @@ ghost use Rattle.orc_ordered_search.specs.Turns.{made_from};
 ghost use Rattle.orc_ordered_search.specs.declared.turn.InsertTurn.{InsertTurn};
 
 use crate::key::Key;
-use crate::search::search;
 use orc_chain_rule::Chain;
 use orc_heap::{Held, Links};
 use orc_history::ListRefused;
-use orc_ordered_search::{InsertTurn, answer_of, insert_found, let_go};
+use orc_ordered_search::{InsertTurn, answer_of, insert_found, let_go, search_chain};
 
 // One turn of an insert, with the node that an earlier turn was given, if one was.
 fn insert_turn<L: Links<Rule = Chain>>(
@@ -49,7 +48,7 @@ fn insert_turn<L: Links<Rule = Chain>>(
         → WithinPart L.agent_of (L.seat links.now p.old).agent (L.journal p.old) (L.journal p.new) (L.worn links.now (L.seat links.now p.old).agent why
         (L.journal p.new)) }
 {
-    let found = search(links, p, root, key);
+    let found = search_chain(links, p, root, Key(key), None);
     insert_found::<Key, L>(links, p, root, key, found, node)
 }
 

@@ -31,7 +31,7 @@ use Rattle.orc_ordered_search.specs.Searches.{AllGone, FindsAbsent, HoldsIfAny, 
 use Rattle.orc_ordered_search.specs.Turns.{Made, made_from}
 use Rattle.orc_ordered_search.specs.Ways.{IsFew}
 use Rattle.orc_ordered_search.proofs.Entering.{from_is, place_of_hand, target_is, target_of_hand}
-use Rattle.orc_ordered_search.proofs.Held.{absent_hand, first_held, first_linked, in_hand_on, left_linked, right_linked, second_held, third_held, three_hands}
+use Rattle.orc_ordered_search.proofs.Held.{absent_hand, first_held, in_hand_on, leads_hand, right_linked, second_held, third_held, three_hands}
 use Rattle.orc_ordered_search.proofs.Linking.{holds_on, loads_leave}
 use Rattle.orc_ordered_search.proofs.Making.{made_on, missed, one_over, over_on}
 use Rattle.orc_ordered_search.proofs.Quiets.{above_puts, below_puts, leads_puts, left_place_linked, shows_on, silent_one, silent_three, silent_two}
@@ -116,17 +116,10 @@ module _ {N : Type 0} (ord : Ordering N) (start : Place) (wanted value kind : â„
       âˆ™ sym (from_is ord start wanted left first a.left_id a.first_id (node_of right a.right_id) s a.own t a.puts.part a.leads)
 
   adds_hand : InHand ord.reading slots left first right None t
-  adds_hand = record {
-    left_id = a.left_id;
-    first_id = a.first_id;
-    id = a.right_id;
-    next_id = 0;
-    hands = three_hands slots t.slots (hand left a.left_id) (hand first a.first_id) (hand right a.right_id) a.hands;
-    left_linked = left_linked ord t start wanted left a.left_id a.leads.below;
-    first_linked = first_linked ord t first a.first_id a.leads.from a.leads.over (node_of right a.right_id) a.leads.begins a.leads.run;
-    linked = right_linked ord t right a.right_id wanted a.above;
-    next_linked = tt;
-  }
+  adds_hand =
+      leads_hand ord a.leads right None a.right_id 0
+      (three_hands slots t.slots (hand left a.left_id) (hand first a.first_id) (hand right a.right_id) a.hands)
+      (right_linked ord t right a.right_id wanted a.above) tt
 
   abbrev place : Place
   place = left_place (ord.reading.order.root wanted) left a.left_id

@@ -16,7 +16,7 @@ use Rattle.orc_heap.specs.declared.events.Event.{Event}
 use Rattle.orc_history.specs.declared.set.ListRefused.{ListRefused}
 use Rattle.orc_history.specs.declared.set.ListRefused.TheVariants.{NoNode as RefusedNoNode, Spent as RefusedSpent}
 use Rattle.orc_history.specs.declared.set.SetEntry.{SetEntry}
-use Rattle.orc_ordered_search.specs.Inserts.{AddsNode, EndsWith, HasRoomFor, InsertAnswers, InsertCall, InsertEnds, InsertTires, Inserts, InsertsOn, InsertsTurns, IsInFirst, IsToAdd, KeepsNode, answer_by, count_of, slots_with, turn_by}
+use Rattle.orc_ordered_search.specs.Inserts.{AddEnds, AddsNode, EndsWith, HasRoomFor, InsertAnswers, InsertCall, InsertEnds, InsertTires, Inserts, InsertsOn, InsertsTurns, IsInFirst, IsToAdd, KeepsNode, answer_by, count_of, slots_with, turn_by}
 use Rattle.orc_ordered_search.specs.Reading.{Ordering, Reading}
 use Rattle.orc_ordered_search.specs.Searches.{HasRoom, HoldsIfAny, LetsGo, node_of}
 use Rattle.orc_ordered_search.specs.Turns.{Answers, Tires}
@@ -28,6 +28,19 @@ use Rattle.orc_ordered_search.proofs.Stepping.{holds_later}
 
 -- what the turn comes to
 
+adds_ends : {N : Type 0} {r : Reading N} {given : ℕ} {base : Slots} {s u : Seat N} {entries : List SetEntry} {fresh : Option ℕ}
+    (a : AddEnds r given base s entries fresh u) (h : Hold) (id : ℕ) (slots : Slots) (had : Option Hold) → base ≡ slots_with slots (Some h) id → h.slot ≡ 1
+    → count_of had + given ≡ 1 → (u.fresh ≡ None) ⊎ (u.fresh ≡ Some id) → (own : List (Event N)) × InsertEnds r slots had (Some h) s own entries u
+adds_ends {N} {r} {given} a h id slots had is first count fresh = (
+  a.own,
+  record {
+    given = given;
+    made = a.made;
+    count = count;
+    ends = record { id = id; slots_are = a.slots_are ∙ is; slot_is = first; fresh = fresh };
+  },
+)
+
 pub adds_inserts : {N : Type 0} (r : Reading N) (value kind : ℕ) (entry : Bool → SetEntry) (h : Hold) (id given : ℕ) (base slots : Slots) (had : Option Hold)
     (s u : Seat N) (passed : ℕ) (linked : Result Bool SpentRow) → AddsNode r value kind (entry true ∷ []) h id given base s linked u
     → base ≡ slots_with slots (Some h) id → h.slot ≡ 1 → count_of had + given ≡ 1 → Inserts r value kind entry 1 slots had s (turn_by passed linked) (Some h) u
@@ -38,24 +51,8 @@ adds_inserts r value kind entry h id given base slots had s u passed (Ok false) 
   count = count;
   keeps = record { id = id; slots_are = a.slots_are ∙ is; slot_is = first; to_add = a.holds };
 }
-adds_inserts r value kind entry h id given base slots had s u passed (Ok true) a is first count = (
-  a.own,
-  record {
-    given = given;
-    made = a.made;
-    count = count;
-    ends = record { id = id; slots_are = a.slots_are ∙ is; slot_is = first; fresh = inl a.fresh_is };
-  },
-)
-adds_inserts r value kind entry h id given base slots had s u passed (Err why) a is first count = (
-  a.own,
-  record {
-    given = given;
-    made = a.made;
-    count = count;
-    ends = record { id = id; slots_are = a.slots_are ∙ is; slot_is = first; fresh = inr a.fresh_is };
-  },
-)
+adds_inserts r value kind entry h id given base slots had s u passed (Ok true) a is first count = adds_ends a h id slots had is first count (inl a.fresh_is)
+adds_inserts r value kind entry h id given base slots had s u passed (Err why) a is first count = adds_ends a h id slots had is first count (inr a.fresh_is)
 
 -- a turn that made only loads keeps the node
 pub keeps_on : {N : Type 0} (ord : Ordering N) (value kind : ℕ) (node : Option Hold) (slots : Slots) (s t : Seat N)

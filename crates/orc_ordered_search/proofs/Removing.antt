@@ -28,7 +28,7 @@ use Rattle.orc_ordered_search.specs.Reading.{Ordering}
 use Rattle.orc_ordered_search.specs.Searches.{AllGone, BeginsRun, FindsPresent, HoldsIfAny, InHand, NextFollows, first_or, left_place, node_of, place_at, run_head, target_at}
 use Rattle.orc_ordered_search.specs.Turns.{Answers, Enters, Marks, TakesFound, TakesNode, TakesOut, Tires, Tries, TriesUnlink, made_from}
 use Rattle.orc_ordered_search.specs.Ways.{IsFew}
-use Rattle.orc_ordered_search.proofs.Marking.{tried_of, tried_once}
+use Rattle.orc_ordered_search.proofs.Marking.{follows_at, tried_of, tried_once}
 use Rattle.orc_ordered_search.proofs.Seen.{few_more, present_few}
 use Rattle.orc_ordered_search.proofs.Since.{few_made}
 use Rattle.orc_ordered_search.proofs.Entering.{from_is, head_of, missed_over, place_of_hand, target_is, target_of_hand}
@@ -82,7 +82,7 @@ pub first_or_held : (slots : Slots) (first : Option Hold) (node : Hold) → Hold
 first_or_held slots None node a b = b
 first_or_held slots (Some h) node a b = a
 
-module _ {N : Type 0} (ord : Ordering N) (start : Place) (wanted passed : ℕ) (left first : Option Hold) (node : Hold) (next : Option Hold) (s t : Seat N)
+module _ {N : Type 0} (ord : Ordering N) {start : Place} {wanted passed : ℕ} {left first : Option Hold} {node : Hold} {next : Option Hold} {s t : Seat N}
     (f : FindsPresent ord.reading start wanted passed left first node next s t) where
   -- what is in hand
 
@@ -91,15 +91,20 @@ module _ {N : Type 0} (ord : Ordering N) (start : Place) (wanted passed : ℕ) (
     pub id_is : id_in t.slots node ≡ f.id
     pub next_held : HoldsIfAny t.slots next
     pub next_is : target_at t.slots next ≡ node_of next f.next_id
+    pub key : HasRank ord.reading.order (heap_of ord.reading.numbers t) (id_in t.slots node) wanted
+    pub follows : NextFollows ord.reading (id_in t.slots node) (target_at t.slots next) t
 
   pub reads_node : ReadsNode
   reads_node =
       let held = holds_of t.slots node f.id f.hands.held.1.1.0.0 in
+      let next_is = target_of_hand s.slots t.slots next f.next_id [] f.hands.held.1.1.1.0 in
       record {
         node_held = held.0;
         id_is = held.1;
         next_held = fourth_held s.slots t.slots (hand left f.left_id) (hand first f.first_id) (hand (Some node) f.id) next f.next_id [] f.hands;
-        next_is = target_of_hand s.slots t.slots next f.next_id [] f.hands.held.1.1.1.0;
+        next_is = next_is;
+        key = subst (λ (i : ℕ). HasRank ord.reading.order (heap_of ord.reading.numbers t) i wanted) (sym held.1) f.is_of.has_key;
+        follows = follows_at ord.reading t f.id _ _ _ (sym held.1) (sym next_is) f.follows;
       }
 
   pub run_from : RunFrom f.behind.leads.from (f.behind.leads.over ++ f.id ∷ []) (run_head first f.first_id f.id)

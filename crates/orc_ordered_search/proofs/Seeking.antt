@@ -12,7 +12,7 @@ use Rattle.orc_heap.specs.declared.events.Event.{Event}
 use Rattle.orc_heap.specs.declared.events.Place.{Place}
 use Rattle.orc_history.specs.declared.set.SetEntry.{SetEntry}
 use Rattle.orc_ordered_search.specs.Entries.{AllowsNode}
-use Rattle.orc_ordered_search.specs.Inserts.{AddsFound, AddsNode, Inserts, KeepsNode, LinksAndGoes, NodeToAdd, SeesAbsent, Sought, slots_with, turn_by}
+use Rattle.orc_ordered_search.specs.Inserts.{AddsAt, AddsFound, AddsNode, Inserts, KeepsNode, LinksAndGoes, NodeToAdd, SeesAbsent, Sought, slots_with, turn_by}
 use Rattle.orc_ordered_search.specs.Reading.{Ordering, Reading}
 use Rattle.orc_ordered_search.specs.Searches.{AllGone, InHand, Quiet, left_place, node_of}
 use Rattle.orc_ordered_search.specs.Steps.{Finds}
@@ -44,16 +44,37 @@ found_quiet r start wanted s Over t f = (f.0.own, f.0.quiet)
 found_quiet r start wanted s (Absent left first right passed) t f = (f.own, f.behind.quiet)
 found_quiet r start wanted s (Present left first node next passed) t f = (f.own, f.behind.quiet)
 
--- few events, by how many nodes were given
-adds_few : {N : Type 0} (r : Reading N) (value kind : ℕ) (es : List SetEntry) (h : Hold) (id given : ℕ) (slots : Slots) (s u : Seat N)
-    (linked : Result Bool SpentRow) → AddsNode r value kind es h id given slots s linked u → IsFew (4 + 3 * given) (made_from s u)
-    → IsFew (4 + 3 * gives_in (made_from s u)) (made_from s u)
-adds_few r value kind es h id given slots s u (Ok true) k few =
-    subst (λ (n : ℕ). IsFew (4 + 3 * n) (made_from s u)) (sym (ap gives_in (made_is s u k.own k.made.puts) ∙ k.made.gives)) few
-adds_few r value kind es h id given slots s u (Ok false) k few =
-    subst (λ (n : ℕ). IsFew (4 + 3 * n) (made_from s u)) (sym (ap gives_in (made_is s u k.own k.over.made.puts) ∙ k.over.made.gives)) few
-adds_few r value kind es h id given slots s u (Err why) k few =
-    subst (λ (n : ℕ). IsFew (4 + 3 * n) (made_from s u)) (sym (ap gives_in (made_is s u k.own k.made.puts) ∙ k.made.gives)) few
+-- a node that a turn has to add: few events, by how many nodes were given
+pub node_few : {N : Type 0} {r : Reading N} {holds : List (Event N) → Type 0} {may : List (Event N) → Event N → Type 0} {root : ℕ} {noted : N}
+    {left first right : Option Hold} {h : Hold} {t : Seat N} (k : NodeToAdd r holds may root noted left first right h t) (es : List SetEntry)
+    (linked : Result Bool SpentRow) (u : Seat N) → AddsNode r k.value k.kind es h k.at.id k.given k.slots k.begun linked u
+    → IsFew (4 + 3 * k.given) (made_from k.begun u) → IsFew (4 + 3 * gives_in (made_from k.begun u)) (made_from k.begun u)
+node_few k es (Ok true) u done few =
+    subst (λ (n : ℕ). IsFew (4 + 3 * n) (made_from k.begun u)) (sym (ap gives_in (made_is k.begun u done.own done.made.puts) ∙ done.made.gives)) few
+node_few k es (Ok false) u done few =
+    subst (λ (n : ℕ). IsFew (4 + 3 * n) (made_from k.begun u)) (sym (ap gives_in (made_is k.begun u done.own done.over.made.puts) ∙ done.over.made.gives)) few
+node_few k es (Err why) u done few =
+    subst (λ (n : ℕ). IsFew (4 + 3 * n) (made_from k.begun u)) (sym (ap gives_in (made_is k.begun u done.own done.made.puts) ∙ done.made.gives)) few
+
+-- and it was added where the search had found its rank absent
+pub node_found : {N : Type 0} {r : Reading N} {holds : List (Event N) → Type 0} {may : List (Event N) → Event N → Type 0} {root : ℕ} {noted : N}
+    {left first right : Option Hold} {h : Hold} {t : Seat N} (k : NodeToAdd r holds may root noted left first right h t) (passed : ℕ) (other : N) (many : ℕ)
+    (u : Seat N) → noted ≡ other → passed ≡ many
+    → LinksAndGoes r k.value k.kind noted k.at.id (left_place (r.order.root k.wanted) left k.at.left_id) k.at.leads.from (node_of right k.at.right_id) k.slots t u
+    → AddsFound r k.start k.wanted k.value k.kind other (Absent left first right passed) many k.begun u
+node_found {N} {r} {holds} {may} {root} {noted} {left} {first} {right} {h} {t} k passed other many u same counted links = record {
+  left = left;
+  first = first;
+  right = right;
+  found_is = ap (λ (x : ℕ). Absent left first right x) counted;
+  node = h;
+  given = k.given;
+  slots = k.slots;
+  t = t;
+  at = k.at;
+  adds = subst (λ (x : N). LinksAndGoes r k.value k.kind x k.at.id (left_place (r.order.root k.wanted) left k.at.left_id) k.at.leads.from
+      (node_of right k.at.right_id) k.slots t u) same links;
+}
 
 -- a turn that added the node
 pub turn_true : (passed : ℕ) (linked : Result Bool SpentRow) (many : ℕ) → turn_by passed linked ≡ Answered true many → (linked ≡ Ok true) × (passed ≡ many)
@@ -61,35 +82,40 @@ turn_true passed (Ok true) many e = (refl, cc)
 turn_true passed (Ok false) many e = cc
 turn_true passed (Err why) many e = cc
 
-module _ {N : Type 0} (ord : Ordering N) (wanted value kind root passed : ℕ) (noted : N) (left first right node : Option Hold) (t : Seat N)
+module _ {N : Type 0} (ord : Ordering N) {wanted value kind root passed : ℕ} {noted : N} {left first right node : Option Hold} {t : Seat N}
     (a : Sought ord.reading wanted value kind node (Absent left first right passed) t) (of_root : root ≡ ord.reading.order.root wanted)
     (allows : AllowsNode ord.reading ord.holds ord.may wanted value kind t.agent noted) (all : AllAllowed ord.may [] t.seen) where
-  -- with the node that is in hand
-
-  kept : (h : Hold) → node ≡ Some h → KeepsNode ord.reading value kind (Some h) a.slots a.begun
-  kept h is = subst (λ (o : Option Hold). KeepsNode ord.reading value kind o a.slots a.begun) is a.keeps
-
-  pub in_hand : (h : Hold) → node ≡ Some h → NodeToAdd ord.reading ord.holds ord.may root noted left first right h t
-  in_hand h is = record {
+  -- a node that belongs there
+  abbrev to_add : {h : Hold} {given : ℕ} {slots : Slots} {u : Seat N}
+      → AddsAt ord.reading a.start wanted value kind left first right h given slots a.begun u → u.agent ≡ t.agent
+      → NodeToAdd ord.reading ord.holds ord.may root noted left first right h u
+  to_add {h} {given} {slots} {u} at mine = record {
     start = a.start;
     wanted = wanted;
     value = value;
     kind = kind;
-    given = 0;
-    slots = a.begun.slots;
+    given = given;
+    slots = slots;
     begun = a.begun;
-    at = absent_adds ord a.start wanted passed value kind left first right h a.slots a.begun t (kept h is) a.finds
-        (seen_holds ord a.begun t a.finds.own a.finds.behind.quiet.puts all) all;
+    at = at;
     root_is = of_root;
-    allowed = allows;
+    allowed = subst (λ (x : ℕ). AllowsNode ord.reading ord.holds ord.may wanted value kind x noted) (sym mine) allows;
   }
+
+  -- with the node that is in hand
+
+  pub kept : (h : Hold) → node ≡ Some h → KeepsNode ord.reading value kind (Some h) a.slots a.begun
+  kept h is = subst (λ (o : Option Hold). KeepsNode ord.reading value kind o a.slots a.begun) is a.keeps
+
+  abbrev pub in_hand : (h : Hold) → node ≡ Some h → NodeToAdd ord.reading ord.holds ord.may root noted left first right h t
+  in_hand h is = to_add (absent_adds ord a.start wanted passed value kind left first right h a.slots a.begun t (kept h is) a.finds
+      (seen_holds ord a.begun t a.finds.own a.finds.behind.quiet.puts all) all) refl
 
   pub hand_inserts : (h : Hold) (is : node ≡ Some h) (entry : Bool → SetEntry) (linked : Result Bool SpentRow) (u : Seat N)
       → ((k : NodeToAdd ord.reading ord.holds ord.may root noted left first right h t)
       → AddsNode ord.reading k.value k.kind (ord.reading.entries_in (Some noted)) h k.at.id k.given k.slots k.begun linked u)
       → ord.reading.entries_in (Some noted) ≡ entry true ∷ []
       → Inserts ord.reading value kind entry 1 a.slots node a.begun (turn_by passed linked) (Some h) u
-  unfolding in_hand
   hand_inserts h is entry linked u added enters =
       let some = kept h is in
       let holds = seen_holds ord a.begun t a.finds.own a.finds.behind.quiet.puts all in
@@ -100,45 +126,12 @@ module _ {N : Type 0} (ord : Ordering N) (wanted value kind root passed : ℕ) (
       (adds_inserts ord.reading value kind entry h id 0 a.begun.slots a.slots (Some h) a.begun u passed linked done
       (some.slots_are ∙ ap (λ (i : ℕ). slots_with a.slots (Some h) i) (sym same)) some.slot_is refl)
 
-  pub hand_few : (h : Hold) (is : node ≡ Some h) (linked : Result Bool SpentRow) (u : Seat N)
-      → ((k : NodeToAdd ord.reading ord.holds ord.may root noted left first right h t)
-      → AddsNode ord.reading k.value k.kind (ord.reading.entries_in (Some noted)) h k.at.id k.given k.slots k.begun linked u)
-      → ((k : NodeToAdd ord.reading ord.holds ord.may root noted left first right h t) → IsFew (4 + 3 * k.given) (made_from k.begun u))
-      → IsFew (4 + 3 * gives_in (made_from a.begun u)) (made_from a.begun u)
-  unfolding in_hand
-  hand_few h is linked u added few = adds_few ord.reading value kind (ord.reading.entries_in (Some noted)) h _ 0 a.begun.slots a.begun u linked (added (in_hand h is))
-      (few (in_hand h is))
-
-  pub hand_found : (h : Hold) (is : node ≡ Some h) (other : N) (many : ℕ) (u : Seat N) → noted ≡ other → passed ≡ many
-      → ((k : NodeToAdd ord.reading ord.holds ord.may root noted left first right h t)
-      → LinksAndGoes ord.reading k.value k.kind noted k.at.id (left_place (ord.reading.order.root k.wanted) left k.at.left_id) k.at.leads.from
-      (node_of right k.at.right_id) k.slots t u)
-      → AddsFound ord.reading a.start wanted value kind other (Absent left first right passed) many a.begun u
-  unfolding in_hand
-  hand_found h is other many u same counted links =
-      let at = absent_adds ord a.start wanted passed value kind left first right h a.slots a.begun t (kept h is) a.finds
-      (seen_holds ord a.begun t a.finds.own a.finds.behind.quiet.puts all) all in
-      let by = subst (λ (x : N). LinksAndGoes ord.reading value kind x at.id (left_place (ord.reading.order.root wanted) left at.left_id) at.leads.from
-      (node_of right at.right_id) a.begun.slots t u) same (links (in_hand h is)) in
-      record {
-        left = left;
-        first = first;
-        right = right;
-        found_is = ap (λ (x : ℕ). Absent left first right x) counted;
-        node = h;
-        given = 0;
-        slots = a.begun.slots;
-        t = t;
-        at = at;
-        adds = by;
-      }
-
   -- with a new one
 
   none : node ≡ None → KeepsNode ord.reading value kind None a.slots a.begun
   none is = subst (λ (o : Option Hold). KeepsNode ord.reading value kind o a.slots a.begun) is a.keeps
 
-  one : node ≡ None → IsFree a.begun.slots 1
+  pub one : node ≡ None → IsFree a.begun.slots 1
   one is = subst (λ (z : Slots). IsFree z 1) (sym (none is).slots_are) a.room.one
 
   pub room_to_give : node ≡ None → IsFree t.slots 1 × (t.fresh ≡ None)
@@ -148,26 +141,14 @@ module _ {N : Type 0} (ord : Ordering N) (wanted value kind root passed : ℕ) (
   )
 
   module _ (u : Seat N) (is : node ≡ None) (all_u : AllAllowed ord.may [] u.seen) where
-    pub node_given : (h : Hold) → Gives ord.reading.numbers 1 value kind t h u → NodeToAdd ord.reading ord.holds ord.may root noted left first right h u
-    node_given h g = record {
-      start = a.start;
-      wanted = wanted;
-      value = value;
-      kind = kind;
-      given = 1;
-      slots = slice_set a.begun.slots 1 (Some (record { row = h.row; id = g.id }));
-      begun = a.begun;
-      at = given_adds ord a.start wanted passed value kind left first right a.begun t u a.finds (one is) h g all_u;
-      root_is = of_root;
-      allowed = subst (λ (x : ℕ). AllowsNode ord.reading ord.holds ord.may wanted value kind x noted) (sym g.puts.agent) allows;
-    }
+    abbrev pub node_given : (h : Hold) → Gives ord.reading.numbers 1 value kind t h u → NodeToAdd ord.reading ord.holds ord.may root noted left first right h u
+    node_given h g = to_add (given_adds ord a.start wanted passed value kind left first right a.begun t u a.finds (one is) h g all_u) g.puts.agent
 
     pub given_inserts : (h : Hold) (g : Gives ord.reading.numbers 1 value kind t h u) (entry : Bool → SetEntry) (linked : Result Bool SpentRow) (v : Seat N)
         → ((k : NodeToAdd ord.reading ord.holds ord.may root noted left first right h u)
         → AddsNode ord.reading k.value k.kind (ord.reading.entries_in (Some noted)) h k.at.id k.given k.slots k.begun linked v)
         → ord.reading.entries_in (Some noted) ≡ entry true ∷ []
         → Inserts ord.reading value kind entry 1 a.slots node a.begun (turn_by passed linked) (Some h) v
-    unfolding node_given
     given_inserts h g entry linked v added enters =
         let x : Option SlotNode = Some (record { row = h.row; id = g.id }) in
         let base = slice_set a.begun.slots 1 x in
@@ -180,53 +161,21 @@ module _ {N : Type 0} (ord : Ordering N) (wanted value kind root passed : ℕ) (
         (adds_inserts ord.reading value kind entry h id 1 base a.slots None a.begun v passed linked done
         (base_is ∙ ap (λ (i : ℕ). slots_with a.slots (Some h) i) (sym same)) g.slot_is refl)
 
-    pub given_few : (h : Hold) (g : Gives ord.reading.numbers 1 value kind t h u) (linked : Result Bool SpentRow) (v : Seat N)
-        → ((k : NodeToAdd ord.reading ord.holds ord.may root noted left first right h u)
-        → AddsNode ord.reading k.value k.kind (ord.reading.entries_in (Some noted)) h k.at.id k.given k.slots k.begun linked v)
-        → ((k : NodeToAdd ord.reading ord.holds ord.may root noted left first right h u) → IsFew (4 + 3 * k.given) (made_from k.begun v))
-        → IsFew (4 + 3 * gives_in (made_from a.begun v)) (made_from a.begun v)
-    unfolding node_given
-    given_few h g linked v added few =
-        adds_few ord.reading value kind (ord.reading.entries_in (Some noted)) h _ 1 (slice_set a.begun.slots 1 (Some (record { row = h.row; id = g.id })))
-        a.begun v linked (added (node_given h g)) (few (node_given h g))
-
-    pub given_found : (h : Hold) (g : Gives ord.reading.numbers 1 value kind t h u) (other : N) (many : ℕ) (v : Seat N) → noted ≡ other → passed ≡ many
-        → ((k : NodeToAdd ord.reading ord.holds ord.may root noted left first right h u)
-        → LinksAndGoes ord.reading k.value k.kind noted k.at.id (left_place (ord.reading.order.root k.wanted) left k.at.left_id) k.at.leads.from
-        (node_of right k.at.right_id) k.slots u v)
-        → AddsFound ord.reading a.start wanted value kind other (Absent left first right passed) many a.begun v
-    unfolding node_given
-    given_found h g other many v same counted links =
-        let at = given_adds ord a.start wanted passed value kind left first right a.begun t u a.finds (one is) h g all_u in
-        let base = slice_set a.begun.slots 1 (Some (record { row = h.row; id = g.id })) in
-        let by = subst (λ (x : N). LinksAndGoes ord.reading value kind x at.id (left_place (ord.reading.order.root wanted) left at.left_id) at.leads.from
-        (node_of right at.right_id) base u v) same (links (node_given h g)) in
-        record {
-          left = left;
-          first = first;
-          right = right;
-          found_is = ap (λ (x : ℕ). Absent left first right x) counted;
-          node = h;
-          given = 1;
-          slots = base;
-          t = u;
-          at = at;
-          adds = by;
-        }
-
     -- none could be had
 
     pub lacking_hand : Only [] t u → InHand ord.reading a.begun.slots left first right None u
     lacking_hand o = absent_hand_on ord a.start wanted passed value kind left first right a.begun t u a.finds (one is) o all_u
 
-    pub lacking_inserts : (entry : Bool → SetEntry) (v : Seat N) → Only [] t u → AllGone a.begun.slots u v
+    pub lacking_inserts : (o : Only [] t u) (entry : Bool → SetEntry) (v : Seat N)
+        → (InHand ord.reading a.begun.slots left first right None u → AllGone a.begun.slots u v)
         → Inserts ord.reading value kind entry 1 a.slots node a.begun NoNode None v
-    lacking_inserts entry v o gone =
+    lacking_inserts o entry v goes =
         let no = none is in
-        let lacks = lacks_node ord a.start wanted passed value kind left first right a.begun t u a.finds (one is) v o gone no.to_add in
+        let lacks = lacks_node ord a.start wanted passed value kind left first right a.begun t u a.finds (one is) v o (goes (lacking_hand o)) no.to_add in
         subst (λ (x : Option Hold). Inserts ord.reading value kind entry 1 a.slots x a.begun NoNode None v) (sym is)
         (subst (λ (z : Slots). Inserts ord.reading value kind entry 1 z None a.begun NoNode None v) no.slots_are lacks)
 
-    pub lacking_sees : (v : Seat N) → Only [] t u → AllGone a.begun.slots u v → AllAllowed ord.may [] v.seen
-        → SeesAbsent ord.reading wanted (made_from a.begun v) v × IsFew 2 (made_from a.begun v)
-    lacking_sees v o gone all_v = lacks_sees ord a.start wanted passed value kind left first right a.begun t u a.finds (one is) v o gone all_v
+    pub lacking_sees : (o : Only [] t u) (v : Seat N) → (InHand ord.reading a.begun.slots left first right None u → AllGone a.begun.slots u v)
+        → AllAllowed ord.may [] v.seen → SeesAbsent ord.reading wanted (made_from a.begun v) v × IsFew 2 (made_from a.begun v)
+    lacking_sees o v goes all_v =
+        lacks_sees ord a.start wanted passed value kind left first right a.begun t u a.finds (one is) v o (goes (lacking_hand o)) all_v

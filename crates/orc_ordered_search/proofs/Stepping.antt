@@ -1,5 +1,5 @@
 -- One step of a search after another.
-use Rattle.std.proofs.Common.{Bool, List, None, Option, Some, [], ap, arith, false, inl, inr, length, length-append, refl, subst, sym, true, ℕ, ◌++◌, ◌+◌, ◌<◌, ◌∙◌, ◌∷◌, ◌≡◌, ◌≤◌, ◌⊎◌}
+use Rattle.std.proofs.Common.{Bool, List, None, Option, Some, [], ap, arith, false, inl, inr, length, length-append, min, refl, subst, sym, true, ℕ, ◌++◌, ◌+◌, ◌<◌, ◌∙◌, ◌∷◌, ◌≡◌, ◌≤◌, ◌⊎◌}
 use Rattle.orc_heap.proofs.Calls.{Puts-stood}
 use Rattle.orc_heap.proofs.Hands.{hand_held, hands_swap, hands_with_none, holds_of}
 use Rattle.orc_heap.proofs.Moments.{look_found, seen_is, since}
@@ -23,9 +23,9 @@ use Rattle.orc_heap.specs.declared.events.Place.TheVariants.{Next}
 use Rattle.orc_ordered_chains.proofs.Acts.{rank_linked, rank_one}
 use Rattle.orc_ordered_chains.proofs.Later.{follows_later, marked_later, rank_later}
 use Rattle.orc_ordered_chains.specs.Chains.{FollowsOn, HasRank, IsAbove, IsRun, link_over}
-use Rattle.orc_ordered_search.specs.Ways.{AreLoads, Sees}
+use Rattle.orc_ordered_search.specs.Ways.{AreLoads, GoesOnFrom, Sees}
 use Rattle.orc_ordered_search.specs.Reading.{Ordering}
-use Rattle.orc_ordered_search.specs.Searches.{Behind, BeginsRun, FindsAbsent, FindsPresent, IsOf, IsUncounted, KeepsFirst, LetsGo, Looking, LooksOn, NextFollows, NextIsOf, Passed, SeesRun, Visits, Walks, count_on, node_of}
+use Rattle.orc_ordered_search.specs.Searches.{Behind, BeginsRun, FindsAbsent, FindsPresent, IsOf, IsUncounted, KeepsFirst, LetsGo, Looking, LooksOn, NextFollows, NextIsOf, Passed, SeesRun, Skips, Visits, Walks, count_on, node_of}
 use Rattle.orc_ordered_search.proofs.Held.{FreshIs, first_linked, goes_fresh, goes_hands, left_linked, next_linked}
 use Rattle.orc_ordered_search.proofs.Quiets.{behind_on, behind_puts, is_of_puts, looking_on, uncounted_puts, visits_on, visits_puts}
 use Rattle.orc_ordered_search.proofs.Seen.{sees_right}
@@ -202,42 +202,34 @@ module _ {N : Type 0} (ord : Ordering N) (start : Place) (wanted : ℕ) (left fi
   next_above (Some x) own (high, mine, (low, again, less, same)) =
       (high, mine, omega (arith, rank_one ord.reading.order (heap_of ord.reading.numbers t) id low key again own, less))
 
-  visits_marked : (counted : Bool) (passed : ℕ) → Looking ord.reading start wanted left first left_id first_id id key counted passed true next s own t
-      → Visits ord.reading start wanted passed 2 next own t
-  visits_marked counted passed k =
+  -- a node more, from which the search goes on
+  visits_more : {counted : Bool} {passed : ℕ} {mark : Bool} (now : ℕ)
+      (k : Looking ord.reading start wanted left first left_id first_id id key counted passed mark next s own t)
+      → GoesOnFrom ord.reading.order (heap_of ord.reading.numbers t) wanted id
+      → (min (passed + 1) 9 ≤ now) ⊎ ((passed ≤ now) × Skips ord.reading own (heap_of ord.reading.numbers t) id)
+      → Visits ord.reading start wanted now 2 next own t
+  visits_more {counted} {passed} {mark} now k goes how =
       let v = k.visits in
-      let link : Link = record { to = next; mark = true } in
+      let link : Link = record { to = next; mark = mark } in
       record {
         nodes = id ∷ v.nodes;
         few = omega (arith, v.few);
         way = ((link, k.sees, refl), v.way);
-        on = (inl (link, k.frozen refl, refl), v.on);
+        on = (goes, v.on);
         fall = (key, k.is_of.has_key, next_above next k.is_of.has_key k.follows, v.fall);
-        counted = (passed, v.counted, inr (omega arith, inl (link, k.sees, refl)));
+        counted = (passed, v.counted, how);
       }
+
+  visits_marked : (counted : Bool) (passed : ℕ) → Looking ord.reading start wanted left first left_id first_id id key counted passed true next s own t
+      → Visits ord.reading start wanted passed 2 next own t
+  visits_marked counted passed k =
+      let link : Link = record { to = next; mark = true } in
+      visits_more passed k (inl (link, k.frozen refl, refl)) (inr (omega arith, inl (link, k.sees, refl)))
 
   pub visits_lower : (counted : Bool) (passed : ℕ) → Looking ord.reading start wanted left first left_id first_id id key counted passed false next s own t
       → key < wanted → Visits ord.reading start wanted (count_on counted passed) 2 next own t
-  visits_lower true passed k less =
-      let v = k.visits in
-      record {
-        nodes = id ∷ v.nodes;
-        few = omega (arith, v.few);
-        way = ((link_over next, k.sees, refl), v.way);
-        on = (inr (key, k.is_of.has_key, less), v.on);
-        fall = (key, k.is_of.has_key, next_above next k.is_of.has_key k.follows, v.fall);
-        counted = (passed, v.counted, inl (omega arith));
-      }
-  visits_lower false passed k less =
-      let v = k.visits in
-      record {
-        nodes = id ∷ v.nodes;
-        few = omega (arith, v.few);
-        way = ((link_over next, k.sees, refl), v.way);
-        on = (inr (key, k.is_of.has_key, less), v.on);
-        fall = (key, k.is_of.has_key, next_above next k.is_of.has_key k.follows, v.fall);
-        counted = (passed, v.counted, inr (omega arith, inr (k.kind refl)));
-      }
+  visits_lower true passed k less = visits_more (count_on true passed) k (inr (key, k.is_of.has_key, less)) (inl (omega arith))
+  visits_lower false passed k less = visits_more passed k (inr (key, k.is_of.has_key, less)) (inr (omega arith, inr (k.kind refl)))
 
 -- the search has gone past the node
 

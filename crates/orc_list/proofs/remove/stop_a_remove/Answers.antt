@@ -1,43 +1,82 @@
--- One search, and then all nodes are let go.
-use Rattle.std.proofs.Common.{[], append-nil, refl, sym}
-use Rattle.orc_heap.specs.OwnEvents.{Puts}
-use Rattle.orc_ordered_search.proofs.Held.{absent_hand}
-use Rattle.orc_ordered_search.proofs.Adding.{absent_sees}
-use Rattle.orc_list.proofs.Removing.{not_alone, quiet_stops}
-use Rattle.orc_list.proofs.Ordered.{list_ordering}
+-- One search, the mark if it found the key, and then all nodes are let go.
+use Rattle.std.proofs.Common.{true}
 use Rattle.orc_heap.specs.declared.events.Place.TheVariants.{Root}
+use Rattle.orc_history.specs.declared.set.SetEntry.TheVariants.{Removed}
+use Rattle.orc_chain_rule.specs.declared.chain.ChainNote.TheVariants.{Entry}
+use Rattle.orc_ordered_search.specs.Searches.{FindsAbsent, FindsPresent}
+use Rattle.orc_ordered_search.proofs.Adding.{absent_sees}
+use Rattle.orc_ordered_search.proofs.Held.{absent_hand}
+use Rattle.orc_ordered_search.proofs.Making.{found_over}
+use Rattle.orc_ordered_search.proofs.Removing.{marked_hand, marks_at, reads_node}
+use Rattle.orc_list.specs.Searches.{list_reading}
+use Rattle.orc_list.proofs.Ordered.{list_ordering}
+use Rattle.orc_list.proofs.Removing.{mark_stops, quiet_stops, tires_stops}
+use Rattle.orc_list.proofs.Starting.{root_begins}
+use Rattle.orc_list.proofs.remove.stop_a_remove.Given.{Over}
+use Rattle.orc_list.proofs.remove.stop_a_remove.Goals.{In-Absent, In-Present}
 use Rattle.orc_list.proofs.remove.stop_a_remove.Goals as goal
 
-pub let_all_go-requires-clause-hands : goal.let_all_go-requires-clause-hands
-let_all_go-requires-clause-hands g c =
-    let s = g.L.Links.seat _ c.args.p.now in
-    (s.slots, absent_hand (list_ordering _) (Root c.args.root) c.args.key c.in-Absent.passed c.in-Absent.left c.in-Absent.first s _ c.in-Absent.right c.in-Absent.ensures.found)
+-- what the search found
+absent : (g : Over) (c : In-Absent g) → let d = c.args.links.now in let f = c.in-Absent in
+    FindsAbsent (list_reading (g.L.Links.numbers d)) (Root c.args.root) c.args.key f.passed f.left f.first f.right (g.L.Links.seat d c.args.p.now)
+    (g.L.Links.seat d c.search_chain.new.p)
+absent g c =
+    c.in-Absent.ensures.found (Root c.args.root) _ c.requires.room
+    (root_begins _ c.args.root c.args.key _ c.requires.root.1 (g.met.L.Links.obeys _ _ c.requires.pass))
 
-pub mark_and_go-requires-clause-present : goal.mark_and_go-requires-clause-present
-mark_and_go-requires-clause-present g c = (c.in-Present.passed, g.L.Links.seat c.args.links.now c.args.p.now, c.in-Present.ensures.found)
+present : (g : Over) (c : In-Present g) → let d = c.args.links.now in let f = c.in-Present in
+    FindsPresent (list_reading (g.L.Links.numbers d)) (Root c.args.root) c.args.key f.passed f.left f.first f.node f.next (g.L.Links.seat d c.args.p.now)
+    (g.L.Links.seat d c.search_chain.new.p)
+present g c =
+    c.in-Present.ensures.found (Root c.args.root) _ c.requires.room
+    (root_begins _ c.args.root c.args.key _ c.requires.root.1 (g.met.L.Links.obeys _ _ c.requires.pass))
+
+pub search_chain-requires-clause-begins : goal.search_chain-requires-clause-begins
+search_chain-requires-clause-begins g c =
+    let s = g.L.Links.seat _ c.args.p.now in
+    (Root c.args.root, s, c.requires.room, root_begins _ c.args.root c.args.key s c.requires.root.1 (g.met.L.Links.obeys _ _ c.requires.pass))
 
 pub returns-in-Over-clause-stopped : goal.returns-in-Over-clause-stopped
 returns-in-Over-clause-stopped g c =
-    let s = g.L.Links.seat _ c.args.p.now in
-    let t = g.L.Links.seat _ c.search.new.p in
-    let found = c.in-Over.ensures.found.0 in
-    let none : Puts t [] t = record { part = []; is = sym (append-nil t.seen); agent = refl; own_is = refl } in
-    quiet_stops _ c.args.key s t t found.own found.quiet none found.slots refl
-    (λ w alone. absurd (not_alone s t t found.own found.quiet.puts none w found.quiet.no_move found.moved alone))
+    let moved = c.in-Over.ensures.found (Root c.args.root) _ c.requires.room
+    (root_begins _ c.args.root c.args.key _ c.requires.root.1 (g.met.L.Links.obeys _ _ c.requires.pass)) in
+    tires_stops _ c.args.key _ _ (found_over (list_reading _) _ _ moved.0)
+
+pub let_all_go-requires-clause-hands : goal.let_all_go-requires-clause-hands
+let_all_go-requires-clause-hands g c =
+    let f = c.in-Absent in
+    let found = absent g (goal.at.let_all_go-requires-clause-hands g c).In-Absent in
+    (_, absent_hand (list_ordering _) (Root c.args.root) c.args.key f.passed f.left f.first (g.L.Links.seat _ c.args.p.now) _ f.right found)
 
 pub returns-in-Absent-clause-stopped : goal.returns-in-Absent-clause-stopped
 returns-in-Absent-clause-stopped g c =
-    let d = c.args.links.now in
-    let s = g.L.Links.seat d c.args.p.now in
-    let t = g.L.Links.seat d c.search.new.p in
-    let y = g.L.Links.seat d c.let_all_go.new.p in
-    let found = c.in-Absent.ensures.found in
-    let gone = c.let_all_go.ensures.gone s.slots (absent_hand (list_ordering _) (Root c.args.root) c.args.key c.in-Absent.passed c.in-Absent.left c.in-Absent.first s t
-    c.in-Absent.right found) in
-    quiet_stops _ c.args.key s t y found.own found.behind.quiet gone.puts gone.slots_are gone.fresh
-    (λ w alone. absent_sees (list_ordering _) (Root c.args.root) c.args.key c.in-Absent.passed c.in-Absent.left c.in-Absent.first
-    c.in-Absent.right s t y found gone.puts (g.met.L.Links.allowed _ _ c.let_all_go.ensures.pass))
+    let s = g.L.Links.seat _ c.args.p.now in
+    let f = c.in-Absent in
+    let found = absent g (goal.at.returns-in-Absent-clause-stopped g c).In-Absent in
+    let e = c.let_all_go.ensures in
+    let gone = e.gone s.slots (absent_hand (list_ordering _) (Root c.args.root) c.args.key f.passed f.left f.first s _ f.right found) in
+    quiet_stops _ c.args.key s _ _ found.own found.behind.quiet gone.puts gone.slots_are gone.fresh
+    (λ w alone. absent_sees (list_ordering _) (Root c.args.root) c.args.key f.passed f.left f.first f.right s _ _ found gone.puts
+    (g.met.L.Links.allowed _ _ e.pass))
+
+pub mark_node-marked-requires : goal.mark_node-marked-requires
+mark_node-marked-requires g c =
+    let r = reads_node (list_ordering _) (present g (goal.at.mark_node-marked-requires g c).In-Present) in
+    record { pass = c.in-Present.ensures.pass; node = r.node_held; next = r.next_held; key = r.key; follows = r.follows }
+
+pub let_all_go-requires-in-Present-clause-hands : goal.let_all_go-requires-in-Present-clause-hands
+let_all_go-requires-in-Present-clause-hands g c =
+    let found = present g (goal.at.let_all_go-requires-in-Present-clause-hands g c).In-Present in
+    let e = c.mark_node-marked.ensures in
+    let noted = Entry (Removed (g.L.Links.seat _ c.search_chain.new.p).agent c.args.key true) in
+    (_, marked_hand (list_ordering _) found noted _ _ (marks_at (list_ordering _) found noted _ _ e.marked) (g.met.L.Links.allowed _ _ e.pass))
 
 pub returns-in-Present-clause-stopped : goal.returns-in-Present-clause-stopped
 returns-in-Present-clause-stopped g c =
-    c.mark_and_go.ensures.stopped c.in-Present.passed _ c.in-Present.ensures.found
+    let found = present g (goal.at.returns-in-Present-clause-stopped g c).In-Present in
+    let e = c.mark_node-marked.ensures in
+    let noted = Entry (Removed (g.L.Links.seat _ c.search_chain.new.p).agent c.args.key true) in
+    let m = marks_at (list_ordering _) found noted _ _ e.marked in
+    let all = g.met.L.Links.allowed _ _ e.pass in
+    let gone = c.let_all_go-in-Present.ensures.gone _ (marked_hand (list_ordering _) found noted _ _ m all) in
+    mark_stops found c.mark_node-marked.result _ _ m gone all

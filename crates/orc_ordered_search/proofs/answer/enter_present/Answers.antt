@@ -33,16 +33,14 @@ pub same-entered-requires-clause-place : goal.same-entered-requires-clause-place
 same-entered-requires-clause-place g c =
     let a = c.args in
     let (start, passed, s, f) = c.requires.present in
-    (reads_node (ordering_of (g.met.K.Rank.ordered _)) start (g.K.SetRank.key_rank a.key) passed a.left a.first a.node a.next s
-    _ f).node_held
+    (reads_node (ordering_of (g.met.K.Rank.ordered _)) f).node_held
 
 pub same-entered-requires-clause-link : goal.same-entered-requires-clause-link
 same-entered-requires-clause-link g c =
     let a = c.args in
     let t = g.L.Links.seat _ a.p.now in
     let (start, passed, s, f) = c.requires.present in
-    c.link_to.ensures.held t.slots (reads_node (ordering_of (g.met.K.Rank.ordered _)) start (g.K.SetRank.key_rank a.key) passed a.left
-    a.first a.node a.next s t f).next_held
+    c.link_to.ensures.held t.slots (reads_node (ordering_of (g.met.K.Rank.ordered _)) f).next_held
 
 pub same-entered-requires-clause-allowed : goal.same-entered-requires-clause-allowed
 same-entered-requires-clause-allowed g c =
@@ -50,7 +48,7 @@ same-entered-requires-clause-allowed g c =
     let t = g.L.Links.seat _ a.p.now in
     let (start, passed, s, f) = c.requires.present in
     let ord = ordering_of (g.met.K.Rank.ordered _) in
-    let r = reads_node ord start (g.K.SetRank.key_rank a.key) passed a.left a.first a.node a.next s t f in
+    let r = reads_node ord f in
     present_allowed ord g.K.SetRank.key_rank g.K.SetRank.noted (g.met.K.SetRank.allows_presence _) start a.key passed a.left a.first a.node a.next s t f _ _ _
     a.entry (ap Next r.id_is) (c.link_to.ensures.link t.slots ∙ ap link_over r.next_is) c.note-note.ensures c.requires.entry
     (g.met.L.Links.obeys _ _ c.requires.pass)
@@ -67,7 +65,7 @@ returns-clause-entered g c = λ start passed s f.
     let e = c.same-entered.ensures in
     let ord = ordering_of (g.met.K.Rank.ordered _) in
     let wanted = g.K.SetRank.key_rank a.key in
-    let r = reads_node ord start wanted passed a.left a.first a.node a.next s t f in
+    let r = reads_node ord f in
     let enters = ap (λ (z : g.row.K-Rule-Note.Denot). ord.reading.entries_in (Some z)) c.note-note.ensures ∙ g.met.K.SetRank.enters _ a.entry in
     entered_at ord s t _ _ f.own (Next f.id) (link_over (node_of a.next f.next_id)) c.note-note.result a.entry _ _
     c.same-entered.result f.behind.quiet (present_few ord.reading start wanted passed a.left a.first a.node a.next s t f) enters f.still

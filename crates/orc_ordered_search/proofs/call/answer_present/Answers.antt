@@ -32,7 +32,7 @@ returns-in-Remove-clause-answered g c = λ start passed s f.
     let t = g.L.Links.seat _ a.p.now in
     let u = g.L.Links.seat _ c.take_out.new.p in
     let entry = Removed t.agent a.key true in
-    let done = takes_enters x start (g.K.SetRank.key_rank a.key) passed a.left a.first a.node a.next s t f (g.K.SetRank.noted entry) g.K.SetRank.unlinking entry _
+    let done = takes_enters x f (g.K.SetRank.noted entry) g.K.SetRank.unlinking entry _
     c.take_out.result u (g.met.K.SetRank.enters _ entry) (g.met.K.SetRank.enters_none _) (c.take_out.ensures.removed start passed s f) in
     subst (λ (e : SetEntry). Enters x.reading e s c.take_out.result u)
     (entry_is a.call Remove t.agent s.agent a.key true c.in-Remove.is f.behind.quiet.puts.agent) done
@@ -42,7 +42,7 @@ returns-in-Remove-clause-few g c = λ start passed s f.
     let x = ordering_of (g.met.K.Rank.ordered _) in
     let a = c.args in
     let t = g.L.Links.seat _ a.p.now in
-    takes_few x start (g.K.SetRank.key_rank a.key) passed a.left a.first a.node a.next s t f (g.K.SetRank.noted (Removed t.agent a.key true))
+    takes_few x f (g.K.SetRank.noted (Removed t.agent a.key true))
     g.K.SetRank.unlinking _ c.take_out.result _ (c.take_out.ensures.removed start passed s f)
 
 pub returns-in-Remove-clause-taken : goal.returns-in-Remove-clause-taken
@@ -50,7 +50,7 @@ returns-in-Remove-clause-taken g c = λ start passed s f call yes.
     let x = ordering_of (g.met.K.Rank.ordered _) in
     let a = c.args in
     let t = g.L.Links.seat _ a.p.now in
-    takes_found x start (g.K.SetRank.key_rank a.key) passed a.left a.first a.node a.next s t f (g.K.SetRank.noted (Removed t.agent a.key true))
+    takes_found x f (g.K.SetRank.noted (Removed t.agent a.key true))
     g.K.SetRank.unlinking _ c.take_out.result _ (c.take_out.ensures.removed start passed s f) yes
 
 pub returns-in-Ask-clause-taken : goal.returns-in-Ask-clause-taken

@@ -4,12 +4,12 @@ use Rattle.orc_heap.specs.Seats.{Seat, heap_of}
 use Rattle.orc_heap.specs.Slots.{id_in}
 use Rattle.orc_heap.specs.declared.events.Place.{Place}
 use Rattle.orc_history.specs.declared.set.SetEntry.TheVariants.{Removed}
-use Rattle.orc_ordered_chains.specs.Chains.{HasRank, IsChainPlace}
+use Rattle.orc_ordered_chains.specs.Chains.{IsChainPlace}
 use Rattle.orc_ordered_search.specs.Causes.{HasWorn}
 use Rattle.orc_ordered_search.specs.Reading.{ordering_of, reading_by}
 use Rattle.orc_ordered_search.specs.Searches.{FindsPresent, InHand, node_of, place_at, target_at}
 use Rattle.orc_ordered_search.specs.Turns.{Marks}
-use Rattle.orc_ordered_search.proofs.Marking.{follows_at, tried_of, tries_wider, worn_wider}
+use Rattle.orc_ordered_search.proofs.Marking.{tried_of, tries_wider, worn_wider}
 use Rattle.orc_ordered_search.proofs.Removing.{marked_hand, marks_at, reads_node, removes_missed, tried_hand, tries_at, unlink_follows, unlink_held, unlink_left, unlink_run_at}
 use Rattle.orc_ordered_search.proofs.remove.take_out.Given.{Over}
 use Rattle.orc_ordered_search.proofs.remove.take_out.Goals.{After-mark_node, After-unlink_run}
@@ -26,7 +26,7 @@ marks g c = λ start passed s f done is.
     let t = g.L.Links.seat _ a.p.now in
     let u = g.L.Links.seat _ c.mark_node.new.p in
     let noted = g.K.SetRank.noted (Removed t.agent a.key true) in
-    marks_at (ordering_of (g.met.K.Rank.ordered _)) start (g.K.SetRank.key_rank a.key) passed a.left a.first a.node a.next s t f noted done u
+    marks_at (ordering_of (g.met.K.Rank.ordered _)) f noted done u
     (subst (λ (b : Bool). Marks noted (id_in t.slots a.node) (target_at t.slots a.next) t b u) is c.mark_node.ensures.marked)
 
 -- the nodes of the search are in hand on
@@ -37,7 +37,7 @@ hands : (g : Over) (c : After-mark_node g) → let d = c.args.links.now in let r
 hands g c = λ start passed s f.
     let a = c.args in
     let t = g.L.Links.seat _ a.p.now in
-    marked_hand (ordering_of (g.met.K.Rank.ordered _)) start (g.K.SetRank.key_rank a.key) passed a.left a.first a.node a.next s t f
+    marked_hand (ordering_of (g.met.K.Rank.ordered _)) f
     (g.K.SetRank.noted (Removed t.agent a.key true)) _ _ (marks g c start passed s f _ refl) (g.met.L.Links.allowed _ _ c.mark_node.ensures.pass)
 
 hands_on : (g : Over) (c : After-unlink_run g) → let d = c.args.links.now in let r = reading_by (g.L.Links.numbers d) g.K.Rank.manner in let a = c.args in
@@ -48,46 +48,22 @@ hands_on : (g : Over) (c : After-unlink_run g) → let d = c.args.links.now in l
 hands_on g c = λ start passed s f h.
     let a = c.args in
     let r = c.unlink_run.ensures in
-    tried_hand (ordering_of (g.met.K.Rank.ordered _)) start (g.K.SetRank.key_rank a.key) passed a.left a.first a.node a.next s _ f _ _
+    tried_hand (ordering_of (g.met.K.Rank.ordered _)) f _ _
     (tried_of (ordering_of (g.met.K.Rank.ordered _)) _ _ _ _ _ _ g.K.SetRank.unlinking (g.met.K.SetRank.enters_none _) r.tried)
     (g.met.L.Links.allowed _ _ r.pass) h
 
-pub mark_node-requires-clause-node : goal.mark_node-requires-clause-node
-mark_node-requires-clause-node g c =
+pub mark_node-requires : goal.mark_node-requires
+mark_node-requires g c =
     let (start, passed, s, f) = c.requires.present in
-    let a = c.args in
-    (reads_node (ordering_of (g.met.K.Rank.ordered _)) start (g.K.SetRank.key_rank a.key) passed a.left a.first a.node a.next s _ f).node_held
-
-pub mark_node-requires-clause-next : goal.mark_node-requires-clause-next
-mark_node-requires-clause-next g c =
-    let (start, passed, s, f) = c.requires.present in
-    let a = c.args in
-    (reads_node (ordering_of (g.met.K.Rank.ordered _)) start (g.K.SetRank.key_rank a.key) passed a.left a.first a.node a.next s _ f).next_held
-
-pub mark_node-requires-clause-key : goal.mark_node-requires-clause-key
-mark_node-requires-clause-key g c =
-    let (start, passed, s, f) = c.requires.present in
-    let a = c.args in
-    let t = g.L.Links.seat _ a.p.now in
-    let n = g.L.Links.numbers _ in
-    let ord = ordering_of (g.met.K.Rank.ordered n) in
-    let r = reads_node (ordering_of (g.met.K.Rank.ordered _)) start (g.K.SetRank.key_rank a.key) passed a.left a.first a.node a.next s t f in
-    subst (λ (i : ℕ). HasRank ord.reading.order (heap_of n t) i (g.K.SetRank.key_rank a.key)) (sym r.id_is) f.is_of.has_key
-
-pub mark_node-requires-clause-follows : goal.mark_node-requires-clause-follows
-mark_node-requires-clause-follows g c =
-    let (start, passed, s, f) = c.requires.present in
-    let a = c.args in
-    let ord = ordering_of (g.met.K.Rank.ordered _) in
-    let r = reads_node (ordering_of (g.met.K.Rank.ordered _)) start (g.K.SetRank.key_rank a.key) passed a.left a.first a.node a.next s _ f in
-    follows_at ord.reading _ f.id _ _ _ (sym r.id_is) (sym r.next_is) f.follows
+    let r = reads_node (ordering_of (g.met.K.Rank.ordered _)) f in
+    record { pass = c.requires.pass; node = r.node_held; next = r.next_held; key = r.key; follows = r.follows }
 
 pub returns-then-not-mark_node-clause-removed : goal.returns-then-not-mark_node-clause-removed
 returns-then-not-mark_node-clause-removed g c = λ start passed s f.
     let at = (goal.at.returns-then-not-mark_node-clause-removed g c).After-mark_node in
     let a = c.args in
     let t = g.L.Links.seat _ a.p.now in
-    removes_missed (ordering_of (g.met.K.Rank.ordered _)) start (g.K.SetRank.key_rank a.key) passed a.left a.first a.node a.next s t f
+    removes_missed (ordering_of (g.met.K.Rank.ordered _)) f
     (g.K.SetRank.noted (Removed t.agent a.key true)) _ _
     (marks g at start passed s f false c.if-not-mark_node.true) (c.let_all_go.ensures.gone s.slots (hands g at start passed s f))
     (g.met.L.Links.allowed _ _ c.mark_node.ensures.pass)
@@ -97,45 +73,26 @@ let_all_go-requires-clause-hands g c =
     let (start, passed, s, f) = c.requires.present in
     (s.slots, hands g (goal.at.let_all_go-requires-clause-hands g c).After-mark_node start passed s f)
 
-pub unlink_run-requires-clause-held : goal.unlink_run-requires-clause-held
-unlink_run-requires-clause-held g c =
+pub unlink_run-requires : goal.unlink_run-requires
+unlink_run-requires g c =
     let (start, passed, s, f) = c.requires.present in
     let a = c.args in
-    unlink_held (ordering_of (g.met.K.Rank.ordered (g.L.Links.numbers _))) start (g.K.SetRank.key_rank a.key) passed a.left a.first a.node a.next s _ f
-    (g.L.Links.seat _ c.mark_node.new.p) c.node_or.result.now c.mark_node.ensures.marked.slots c.node_or.ensures
-
-pub unlink_run-requires-clause-left : goal.unlink_run-requires-clause-left
-unlink_run-requires-clause-left g c =
-    let (start, passed, s, f) = c.requires.present in
-    let a = c.args in
-    let t = g.L.Links.seat _ a.p.now in
-    let n = g.L.Links.numbers _ in
-    let u = g.L.Links.seat _ c.mark_node.new.p in
+    let n = g.L.Links.numbers a.links.now in
     let ord = ordering_of (g.met.K.Rank.ordered n) in
-    let m = marks g (goal.at.unlink_run-requires-clause-left g c).After-mark_node start passed s f true c.if-not-mark_node.false in
-    subst (λ (r : ℕ). IsChainPlace ord.reading.order (heap_of n u) (place_at u.slots r a.left)) (sym c.requires.root.1)
-    (unlink_left (ordering_of (g.met.K.Rank.ordered _)) start (g.K.SetRank.key_rank a.key) passed a.left a.first a.node a.next s t f (g.K.SetRank.noted (Removed t.agent a.key true)) u
-    c.node_or.result.now m (g.met.L.Links.allowed _ _ c.mark_node.ensures.pass) c.node_or.ensures)
-
-pub unlink_run-requires-clause-run : goal.unlink_run-requires-clause-run
-unlink_run-requires-clause-run g c =
-    let (start, passed, s, f) = c.requires.present in
-    let a = c.args in
-    let t = g.L.Links.seat _ a.p.now in
-    let m = marks g (goal.at.unlink_run-requires-clause-run g c).After-mark_node start passed s f true c.if-not-mark_node.false in
-    unlink_run_at (ordering_of (g.met.K.Rank.ordered _)) start (g.K.SetRank.key_rank a.key) passed a.left a.first a.node a.next s t f
-    (g.K.SetRank.noted (Removed t.agent a.key true)) _ c.node_or.result.now m
-    (g.met.L.Links.allowed _ _ c.mark_node.ensures.pass) c.node_or.ensures
-
-pub unlink_run-requires-clause-follows : goal.unlink_run-requires-clause-follows
-unlink_run-requires-clause-follows g c =
-    let (start, passed, s, f) = c.requires.present in
-    let a = c.args in
-    let t = g.L.Links.seat _ a.p.now in
-    let m = marks g (goal.at.unlink_run-requires-clause-follows g c).After-mark_node start passed s f true c.if-not-mark_node.false in
-    unlink_follows (ordering_of (g.met.K.Rank.ordered _)) start (g.K.SetRank.key_rank a.key) passed a.left a.first a.node a.next s t f
-    (g.K.SetRank.noted (Removed t.agent a.key true)) _ m
-    (g.met.L.Links.allowed _ _ c.mark_node.ensures.pass)
+    let u = g.L.Links.seat _ c.mark_node.new.p in
+    let noted = g.K.SetRank.noted (Removed (g.L.Links.seat _ a.p.now).agent a.key true) in
+    let e = c.mark_node.ensures in
+    let all = g.met.L.Links.allowed _ _ e.pass in
+    let m = marks g (goal.at.unlink_run-requires g c).After-mark_node start passed s f true c.if-not-mark_node.false in
+    record {
+      pass = e.pass;
+      root = c.requires.root.0;
+      held = unlink_held ord f u c.node_or.result.now e.marked.slots c.node_or.ensures;
+      left = subst (λ (r : ℕ). IsChainPlace ord.reading.order (heap_of n u) (place_at u.slots r a.left)) (sym c.requires.root.1)
+          (unlink_left ord f noted u c.node_or.result.now m all c.node_or.ensures);
+      run = unlink_run_at ord f noted u c.node_or.result.now m all c.node_or.ensures;
+      follows = unlink_follows ord f noted u m all;
+    }
 
 pub let_all_go-requires-2-clause-hands : goal.let_all_go-requires-2-clause-hands
 let_all_go-requires-2-clause-hands g c =
@@ -157,7 +114,7 @@ returns-clause-removed g c = λ start passed s f.
     let o = g.L.Links.journal c.let_all_go-2.new.p in
     let q = c.let_all_go-2.ensures in
     let m = marks g at.After-mark_node start passed s f true c.if-not-mark_node.false in
-    let tried = tries_at (ordering_of (g.met.K.Rank.ordered _)) start (g.K.SetRank.key_rank a.key) passed a.left a.first a.node a.next s t f u v c.node_or.result.now a.root
+    let tried = tries_at (ordering_of (g.met.K.Rank.ordered _)) f u v c.node_or.result.now a.root
     g.K.SetRank.unlinking _ c.requires.root.1 m.slots c.node_or.ensures c.unlink_run.ensures.tried in
     record {
       marked = u;

@@ -8,23 +8,19 @@ use Rattle.orc_ordered_search.proofs.Running.{passed_holds}
 use Rattle.orc_ordered_search.proofs.Stepping.{passed_none}
 use Rattle.orc_ordered_search.proofs.search.go_on.Goals as goal
 
-pub read-rank-requires-clause-held : goal.read-rank-requires-clause-held
-read-rank-requires-clause-held g c =
+pub read-rank-requires : goal.read-rank-requires
+read-rank-requires g c =
     let n = g.L.Links.numbers _ in
+    let x = ordering_of (g.met.K.Rank.ordered n) in
     let t = g.L.Links.seat _ c.args.p.now in
     let a = c.args in
     let (start, wanted, s, least, w) = c.requires.passed in
-    passed_holds (ordering_of (g.met.K.Rank.ordered n)) start wanted least a.passed a.left a.first c.in-Some.at s t
-    (subst (λ (o : Option Hold). Passed (reading_by n g.K.Rank.manner) start wanted least a.passed a.left a.first o s t) c.in-Some.is w)
-
-pub read-rank-requires-clause-linked : goal.read-rank-requires-clause-linked
-read-rank-requires-clause-linked g c =
-    let n = g.L.Links.numbers _ in
-    let t = g.L.Links.seat _ c.args.p.now in
-    let a = c.args in
-    let (start, wanted, s, least, w) = c.requires.passed in
-    passed_linked (ordering_of (g.met.K.Rank.ordered n)) start wanted least a.passed a.left a.first c.in-Some.at s t
-    (subst (λ (o : Option Hold). Passed (reading_by n g.K.Rank.manner) start wanted least a.passed a.left a.first o s t) c.in-Some.is w)
+    let here = subst (λ (o : Option Hold). Passed (reading_by n g.K.Rank.manner) start wanted least a.passed a.left a.first o s t) c.in-Some.is w in
+    record {
+      pass = c.requires.pass;
+      held = passed_holds x start wanted least a.passed a.left a.first c.in-Some.at s t here;
+      linked = passed_linked x start wanted least a.passed a.left a.first c.in-Some.at s t here;
+    }
 
 pub returns-in-Some-clause-stepped : goal.returns-in-Some-clause-stepped
 returns-in-Some-clause-stepped g c = λ start wanted s least w.

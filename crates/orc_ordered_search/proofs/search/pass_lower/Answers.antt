@@ -73,62 +73,33 @@ loop-p-init g c =
       walks = λ start s room w. w;
     }
 
-pub look_on-requires-clause-place : goal.look_on-requires-clause-place
-look_on-requires-clause-place g c =
+pub look_on-requires : goal.look_on-requires
+look_on-requires g c =
     let l = c.loop-p in
-    let (start, s, room, w) = c.requires.walks in
-    walk_holds (ordering_of (g.met.K.Rank.ordered _)) start (g.K.Rank.number c.args.wanted) (Some l.left) None l.at (g.K.Rank.number l.rank) (g.K.Rank.counted l.rank) l.passed s
-    _ (l.invariant.walks start s room w)
-
-pub look_on-requires-clause-from : goal.look_on-requires-clause-from
-look_on-requires-clause-from g c =
-    let d = c.args.links.now in
-    let l = c.loop-p in
-    let (start, s, room, w) = c.requires.walks in
-    (left_not_fresh (ordering_of (g.met.K.Rank.ordered _)) start (g.K.Rank.number c.args.wanted) l.left l.at (g.K.Rank.number l.rank) (g.K.Rank.counted l.rank) l.passed s
-    _ (l.invariant.walks start s room w)
-    (λ i h. g.met.L.Links.fresh_is d l.p i l.invariant.pass h)).0
-
-pub look_on-requires-clause-linked : goal.look_on-requires-clause-linked
-look_on-requires-clause-linked g c =
-    let d = c.args.links.now in
-    let l = c.loop-p in
-    let (start, s, room, w) = c.requires.walks in
-    (left_not_fresh (ordering_of (g.met.K.Rank.ordered _)) start (g.K.Rank.number c.args.wanted) l.left l.at (g.K.Rank.number l.rank) (g.K.Rank.counted l.rank) l.passed s
-    _ (l.invariant.walks start s room w)
-    (λ i h. g.met.L.Links.fresh_is d l.p i l.invariant.pass h)).1
-
-pub look_on-requires-clause-outside : goal.look_on-requires-clause-outside
-look_on-requires-clause-outside g c =
-    let l = c.loop-p in
-    let (start, s, room, w) = c.requires.walks in
-    left_apart (ordering_of (g.met.K.Rank.ordered _)) start (g.K.Rank.number c.args.wanted) l.left l.at (g.K.Rank.number l.rank) (g.K.Rank.counted l.rank) l.passed s (g.L.Links.seat _
-    l.p) (l.invariant.walks start s room w)
-
-pub look_on-requires-clause-slot : goal.look_on-requires-clause-slot
-look_on-requires-clause-slot g c =
-    let l = c.loop-p in
-    let (start, s, room, w) = c.requires.walks in
+    let x = ordering_of (g.met.K.Rank.ordered _) in
+    let (start, s, room, first) = c.requires.walks in
+    let w = l.invariant.walks start s room first in
     let (low, high, not_left, not_at) = l.invariant.spare in
-    walk_free (ordering_of (g.met.K.Rank.ordered _)) start (g.K.Rank.number c.args.wanted) (Some l.left) None l.at (g.K.Rank.number l.rank) (g.K.Rank.counted l.rank) l.passed
-    c.spare_slot-spare.result s _ room
-    (l.invariant.walks start s room w) low high not_left (λ e. omega (arith, e, high)) not_at
+    let (from, linked) = left_not_fresh x start _ _ _ _ _ _ s _ w (λ i h. g.met.L.Links.fresh_is c.args.links.now l.p i l.invariant.pass h) in
+    record {
+      pass = l.invariant.pass;
+      place = walk_holds x start _ _ _ _ _ _ _ s _ w;
+      from = from;
+      linked = linked;
+      outside = left_apart x start _ _ _ _ _ _ s _ w;
+      slot = walk_free x start _ _ _ _ _ _ _ c.spare_slot-spare.result s _ room w low high not_left (λ e. omega (arith, e, high)) not_at;
+    }
 
-pub read-rank-requires-clause-held : goal.read-rank-requires-clause-held
-read-rank-requires-clause-held g c =
-    let l = c.loop-p in
-    let (start, s, room, w) = c.requires.walks in
-    passed_holds (ordering_of (g.met.K.Rank.ordered _)) start (g.K.Rank.number c.args.wanted) (g.K.Rank.number l.rank + 1)
-    c.count_one-passed.result (Some l.at) None c.in-On.next s _
-    (passed g (goal.at.read-rank-requires-clause-held g c).After-count_one-passed start s (l.invariant.walks start s room w))
-
-pub read-rank-requires-clause-linked : goal.read-rank-requires-clause-linked
-read-rank-requires-clause-linked g c =
-    let l = c.loop-p in
-    let (start, s, room, w) = c.requires.walks in
-    passed_linked (ordering_of (g.met.K.Rank.ordered _)) start (g.K.Rank.number c.args.wanted) (g.K.Rank.number l.rank + 1)
-    c.count_one-passed.result (Some l.at) None c.in-On.next s _
-    (passed g (goal.at.read-rank-requires-clause-linked g c).After-count_one-passed start s (l.invariant.walks start s room w))
+pub read-rank-requires : goal.read-rank-requires
+read-rank-requires g c =
+    let x = ordering_of (g.met.K.Rank.ordered _) in
+    let (start, s, room, first) = c.requires.walks in
+    let past = passed g (goal.at.read-rank-requires g c).After-count_one-passed start s (c.loop-p.invariant.walks start s room first) in
+    record {
+      pass = c.look_on.ensures.pass;
+      held = passed_holds x start _ _ _ _ _ _ s _ past;
+      linked = passed_linked x start _ _ _ _ _ _ s _ past;
+    }
 
 pub loop-p-smaller : goal.loop-p-smaller
 loop-p-smaller g c =
