@@ -1,10 +1,11 @@
 -- A new dummy may be linked where it belongs.
-use Rattle.std.proofs.Common.{Option, Some, refl, ℕ, ◌<◌, ◌≤◌}
+use Rattle.std.proofs.Common.{Bool, Option, Result, Some, [], refl, subst, ℕ, ◌<◌, ◌≡◌, ◌≤◌}
+use Rattle.orc_fault.specs.declared.Spent.{Spent as SpentRow}
 use Rattle.orc_heap.specs.Heap.{HeapNumbers}
 use Rattle.orc_heap.specs.Seats.{Seat}
 use Rattle.orc_heap.specs.Slots.{Hold}
 use Rattle.orc_ordered_search.specs.Entries.{AllowsNode}
-use Rattle.orc_ordered_search.specs.Inserts.{NodeToAdd, slots_with}
+use Rattle.orc_ordered_search.specs.Inserts.{AddsNode, NodeToAdd, slots_with}
 use Rattle.orc_split_rule.proofs.Coming.{bucket_allowed}
 use Rattle.orc_split_rule.specs.SplitDiscipline.{SplitHolds, SplitMay, greatest}
 use Rattle.orc_split_rule.specs.SplitOrder.{dummy_place}
@@ -33,3 +34,14 @@ dummy_to_add n bucket left first right dummy s t w low high = record {
   root_is = refl;
   allowed = dummy_allowed n t.agent bucket low high;
 }
+
+-- what came of the new dummy
+pub dummy_added : (n : HeapNumbers) (bucket : ℕ) (left first right : Option Hold) (dummy : Hold) (s t u : Seat SplitNote)
+    (w : HasNewDummy n bucket left first right dummy s t) → 1 ≤ bucket → bucket < greatest n → (linked result : Result Bool SpentRow) → linked ≡ result
+    → ((a : NodeToAdd (split_reading n) (SplitHolds n) (SplitMay n) 0 Bucket left first right dummy t)
+    → AddsNode (split_reading n) a.value a.kind [] dummy a.at.id a.given a.slots a.begun linked u)
+    → AddsNode (split_reading n) bucket 0 [] dummy w.id 1 (slots_with s.slots (Some dummy) w.id) s result u
+dummy_added n bucket left first right dummy s t u w low high linked result is added =
+    let slots = slots_with s.slots (Some dummy) w.id in
+    subst (λ (r : Result Bool SpentRow). AddsNode (split_reading n) bucket 0 [] dummy w.id 1 slots s r u) is
+    (subst (λ (i : ℕ). AddsNode (split_reading n) bucket 0 [] dummy i 1 slots s linked u) w.id_is (added (dummy_to_add n bucket left first right dummy s t w low high)))

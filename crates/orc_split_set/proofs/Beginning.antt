@@ -5,7 +5,7 @@ use Rattle.std.proofs.Math.Pow.{mod-mod-pow}
 use Rattle.std.specs.List.{slice_get, slice_set}
 use Rattle.orc_heap.proofs.Calls.{Puts-stood}
 use Rattle.orc_heap.proofs.Hands.{hands_take}
-use Rattle.orc_heap.proofs.Moments.{look_found, looks_differ, seen_is, since}
+use Rattle.orc_heap.proofs.Moments.{look_found, seen_is, since}
 use Rattle.orc_heap.proofs.SingleActs.{some_same}
 use Rattle.orc_heap.specs.Allowed.{AllAllowed}
 use Rattle.orc_heap.specs.Calls.{Looks, Tells, event_of}
@@ -26,7 +26,6 @@ use Rattle.orc_ordered_chains.proofs.Paths.{leads_one}
 use Rattle.orc_ordered_chains.specs.Chains.{FollowsOn, LeadsTo}
 use Rattle.orc_ordered_search.specs.Searches.{FindsMoved, HasRoom, Quiet}
 use Rattle.orc_ordered_search.proofs.Preceding.{finds_after, quiet_trans}
-use Rattle.orc_ordered_search.proofs.Quiets.{silent_one, silent_two}
 use Rattle.orc_split_rule.proofs.Later.{holds_later, may_fits, values_later}
 use Rattle.orc_split_rule.proofs.Reversed.{low_before, low_first}
 use Rattle.orc_split_rule.proofs.Sizes.{size_later}
@@ -44,7 +43,7 @@ use Rattle.orc_split_set.specs.declared.begin.Begun.TheVariants.{From, Moved as 
 use Rattle.orc_split_set.specs.declared.node.NewNode.{NewNode}
 use Rattle.orc_split_set.specs.declared.node.NewNode.TheVariants.{Dummy, Key}
 use Rattle.orc_split_set.proofs.Crowding.{own_later, own_unmoved, puts_grow}
-use Rattle.orc_split_set.proofs.Ordered.{split_ordering}
+use Rattle.orc_split_set.proofs.RootLooks.{look_moved, null_held, two_looks}
 
 -- what a Look of a root found of a node's values where it stands is so at the end
 pub root_tells : (n : HeapNumbers) (s t : Seat SplitNote) (root : ℕ) (link : Link) (before rest : List (Event SplitNote)) (id : ℕ) (P : ℕ → Type 0) (second : ℕ)
@@ -139,39 +138,13 @@ module _ (n : HeapNumbers) (new : NewNode) (s t : Seat SplitNote) (own : List (E
   -- a root that was null
   pub root_null : (u : Seat SplitNote) (bucket : ℕ) (seen : Seen) → Looks (Root bucket) 2 t (Stable seen None) u → Held n s u
   root_null u bucket seen looks =
-      let (null, slots, puts) = looks.tells in
-      let act = Look (Root bucket) (record { to = None; mark = seen.mark }) in
-      let ys : List (Event SplitNote) = event_of t act None ∷ [] in
-      let here : Quiet (split_reading n) t ys u = record {
-        puts = puts;
-        fresh = looks.fresh;
-        loads = (tt, tt);
-        some = omega arith;
-        no_entries = silent_one (split_ordering n) t.agent act;
-        no_give = refl;
-        no_move = refl;
-      } in
-      record { own = own ++ ys; quiet = quiet_trans (split_reading n) s t u own ys q here; slots = slots ∙ same }
+      let k = null_held n t u bucket seen looks in
+      record { own = own ++ k.own; quiet = quiet_trans (split_reading n) s t u own k.own q k.quiet; slots = k.slots ∙ same }
 
   -- a root that moved meanwhile
   pub root_moved : (u : Seat SplitNote) (bucket : ℕ) → Looks (Root bucket) 2 t LookedMoved u → AllAllowed (SplitMay n) [] u.seen
       → FindsMoved (split_reading n) s u
-  root_moved u bucket looks all =
-      let (one, two, other, slots, puts, some) = looks.tells in
-      finds_after (split_reading n) s t u own q same (record {
-        own = event_of t (Look (Root bucket) one) None ∷ event_of t (Look (Root bucket) two) None ∷ [];
-        quiet = record {
-          puts = puts;
-          fresh = looks.fresh;
-          loads = (tt, (tt, tt));
-          some = omega arith;
-          no_entries = silent_two (split_ordering n) t.agent t.agent (Look (Root bucket) one) (Look (Root bucket) two);
-          no_give = refl;
-          no_move = refl;
-        };
-        slots = slots;
-        moved = looks_differ n (SplitMay n) (λ es e may. may.fits) t u (Root bucket) one two puts all tt other;
-      })
+  root_moved u bucket looks all = finds_after (split_reading n) s t u own q same (look_moved n bucket t u looks all)
 
   -- a root that names a dummy, at whose link the search begins
   pub root_dummy : (u : Seat SplitNote) (bucket i : ℕ) (seen : Seen) (h : Hold) → SplitHolds n t.seen → AllAllowed (SplitMay n) [] u.seen
@@ -186,16 +159,7 @@ module _ (n : HeapNumbers) (new : NewNode) (s t : Seat SplitNote) (own : List (E
           let (first, dummy, same_bucket) = root_tells n t u bucket link (event_of t (Look (Root bucket) one) None ∷ []) [] id (λ (x : ℕ). x ≡ bucket) 0 holds
           puts all refl (λ es now leads. (bucket, now.buckets.anchors bucket id some less leads, refl)) in
           let d : IsDummy (heap_of n u) id (node_value new % 2 ^ i) = subst (λ (x : ℕ). IsDummy (heap_of n u) id x) (same_bucket ∙ is) dummy in
-          let here : Quiet (split_reading n) t ys u = record {
-            puts = puts;
-            fresh = looks.fresh;
-            loads = (tt, (tt, tt));
-            some = omega arith;
-            no_entries = silent_two (split_ordering n) t.agent t.agent (Look (Root bucket) one) (Look (Root bucket) link);
-            no_give = refl;
-            no_move = refl;
-          } in
-          let whole = quiet_trans (split_reading n) s t u own ys q here in
+          let whole = quiet_trans (split_reading n) s t u own ys q (two_looks n bucket t u one link puts looks.fresh) in
           let free : slice_get s.slots 2 ≡ Some None = subst (λ (z : Slots). slice_get z 2 ≡ Some None) same room.two.empty in
           record {
             own = own ++ ys;

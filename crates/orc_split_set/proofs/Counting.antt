@@ -1,9 +1,7 @@
 -- A search that nobody disturbs counts the keys that it goes past.
 use Rattle.std.proofs.Common.{Bool, List, Option, Some, [], ap, arith, cond, false, filter, inl, inr, length, not, refl, subst, sym, true, ℕ, ◌+◌, ◌++◌, ◌<◌, ◌∙◌, ◌∷◌, ◌≡◌, ◌≢◌, ◌≤◌}
-use Rattle.std.proofs.Math.Bool.{and-eq-true_iff, not-not}
+use Rattle.std.proofs.Math.Bool.{and-eq-true_iff}
 use Rattle.std.proofs.lemmas.Bool.{eq-eqb, eqb-true, false_from_ne_true, ltb-true, or_cases, or_left, or_right}
-use Rattle.std.proofs.lemmas.List.Filters.{length-filter_both}
-use Rattle.std.proofs.lemmas.Map.Views.{any-filter_same}
 use Rattle.std.specs.Prelude.{min, nat_lt, ◌==◌, ◌&&◌}
 use Rattle.orc_heap.proofs.Moved.{shown_node}
 use Rattle.orc_heap.proofs.SingleActs.{some_same}
@@ -17,7 +15,7 @@ use Rattle.orc_heap.specs.declared.events.Place.TheVariants.{Next, Root, Side}
 use Rattle.orc_history.specs.SetHistory.{IsLegalSetFrom, has, keys_after}
 use Rattle.orc_history.specs.declared.set.SetEntry.{SetEntry}
 use Rattle.orc_history.specs.declared.set.SetEntry.TheVariants.{Added, Asked, Removed}
-use Rattle.orc_ordered_chains.proofs.Keys.{has_added, has_kept}
+use Rattle.orc_ordered_chains.proofs.Keys.{filter_less, has_added, has_kept}
 use Rattle.orc_ordered_chains.proofs.Paths.{live_behind, live_on}
 use Rattle.orc_ordered_chains.specs.Chains.{AreChains, IsLive, IsPath}
 use Rattle.orc_ordered_search.proofs.Alone.{Counted, IsAlone, counted_nodes, walked}
@@ -85,19 +83,6 @@ keys_apart keys (Removed by key true ∷ es) legal apart =
     keys_apart (filter (λ x. not (x == key)) keys) es legal.1 (apart_filter (λ x. not (x == key)) keys apart)
 keys_apart keys (Removed by key false ∷ es) legal apart = keys_apart keys es legal.1 apart
 keys_apart keys (Asked by key answer ∷ es) legal apart = keys_apart keys es legal.1 apart
-
--- a list is shorter without a number that it has
-pub filter_less : (x : ℕ) (xs : List ℕ) → has x xs ≡ true → length (filter (λ y. not (y == x)) xs) + 1 ≤ length xs
-filter_less x xs e =
-    omega (
-      arith,
-      length-filter_both (λ y. not (y == x)) (λ y. y == x) (λ y. sym (not-not (y == x))) xs,
-      some_left (filter (λ y. y == x) xs) (any-filter_same (λ y. y == x) (λ y. y == x) true (λ y is. is) xs ∙ e),
-    )
-  where
-    some_left : (ys : List ℕ) → has x ys ≡ true → 1 ≤ length ys
-    some_left [] bad = cc
-    some_left (y ∷ ys) is = omega arith
 
 -- keys that stand at these places, no two at one, are no more than the places
 pub keys_fewer : (At : ℕ → ℕ → Type 0) → ((id a b : ℕ) → At id a → At id b → a ≡ b) → (keys ids : List ℕ) → AreApart keys

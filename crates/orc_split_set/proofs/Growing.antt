@@ -123,17 +123,6 @@ module _ (n : HeapNumbers) (size : ℕ) (new : Hold) (id : ℕ) (s t u : Seat Sp
         missed = λ is. missed_size at from to old place_is from_is all w;
       }
 
--- by what came of the swing
-pub grown_spent : (result : Result Bool SpentRow) (why : SpentRow) → grown_by result ≡ Spent why → result ≡ Err why
-grown_spent (Ok true) why e = cc
-grown_spent (Ok false) why e = cc
-grown_spent (Err other) why e = let same : other ≡ why = cc in ap (λ (x : SpentRow). Err x) same
-
-pub grown_node : (result : Result Bool SpentRow) → grown_by result ≡ NoNode → ⊥
-grown_node (Ok true) e = cc
-grown_node (Ok false) e = cc
-grown_node (Err why) e = cc
-
 -- a Grow in a list of events
 
 pub grow_left : (es fs : List (Event SplitNote)) → HasGrow es → HasGrow (es ++ fs)
@@ -346,9 +335,6 @@ doubles_moved n s t f fresh = record {
     fresh = f.quiet.fresh ∙ fresh;
   };
 }
-
-pub doubles_idle : (n : HeapNumbers) (If : Type 0) (s t : Seat SplitNote) (result : Rooted) → Doubles n If s result t → IsIdle s → IsIdle t
-doubles_idle n If s t result k idle = record { slots = k.call.slots ∙ idle.slots; fresh = k.call.fresh }
 
 -- a size node that is held tells its size
 pub holds_size : (n : HeapNumbers) (h : Hold) (value : ℕ) (t u : Seat SplitNote) (k : HoldsSize n h t) → Only [] t u → AllAllowed (SplitMay n) [] u.seen

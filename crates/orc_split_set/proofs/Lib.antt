@@ -1,5 +1,6 @@
 pub mod Reversing
 pub mod Ordered
+pub mod RootLooks
 pub mod Beginning
 pub mod Asking
 pub mod Allowing
@@ -13,7 +14,10 @@ pub mod Calling
 pub mod Growing
 pub mod Counting
 pub mod Crowding
+pub mod Passes
 pub mod Crowded
 pub mod Looking
 pub mod Reaching
 pub mod Stopping
+pub mod Telling
+pub mod Called

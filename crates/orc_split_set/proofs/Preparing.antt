@@ -34,12 +34,11 @@ use Rattle.orc_ordered_search.proofs.Alone.{loads_same}
 use Rattle.orc_ordered_search.proofs.Inserting.{idle_room}
 use Rattle.orc_ordered_search.proofs.Making.{made_on, over_none}
 use Rattle.orc_ordered_search.proofs.Parts.{others_all, others_alone}
-use Rattle.orc_ordered_search.proofs.Quiets.{silent_one, silent_two}
+use Rattle.orc_ordered_search.proofs.Quiets.{silent_two}
 use Rattle.orc_split_rule.proofs.Later.{holds_later, may_fits}
 use Rattle.orc_split_rule.specs.SplitDiscipline.{IsSize, SplitHolds, SplitMay, greatest, size_by, size_of}
 use Rattle.orc_split_rule.specs.SplitOrder.{bucket_of}
 use Rattle.orc_split_rule.specs.declared.split.SplitNote.{SplitNote}
-use Rattle.orc_split_set.specs.Beginnings.{Held}
 use Rattle.orc_split_set.specs.Rootings.{HadBuckets, IsRootSet, IsUndisturbed, KeyTells, Prepares, RootTells, Roots}
 use Rattle.orc_split_set.specs.SplitSearches.{SizeRead, split_reading}
 use Rattle.orc_split_set.specs.declared.bucket.Rooted.{Rooted}
@@ -72,26 +71,7 @@ no_roots n bucket s is fresh = record { own = []; call = nothing n s fresh; tell
 pub no_turns : (n : HeapNumbers) (key turns : ℕ) (s : Seat SplitNote) → turns ≡ 0 → s.fresh ≡ None → Prepares n key turns s Done s
 no_turns n key turns s is fresh = record { own = []; call = nothing n s fresh; none = λ zero. refl; begun = λ some. absurd (some is); tells = λ some. absurd (some is) }
 
--- a look of a root that was null
-pub null_held : (n : HeapNumbers) (s t : Seat SplitNote) (root : ℕ) (seen : Seen) → Looks (Root root) 2 s (Stable seen None) t → Held n s t
-null_held n s t root seen looks =
-    let (null, slots, puts) = looks.tells in
-    let act = Look (Root root) (record { to = None; mark = seen.mark }) in
-    record {
-      own = event_of s act None ∷ [];
-      quiet = record {
-        puts = puts;
-        fresh = looks.fresh;
-        loads = (tt, tt);
-        some = omega arith;
-        no_entries = silent_one (split_ordering n) s.agent act;
-        no_give = refl;
-        no_move = refl;
-      };
-      slots = slots;
-    }
-
--- and of one that wasn't
+-- a look of a root that wasn't null
 module _ (n : HeapNumbers) (bucket : ℕ) (s t : Seat SplitNote) (seen : Seen) (h : Hold) (idle : IsIdle s)
     (looks : Looks (Root bucket) 2 s (Stable seen (Some h)) t) where
   pub root_held : Holds t.slots h
@@ -232,9 +212,6 @@ prepares_moved n key turns s t f fresh some =
       begun = λ ne. f.quiet.some;
       tells = λ ne. omega (arith, f.moved, others_all s.agent p.part f.own p.own_is f.quiet.no_move);
     }
-
-pub prepares_idle : (n : HeapNumbers) (key turns : ℕ) (s t : Seat SplitNote) (result : Rooted) → Prepares n key turns s result t → IsIdle s → IsIdle t
-prepares_idle n key turns s t result k idle = record { slots = k.call.slots ∙ idle.slots; fresh = k.call.fresh }
 
 -- what a call that was undisturbed tells of the root of its key's bucket
 pub key_told : (n : HeapNumbers) (key : ℕ) (s t u : Seat SplitNote) (own ys zs : List (Event SplitNote)) (rooted : Rooted) (p : Puts s own t) (q : Puts t ys u)

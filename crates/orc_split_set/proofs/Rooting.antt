@@ -12,18 +12,19 @@ use Rattle.orc_heap.proofs.Slots.{get-set_same}
 use Rattle.orc_heap.specs.Allowed.{AllAllowed}
 use Rattle.orc_heap.specs.Calls.{Gives}
 use Rattle.orc_heap.specs.Heap.{HeapNumbers}
-use Rattle.orc_heap.specs.Journals.{noted_entries}
-use Rattle.orc_heap.specs.Moves.{from_own, gives_in}
-use Rattle.orc_heap.specs.OwnEvents.{Puts}
+use Rattle.orc_heap.specs.Moves.{from_own}
+use Rattle.orc_heap.specs.OwnEvents.{Only, Puts}
 use Rattle.orc_heap.specs.Seats.{Seat, heap_of}
 use Rattle.orc_heap.specs.Slots.{Hold, Holds, SlotNode, Slots, id_in}
 use Rattle.orc_heap.specs.declared.events.Event.{Event}
 use Rattle.orc_heap.specs.declared.events.Place.{Place}
+use Rattle.orc_history.specs.declared.set.SetEntry.{SetEntry}
 use Rattle.orc_ordered_search.specs.Causes.{others_moves}
 use Rattle.orc_ordered_search.specs.Inserts.{AddEnds, AddOver, AddsAt, EndsWith, HasRoomFor, InsertCall, InsertEnds, slots_with}
+use Rattle.orc_ordered_search.specs.Reading.{Reading}
 use Rattle.orc_ordered_search.specs.Searches.{AllGone, FindsAbsent, FindsMoved, FindsPresent, InHand, LetsGo, Quiet}
 use Rattle.orc_ordered_search.specs.Turns.{Made, Tries}
-use Rattle.orc_ordered_search.proofs.Adding.{given_adds, given_id}
+use Rattle.orc_ordered_search.proofs.Adding.{absent_hand_on, given_adds, given_id, lacks_node}
 use Rattle.orc_ordered_search.proofs.Held.{in_hand_on, present_hand}
 use Rattle.orc_ordered_search.proofs.Inserting.{ends_go}
 use Rattle.orc_ordered_search.proofs.Making.{found_over, made_after, made_on}
@@ -41,16 +42,16 @@ use Rattle.orc_split_set.specs.Laws.Placed.{dummy_of_place}
 use Rattle.orc_split_set.proofs.Ordered.{split_ordering}
 
 -- what was made in one piece and in the next
-made_trans : (n : HeapNumbers) (one two : ℕ) (s t u : Seat SplitNote) (own ys : List (Event SplitNote)) → Made (split_reading n) one s own [] t
-    → Puts t ys u → noted_entries (split_reading n).entries_in ys ≡ [] → gives_in ys ≡ two → Made (split_reading n) (one + two) s (own ++ ys) [] u
-made_trans n one two s t u own ys m p none gives = record {
-  puts = Puts-trans s t u own ys m.puts p;
-  entries_are = noted-append (split_reading n).entries_in own ys ∙ rw m.entries_are none;
-  gives = omega (arith, gives_in-append own ys, m.gives, gives);
+pub made_trans : {N : Type 0} (r : Reading N) (one two : ℕ) (s t u : Seat N) (own ys : List (Event N)) (es fs : List SetEntry) → Made r one s own es t
+    → Made r two t ys fs u → Made r (one + two) s (own ++ ys) (es ++ fs) u
+made_trans r one two s t u own ys es fs m w = record {
+  puts = Puts-trans s t u own ys m.puts w.puts;
+  entries_are = noted-append r.entries_in own ys ∙ rw (m.entries_are, w.entries_are) refl;
+  gives = omega (arith, gives_in-append own ys, m.gives, w.gives);
 }
 
 -- other agents' Moves after an own event of the last of two pieces stand after one of the whole
-pub others_later : {N : Type 0} (agent : ℕ) (es fs : List (Event N)) → others_moves agent (from_own agent fs) ≤ others_moves agent (from_own agent (es ++ fs))
+others_later : {N : Type 0} (agent : ℕ) (es fs : List (Event N)) → others_moves agent (from_own agent fs) ≤ others_moves agent (from_own agent (es ++ fs))
 others_later agent [] fs = omega arith
 others_later {N} agent (e ∷ es) fs = cases (e.agent == agent) (others_later agent es fs) (others_from agent fs)
   where
@@ -61,7 +62,7 @@ others_later {N} agent (e ∷ es) fs = cases (e.agent == agent) (others_later ag
     cases false k low = k
 
 -- and so do those of the first
-pub others_sooner : {N : Type 0} (agent : ℕ) (es fs : List (Event N)) → others_moves agent (from_own agent es) ≤ others_moves agent (from_own agent (es ++ fs))
+others_sooner : {N : Type 0} (agent : ℕ) (es fs : List (Event N)) → others_moves agent (from_own agent es) ≤ others_moves agent (from_own agent (es ++ fs))
 others_sooner agent [] fs = omega arith
 others_sooner {N} agent (e ∷ es) fs = cases (e.agent == agent) (others_sooner agent es fs)
   where
@@ -70,13 +71,13 @@ others_sooner {N} agent (e ∷ es) fs = cases (e.agent == agent) (others_sooner 
     cases true k = omega (arith, others_append agent (e ∷ es) fs)
     cases false k = k
 
-module _ (s t u : Seat SplitNote) (own ys zs : List (Event SplitNote)) (p : Puts s own t) (q : Puts t ys u) (w : Puts s zs u) where
-  moved_sooner : 1 ≤ others_moves s.agent (from_own s.agent p.part) → 1 ≤ others_moves s.agent (from_own s.agent w.part)
+module _ {N : Type 0} (s t u : Seat N) (own ys zs : List (Event N)) (p : Puts s own t) (q : Puts t ys u) (w : Puts s zs u) (k : ℕ) where
+  pub moved_sooner : k ≤ others_moves s.agent (from_own s.agent p.part) → k ≤ others_moves s.agent (from_own s.agent w.part)
   moved_sooner moved = rw (new_is s t u own ys zs p q w) (omega (arith, moved, others_sooner s.agent p.part q.part))
 
-  moved_later : 1 ≤ others_moves t.agent (from_own t.agent q.part) → 1 ≤ others_moves s.agent (from_own s.agent w.part)
+  pub moved_later : k ≤ others_moves t.agent (from_own t.agent q.part) → k ≤ others_moves s.agent (from_own s.agent w.part)
   moved_later moved =
-      let here : 1 ≤ others_moves s.agent (from_own s.agent q.part) = subst (λ (a : ℕ). 1 ≤ others_moves a (from_own a q.part)) p.agent moved in
+      let here : k ≤ others_moves s.agent (from_own s.agent q.part) = subst (λ (a : ℕ). k ≤ others_moves a (from_own a q.part)) p.agent moved in
       rw (new_is s t u own ys zs p q w) (omega (arith, here, others_later s.agent p.part q.part))
 
 -- by what came of the swing
@@ -84,17 +85,6 @@ pub rooted_tells : (n : HeapNumbers) (bucket agent : ℕ) (part : List (Event Sp
     → IfOk result (λ done. IsRootSet (heap_of n t) bucket) → RootTells n bucket agent part (rooted_by result) t
 rooted_tells n bucket agent part t (Ok done) set = λ low. set
 rooted_tells n bucket agent part t (Err why) set = tt
-
-pub rooted_spent : (result : Result Bool SpentRow) (why : SpentRow) → rooted_by result ≡ Spent why → result ≡ Err why
-rooted_spent (Ok done) why e = cc
-rooted_spent (Err other) why e = let same : other ≡ why = cc in ap (λ (x : SpentRow). Err x) same
-
-pub spent_row : (a b : SpentRow) → ◌≡◌ {A = Rooted} (Spent a) (Spent b) → ◌≡◌ {A = Result Bool SpentRow} (Err a) (Err b)
-spent_row a b e = let same : a ≡ b = cc in ap (λ (x : SpentRow). Err x) same
-
-pub rooted_node : (result : Result Bool SpentRow) → rooted_by result ≡ NoNode → ⊥
-rooted_node (Ok done) e = cc
-rooted_node (Err why) e = cc
 
 set_if : (n : HeapNumbers) (s t : Seat SplitNote) (own : List (Event SplitNote)) (bucket : ℕ) → 1 ≤ bucket → bucket < greatest n → SplitHolds n s.seen
     → Puts s own t → AllAllowed (SplitMay n) [] t.seen → (result : Result Bool SpentRow) → IfOk result (λ done. IsRootSet (heap_of n s) bucket)
@@ -155,7 +145,8 @@ module _ (n : HeapNumbers) (bucket : ℕ) (dummy : Hold) (id : ℕ) (s u w : Sea
       → (k : AnchorsAndGoes n bucket dummy u rooted w) → SplitHolds n k.mid.seen → AllAllowed (SplitMay n) [] w.seen → Roots n bucket s rooted w
   added_roots a rooted low high k holds all =
       let tried = k.anchors.tried in
-      let m = made_trans n 1 0 s u k.mid a.own tried.own a.made tried.puts tried.no_entries tried.no_give in
+      let m = made_trans (split_reading n) 1 0 s u k.mid a.own tried.own [] [] a.made
+      (record { puts = tried.puts; entries_are = tried.no_entries; gives = tried.no_give }) in
       let call = let_go_call 1 (a.own ++ tried.own) k.mid (omega arith) m tried.slots (inl (tried.fresh ∙ a.fresh_is)) k.gone in
       record {
         own = a.own ++ tried.own;
@@ -174,7 +165,7 @@ module _ (n : HeapNumbers) (bucket : ℕ) (dummy : Hold) (id : ℕ) (s u w : Sea
       record {
         own = a.own;
         call = call;
-        tells = moved_sooner s u w a.own [] a.own a.over.made.puts g.puts call.made.puts moved;
+        tells = moved_sooner s u w a.own [] a.own a.over.made.puts g.puts call.made.puts 1 moved;
       }
 
   -- a row was used up
@@ -184,9 +175,10 @@ module _ (n : HeapNumbers) (bucket : ℕ) (dummy : Hold) (id : ℕ) (s u w : Sea
 
 -- a new node has room where a search ended
 pub has_dummy : (n : HeapNumbers) (bucket : ℕ) (start : Place) (passed : ℕ) (left first right : Option Hold) (s t u : Seat SplitNote)
-    → FindsAbsent (split_reading n) start (dummy_place bucket) passed left first right s t → HasRoomFor s.slots → (dummy : Hold)
-    → Gives n 1 bucket 0 t dummy u → AllAllowed (SplitMay n) [] u.seen → HasNewDummy n bucket left first right dummy s u
-has_dummy n bucket start passed left first right s t u f room dummy g all =
+    → FindsAbsent (split_reading n) start (dummy_place bucket) passed left first right s t → HasRoomFor s.slots → (dummy : Hold) (value : ℕ) → value ≡ bucket
+    → Gives n 1 value 0 t dummy u → AllAllowed (SplitMay n) [] u.seen → HasNewDummy n bucket left first right dummy s u
+has_dummy n bucket start passed left first right s t u f room dummy value is given all =
+    let g = subst (λ (v : ℕ). Gives n 1 v 0 t dummy u) is given in
     let x : Option SlotNode = Some (record { row = dummy.row; id = g.id }) in
     let base : slice_set s.slots 1 x ≡ slots_with s.slots (Some dummy) g.id = ap (λ (i : ℕ). slice_set s.slots i x) (sym g.slot_is) in
     let w = subst (λ (z : Slots). (a : AddsAt (split_reading n) start (dummy_place bucket) bucket 0 left first right dummy 1 z s u) × (a.id ≡ g.id)) base (
@@ -196,7 +188,7 @@ has_dummy n bucket start passed left first right s t u f room dummy g all =
     record { start = start; id = g.id; room = room; slot_is = g.slot_is; adds = w.0; id_is = w.1 }
 
 -- no node could be had
-pub lacking_roots : (n : HeapNumbers) (bucket : ℕ) (s t : Seat SplitNote) (own : List (Event SplitNote)) → InsertEnds (split_reading n) s.slots None None s own [] t
+lacking_roots : (n : HeapNumbers) (bucket : ℕ) (s t : Seat SplitNote) (own : List (Event SplitNote)) → InsertEnds (split_reading n) s.slots None None s own [] t
     → Roots n bucket s NoNode t
 lacking_roots n bucket s t own e = record {
   own = own;
@@ -209,6 +201,16 @@ lacking_roots n bucket s t own e = record {
   };
   tells = tt;
 }
+
+-- and all nodes are let go
+pub no_dummy : (n : HeapNumbers) (bucket : ℕ) (start : Place) (passed : ℕ) (left first right : Option Hold) (s t u v : Seat SplitNote)
+    → FindsAbsent (split_reading n) start (dummy_place bucket) passed left first right s t → HasRoomFor s.slots → s.fresh ≡ None → Only [] t u
+    → AllAllowed (SplitMay n) [] u.seen → (InHand (split_reading n) s.slots left first right None u → AllGone s.slots u v) → Roots n bucket s NoNode v
+no_dummy n bucket start passed left first right s t u v f room fresh none all gone =
+    let x = split_ordering n in
+    let hand = absent_hand_on x start (dummy_place bucket) passed bucket 0 left first right s t u f room.one none all in
+    let (own, ends) = lacks_node x start (dummy_place bucket) passed bucket 0 left first right s t u f room.one v none (gone hand) fresh in
+    lacking_roots n bucket s v own ends
 
 -- a link moved meanwhile
 pub moved_roots : (n : HeapNumbers) (bucket : ℕ) (s t : Seat SplitNote) → FindsMoved (split_reading n) s t → s.fresh ≡ None → Roots n bucket s Moved t
@@ -234,7 +236,7 @@ roots_after n bucket s t u own q same result k =
     by : (result : Rooted) (p : Puts t k.own u) → RootTells n bucket t.agent p.part result u → (w : Puts s (own ++ k.own) u)
         → RootTells n bucket s.agent w.part result u
     by Done p told w = told
-    by Moved p told w = moved_later s t u own k.own (own ++ k.own) q.puts p w told
+    by Moved p told w = moved_later s t u own k.own (own ++ k.own) q.puts p w 1 told
     by NoNode p told w = tt
     by (Spent why) p told w = tt
 

@@ -2,7 +2,7 @@
 use Rattle.std.proofs.Common.{Bool, List, None, Option, Some, [], ap, append-nil, arith, inl, inr, length, length-append, refl, subst, sym, ℕ, ◌++◌, ◌∙◌, ◌∷◌, ◌≡◌, ◌≤◌, ◌⊎◌}
 use Rattle.std.specs.List.{slice_get, slice_set}
 use Rattle.orc_heap.proofs.Hands.{hand_held, hands_done, hands_take, holds_of}
-use Rattle.orc_heap.proofs.Moments.{look_found, looks_differ}
+use Rattle.orc_heap.proofs.Moments.{look_found}
 use Rattle.orc_heap.proofs.SingleActs.{some_same}
 use Rattle.orc_heap.specs.Allowed.{AllAllowed}
 use Rattle.orc_heap.specs.Calls.{Looks, ReadsValue, Releases, event_of}
@@ -15,11 +15,11 @@ use Rattle.orc_heap.specs.declared.events.Act.TheVariants.{Look}
 use Rattle.orc_heap.specs.declared.events.Event.{Event}
 use Rattle.orc_heap.specs.declared.events.Link.{Link}
 use Rattle.orc_heap.specs.declared.events.Place.TheVariants.{Root}
-use Rattle.orc_heap.specs.declared.holds.Looked.TheVariants.{Moved, Stable}
+use Rattle.orc_heap.specs.declared.holds.Looked.TheVariants.{Stable}
 use Rattle.orc_heap.specs.declared.holds.Seen.{Seen}
-use Rattle.orc_ordered_search.specs.Searches.{FindsMoved, HasRoom, Quiet}
+use Rattle.orc_ordered_search.specs.Searches.{HasRoom, Quiet}
 use Rattle.orc_ordered_search.proofs.Held.{FreshIs, goes_fresh, goes_hands, release_goes}
-use Rattle.orc_ordered_search.proofs.Quiets.{quiet_puts, shows_on, silent_one, silent_two, values_on}
+use Rattle.orc_ordered_search.proofs.Quiets.{quiet_puts, shows_on, values_on}
 use Rattle.orc_heap.proofs.Calls.{Puts-trans, part_allowed}
 use Rattle.orc_heap.proofs.Moved.{gives_in-append, moves_in-append}
 use Rattle.orc_heap.proofs.OwnEntries.{noted-append}
@@ -38,6 +38,7 @@ use Rattle.orc_split_rule.specs.declared.split.SplitNote.{SplitNote}
 use Rattle.orc_split_set.specs.SplitSearches.{SizeFound, SizeRead, split_reading}
 use Rattle.orc_split_set.proofs.Beginning.{root_tells, size_was}
 use Rattle.orc_split_set.proofs.Ordered.{split_ordering}
+use Rattle.orc_split_set.proofs.RootLooks.{one_look, two_looks}
 
 -- what the size's root showed in a read, by its target
 still_size : (n : HeapNumbers) (link : Link) (size : ℕ) (s t : Seat SplitNote) (part : List (Event SplitNote)) → size_at (heap_of n t) link.to ≡ size
@@ -52,39 +53,12 @@ size_one n seen s t some holds all looks =
     let link : Link = record { to = None; mark = seen.mark } in
     record {
       own = event_of s (Look (Root (greatest n)) link) None ∷ [];
-      quiet = record {
-        puts = puts;
-        fresh = looks.fresh;
-        loads = (tt, tt);
-        some = omega arith;
-        no_entries = silent_one (split_ordering n) s.agent (Look (Root (greatest n)) link);
-        no_give = refl;
-        no_move = refl;
-      };
+      quiet = one_look n (greatest n) s t link puts looks.fresh;
       few = omega arith;
       slots = slots;
       is_size = (some, 0, refl);
       was = size_was n s t link [] [] 1 some holds puts all (λ es more now later is at. ap (λ o. size_by (run_heap n es) o) at);
       still = still_size n link 1 s t puts.part refl (look_found n (SplitMay n) (may_fits n) s t (Root (greatest n)) link None [] [] puts all tt);
-    }
-
-pub size_moved : (n : HeapNumbers) (root : ℕ) (s t : Seat SplitNote) → Looks (Root root) 2 s Moved t → AllAllowed (SplitMay n) [] t.seen
-    → FindsMoved (split_reading n) s t
-size_moved n root s t looks all =
-    let (one, two, other, slots, puts, some) = looks.tells in
-    record {
-      own = event_of s (Look (Root root) one) None ∷ event_of s (Look (Root root) two) None ∷ [];
-      quiet = record {
-        puts = puts;
-        fresh = looks.fresh;
-        loads = (tt, (tt, tt));
-        some = omega arith;
-        no_entries = silent_two (split_ordering n) s.agent s.agent (Look (Root root) one) (Look (Root root) two);
-        no_give = refl;
-        no_move = refl;
-      };
-      slots = slots;
-      moved = looks_differ n (SplitMay n) (λ es e may. may.fits) s t (Root root) one two puts all tt other;
     }
 
 -- the size that the root's link stands for is that of its node, then as now
@@ -129,15 +103,7 @@ size_held n seen h s t holds all room some looks =
           (subst (λ (j : ℕ). slice_get s.slots j ≡ Some None) (sym at_slot) room.two.empty)
           (subst (λ (j : ℕ). t.slots ≡ slice_set s.slots j (Some (record { row = h.row; id = id }))) (sym at_slot) slots);
       own = event_of s (Look (Root (greatest n)) one) None ∷ event_of s (Look (Root (greatest n)) link) None ∷ [];
-      quiet = record {
-        puts = puts;
-        fresh = looks.fresh;
-        loads = (tt, (tt, tt));
-        some = omega arith;
-        no_entries = silent_two (split_ordering n) s.agent s.agent (Look (Root (greatest n)) one) (Look (Root (greatest n)) link);
-        no_give = refl;
-        no_move = refl;
-      };
+      quiet = two_looks n (greatest n) s t one link puts looks.fresh;
       few = omega arith;
       was = size_was n s t link (event_of s (Look (Root (greatest n)) one) None ∷ []) [] size some holds puts all
           (λ es more now later is at. size_there n id size t es more node now later is some (record { link = link; at = at; to_is = refl }) at);

@@ -8,6 +8,7 @@ use Rattle.orc_heap.specs.Moves.{gives_in}
 use Rattle.orc_heap.specs.Seats.{IsIdle}
 use Rattle.orc_heap.specs.declared.events.Event.{Event}
 use Rattle.orc_heap.specs.declared.links.Links.{Ghosts as LinksOf}
+use Rattle.orc_history.specs.Journals.{Within}
 use Rattle.orc_history.specs.Parts.{WithinPart, part_begin}
 use Rattle.orc_history.specs.SetHistory.{agent_of_set_entry}
 use Rattle.orc_history.specs.declared.set.ListRefused.{ListRefused}
@@ -20,6 +21,8 @@ use Rattle.orc_split_set.specs.Crowds.{keys_before}
 use Rattle.orc_split_set.specs.Growths.{HasGrow}
 use Rattle.orc_split_set.specs.Looks.{HasStart, ReachesIn, looks_in}
 use Rattle.orc_split_set.specs.Rootings.{IsRootSet}
+use Rattle.orc_split_set.specs.declared.bucket.Rooted.{Rooted}
+use Rattle.orc_split_set.specs.declared.bucket.Rooted.TheVariants.{Done, Moved, NoNode, Spent as RootedSpent}
 
 module _ {L D P S : Type 0} (members : LinksOf L D P S SplitNote) (links : L) where
   -- the pass is one of the domain, and idle
@@ -61,6 +64,22 @@ module _ {L D P S : Type 0} (members : LinksOf L D P S SplitNote) (links : L) wh
   -- the call's agent read this row's sequence at its limit in the call's part of the journal
   abbrev pub FindsWorn : Spent → P → P → Type 0
   FindsWorn why old new = WithinPart members.agent_of (agent members links old) (members.journal old) (members.journal new)
+      (members.worn links (agent members links old) why (members.journal new))
+
+  -- what a refused try tells: in the call's part no row could be given to the call's agent, or a row was worn
+  abbrev pub PartTells : Rooted → P → P → Type 0
+  PartTells Done old new = Unit {0}
+  PartTells Moved old new = Unit {0}
+  PartTells NoNode old new = LacksRow old new
+  PartTells (RootedSpent why) old new = FindsWorn why old new
+
+  -- the same between two places of what is new in the journal
+  abbrev pub NewTells : Rooted → P → P → Type 0
+  NewTells Done old new = Unit {0}
+  NewTells Moved old new = Unit {0}
+  NewTells NoNode old new = Within (length (members.journal old)) (length (members.journal new))
+      (members.lacking links (agent members links old) (members.journal new))
+  NewTells (RootedSpent why) old new = Within (length (members.journal old)) (length (members.journal new))
       (members.worn links (agent members links old) why (members.journal new))
 
   -- there were so many buckets at a moment of the call: a power of two, no fewer than before it, and no more than after it

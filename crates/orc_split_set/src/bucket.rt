@@ -1,6 +1,6 @@
 //! What a call does before its turns: its key's bucket gets a dummy, and a root that names it.
 
-ghost use Rattle.std.specs.Prelude.{◌≡◌, ◌≢◌, ◌<◌, ◌≤◌, ◌+◌, ◌++◌, [], ℕ, IfErr, List, None, length};
+ghost use Rattle.std.specs.Prelude.{◌≡◌, ◌<◌, ◌≤◌, ◌+◌, ◌++◌, [], ℕ, IfErr, List, None, length};
 ghost use mathlib.Core.List.{IsPrefix};
 ghost use Rattle.orc_fault.specs.declared.Spent.{Spent};
 ghost use Rattle.orc_heap.specs.Seats.{IsIdle, Seat, heap_of};
@@ -8,7 +8,6 @@ ghost use Rattle.orc_heap.specs.Slots.{Holds, id_in};
 ghost use Rattle.orc_heap.specs.declared.events.Event.{Event};
 ghost use Rattle.orc_heap.specs.declared.events.Place.{Place};
 ghost use Rattle.orc_history.specs.Journals.{Within};
-ghost use Rattle.orc_history.specs.Parts.{WithinPart};
 ghost use Rattle.orc_ordered_search.specs.Inserts.{HasRoomFor};
 ghost use Rattle.orc_ordered_search.specs.Searches.{FindsAbsent, FindsPresent, Quiet};
 ghost use Rattle.orc_split_rule.specs.SplitDiscipline.{IsDummy, IsSize, greatest};
@@ -19,6 +18,7 @@ ghost use Rattle.orc_heap.specs.Journals.{run_heap};
 ghost use Rattle.orc_split_set.specs.Crowds.{seat_after};
 ghost use Rattle.orc_split_set.specs.Looks.{HasStart, LoadsFew, bucket_now, root_loads};
 ghost use Rattle.orc_split_set.specs.Rootings.{Anchors, AnchorsAndGoes, HasNewDummy, Prepares, Roots, rooted_by};
+ghost use Rattle.orc_split_set.specs.SetCalls.{NewTells, PartTells};
 ghost use Rattle.orc_split_set.specs.SplitSearches.{BeginsAt, split_reading};
 
 use crate::begin::{Begun, begin_near};
@@ -94,8 +94,7 @@ fn anchor_and_go<L: Links<Rule = Split>>(
     ensures pass { L.belongs links.now p.new }
     ensures later { IsPrefix (L.journal p.old) (L.journal p.new) }
     ensures anchored { AnchorsAndGoes (L.numbers links.now) bucket dummy (L.seat links.now p.old) result (L.seat links.now p.new) }
-    ensures worn { (why : Spent) → result ≡ Rooted.Spent why → Within (length (L.journal p.old)) (length (L.journal p.new))
-        (L.worn links.now (L.seat links.now p.old).agent why (L.journal p.new)) }
+    ensures told { NewTells L.Links links.now result p.old p.new }
 {
     let anchored = anchor(links, p, bucket, &dummy);
     links.release(p, dummy);
@@ -121,9 +120,7 @@ fn anchor_found<L: Links<Rule = Split>>(
     ensures rooted { (start : Place) (passed : ℕ) (s : Seat SplitNote) → s.fresh ≡ None
         → FindsPresent (split_reading (L.numbers links.now)) start (dummy_place bucket) passed left first dummy next s (L.seat links.now p.old)
         → Roots (L.numbers links.now) bucket s result (L.seat links.now p.new) }
-    ensures some { result ≢ Rooted.NoNode }
-    ensures worn { (why : Spent) → result ≡ Rooted.Spent why → Within (length (L.journal p.old)) (length (L.journal p.new))
-        (L.worn links.now (L.seat links.now p.old).agent why (L.journal p.new)) }
+    ensures told { NewTells L.Links links.now result p.old p.new }
 {
     let anchored = anchor(links, p, bucket, &dummy);
     let_all_go::<SplitPlace, L>(links, p, left, first, Some(dummy), next);
@@ -147,9 +144,7 @@ fn link_dummy<L: Links<Rule = Split>>(
     ensures later { IsPrefix (L.journal p.old) (L.journal p.new) }
     ensures rooted { (s : Seat SplitNote) → HasNewDummy (L.numbers links.now) bucket left first right dummy s (L.seat links.now p.old)
         → Roots (L.numbers links.now) bucket s result (L.seat links.now p.new) }
-    ensures some { result ≢ Rooted.NoNode }
-    ensures worn { (why : Spent) → result ≡ Rooted.Spent why → Within (length (L.journal p.old)) (length (L.journal p.new))
-        (L.worn links.now (L.seat links.now p.old).agent why (L.journal p.new)) }
+    ensures told { NewTells L.Links links.now result p.old p.new }
 {
     let note = SplitNote::Bucket;
     match add_node::<SplitPlace, L>(links, p, 0, note, left, first, right, &dummy) {
@@ -183,10 +178,7 @@ fn add_dummy<L: Links<Rule = Split>>(
     ensures rooted { (start : Place) (passed : ℕ) (s : Seat SplitNote) → HasRoomFor s.slots → s.fresh ≡ None
         → FindsAbsent (split_reading (L.numbers links.now)) start (dummy_place bucket) passed left first right s (L.seat links.now p.old)
         → Roots (L.numbers links.now) bucket s result (L.seat links.now p.new) }
-    ensures lacking { result ≡ Rooted.NoNode → Within (length (L.journal p.old)) (length (L.journal p.new))
-        (L.lacking links.now (L.seat links.now p.old).agent (L.journal p.new)) }
-    ensures worn { (why : Spent) → result ≡ Rooted.Spent why → Within (length (L.journal p.old)) (length (L.journal p.new))
-        (L.worn links.now (L.seat links.now p.old).agent why (L.journal p.new)) }
+    ensures told { NewTells L.Links links.now result p.old p.new }
 {
     match links.give(p, 1, u64::from(bucket), 0) {
         Ok(dummy) => link_dummy(links, p, bucket, left, first, right, dummy),
@@ -214,11 +206,7 @@ fn root_from<L: Links<Rule = Split>>(
     ensures rooted { (start : Place) (s : Seat SplitNote) → HasRoomFor s.slots → s.fresh ≡ None
         → BeginsAt (L.numbers links.now) start (dummy_place bucket) left s (L.seat links.now p.old)
         → Roots (L.numbers links.now) bucket s result (L.seat links.now p.new) }
-    ensures lacking { result ≡ Rooted.NoNode → WithinPart L.agent_of (L.seat links.now p.old).agent (L.journal p.old) (L.journal p.new)
-        (L.lacking links.now (L.seat links.now p.old).agent (L.journal p.new)) }
-    ensures worn { (why : Spent) → result ≡ Rooted.Spent why
-        → WithinPart L.agent_of (L.seat links.now p.old).agent (L.journal p.old) (L.journal p.new) (L.worn links.now (L.seat links.now p.old).agent why
-        (L.journal p.new)) }
+    ensures told { PartTells L.Links links.now result p.old p.new }
 {
     match search_for(links, p, NewNode::Dummy(bucket), left) {
         Searched::Over => Rooted::Moved,
@@ -262,11 +250,7 @@ fn root_near<L: Links<Rule = Split>>(links: &L, p: &mut L::Pass, bucket: u32, si
     ensures later { IsPrefix (L.journal p.old) (L.journal p.new) }
     ensures rooted { (s : Seat SplitNote) (own : List (Event SplitNote)) → Quiet (split_reading (L.numbers links.now)) s own (L.seat links.now p.old)
         → (L.seat links.now p.old).slots ≡ s.slots → IsIdle s → Roots (L.numbers links.now) bucket s result (L.seat links.now p.new) }
-    ensures lacking { result ≡ Rooted.NoNode → WithinPart L.agent_of (L.seat links.now p.old).agent (L.journal p.old) (L.journal p.new)
-        (L.lacking links.now (L.seat links.now p.old).agent (L.journal p.new)) }
-    ensures worn { (why : Spent) → result ≡ Rooted.Spent why
-        → WithinPart L.agent_of (L.seat links.now p.old).agent (L.journal p.old) (L.journal p.new) (L.worn links.now (L.seat links.now p.old).agent why
-        (L.journal p.new)) }
+    ensures told { PartTells L.Links links.now result p.old p.new }
 {
     match begin_near(links, p, NewNode::Dummy(bucket), size_within(bucket, size)) {
         Begun::Moved => Rooted::Moved,
@@ -283,11 +267,7 @@ fn root_bucket<L: Links<Rule = Split>>(links: &L, p: &mut L::Pass, bucket: u32, 
     ensures pass { L.belongs links.now p.new }
     ensures later { IsPrefix (L.journal p.old) (L.journal p.new) }
     ensures rooted { Roots (L.numbers links.now) bucket (L.seat links.now p.old) result (L.seat links.now p.new) }
-    ensures lacking { result ≡ Rooted.NoNode → WithinPart L.agent_of (L.seat links.now p.old).agent (L.journal p.old) (L.journal p.new)
-        (L.lacking links.now (L.seat links.now p.old).agent (L.journal p.new)) }
-    ensures worn { (why : Spent) → result ≡ Rooted.Spent why
-        → WithinPart L.agent_of (L.seat links.now p.old).agent (L.journal p.old) (L.journal p.new) (L.worn links.now (L.seat links.now p.old).agent why
-        (L.journal p.new)) }
+    ensures told { PartTells L.Links links.now result p.old p.new }
     ensures few { HasStart (heap_of (L.numbers links.now) (L.seat links.now p.old)) bucket
         → LoadsFew (root_loads bucket) (L.seat links.now p.old) (L.seat links.now p.new) }
 {
@@ -320,11 +300,7 @@ pub(crate) fn prepare<L: Links<Rule = Split>>(
     ensures later { IsPrefix (L.journal p.old) (L.journal p.new) }
     ensures idle { IsIdle (L.seat links.now p.new) }
     ensures prepared { Prepares (L.numbers links.now) key turns (L.seat links.now p.old) result (L.seat links.now p.new) }
-    ensures lacking { result ≡ Rooted.NoNode → WithinPart L.agent_of (L.seat links.now p.old).agent (L.journal p.old) (L.journal p.new)
-        (L.lacking links.now (L.seat links.now p.old).agent (L.journal p.new)) }
-    ensures worn { (why : Spent) → result ≡ Rooted.Spent why
-        → WithinPart L.agent_of (L.seat links.now p.old).agent (L.journal p.old) (L.journal p.new) (L.worn links.now (L.seat links.now p.old).agent why
-        (L.journal p.new)) }
+    ensures told { PartTells L.Links links.now result p.old p.new }
     ensures few { (gap : List (Event SplitNote)) → events_by (L.seat links.now p.old).agent gap ≡ []
         → HasStart (run_heap (L.numbers links.now) ((L.seat links.now p.old).seen ++ gap))
         (bucket_now (L.numbers links.now) key (seat_after (L.seat links.now p.old) gap))

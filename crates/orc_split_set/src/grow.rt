@@ -1,17 +1,14 @@
 //! Doubling the number of buckets.
 
-ghost use Rattle.std.specs.Prelude.{◌≡◌, ◌≢◌, ◌*◌, ◌≤◌, ◌↔◌, ℕ, None, Some, length, true};
+ghost use Rattle.std.specs.Prelude.{◌≡◌, ◌*◌, ◌≤◌, ◌↔◌, ℕ, None, Some, true};
 ghost use mathlib.Core.List.{IsPrefix};
-ghost use Rattle.orc_fault.specs.declared.Spent.{Spent};
 ghost use Rattle.orc_heap.specs.Seats.{IsIdle, heap_of};
 ghost use Rattle.orc_heap.specs.Slots.{IsFree, id_in};
-ghost use Rattle.orc_history.specs.Journals.{Within};
-ghost use Rattle.orc_history.specs.Parts.{WithinPart};
 ghost use Rattle.orc_ordered_search.specs.Searches.{HoldsIfAny, target_at};
 ghost use Rattle.orc_split_rule.specs.SplitDiscipline.{greatest};
 ghost use Rattle.orc_split_rule.specs.Watches.{StandsFor};
-ghost use Rattle.orc_split_set.specs.declared.bucket.Rooted.{Rooted};
 ghost use Rattle.orc_split_set.specs.Growths.{Doubles, DoublesAndGoes, GrowsAfter, HasSizeNode, HoldsSize, IsCrowded, ShowsSize, SwingsSize, grown_by};
+ghost use Rattle.orc_split_set.specs.SetCalls.{NewTells, PartTells};
 
 use crate::bucket::Rooted;
 use orc_fault::Spent;
@@ -48,9 +45,7 @@ fn swing_size<L: Links<Rule = Split>>(
     ensures later { IsPrefix (L.journal p.old) (L.journal p.new) }
     ensures swung { SwingsSize (L.numbers links.now) (target_at (L.seat links.now p.old).slots old.now) new (L.seat links.now p.old) result
         (L.seat links.now p.new) }
-    ensures some { result ≢ Rooted.NoNode }
-    ensures worn { (why : Spent) → result ≡ Rooted.Spent why → Within (length (L.journal p.old)) (length (L.journal p.new))
-        (L.worn links.now (L.seat links.now p.old).agent why (L.journal p.new)) }
+    ensures told { NewTells L.Links links.now result p.old p.new }
 {
     let swung = links.swing(
         p,
@@ -63,37 +58,8 @@ fn swing_size<L: Links<Rule = Split>>(
     grown_of(swung)
 }
 
-// Gives a node of twice the size, and lets the size's root name it.
+// Gives a node of twice the size, unless there would be too many buckets, and lets the size's root name it.
 fn double<L: Links<Rule = Split>>(
-    links: &L,
-    p: &mut L::Pass,
-    most: u32,
-    size: u32,
-    old: &Option<Held>,
-) -> Rooted
-    requires pass { L.belongs links.now p.old }
-    requires most { (most ≡ greatest (L.numbers links.now)) × (1 ≤ most) × (2 * size ≤ most) }
-    requires old { HoldsIfAny (L.seat links.now p.old).slots old.now
-        × StandsFor (heap_of (L.numbers links.now) (L.seat links.now p.old)) (target_at (L.seat links.now p.old).slots old.now) size }
-    requires one { IsFree (L.seat links.now p.old).slots 1 }
-    requires fresh { (L.seat links.now p.old).fresh ≡ None }
-    ensures pass { L.belongs links.now p.new }
-    ensures later { IsPrefix (L.journal p.old) (L.journal p.new) }
-    ensures doubled { Doubles (L.numbers links.now) (ShowsSize (L.numbers links.now) (target_at (L.seat links.now p.old).slots old.now)
-        (L.seat links.now p.old)) (L.seat links.now p.old) result (L.seat links.now p.new) }
-    ensures lacking { result ≡ Rooted.NoNode → Within (length (L.journal p.old)) (length (L.journal p.new))
-        (L.lacking links.now (L.seat links.now p.old).agent (L.journal p.new)) }
-    ensures worn { (why : Spent) → result ≡ Rooted.Spent why → Within (length (L.journal p.old)) (length (L.journal p.new))
-        (L.worn links.now (L.seat links.now p.old).agent why (L.journal p.new)) }
-{
-    match links.give(p, 1, u64::from(size) * 2, 2) {
-        Ok(new) => swing_size(links, p, most, size, old, new),
-        Err(_) => Rooted::NoNode,
-    }
-}
-
-// The same, unless there would be too many buckets.
-fn double_below<L: Links<Rule = Split>>(
     links: &L,
     p: &mut L::Pass,
     most: u32,
@@ -110,15 +76,15 @@ fn double_below<L: Links<Rule = Split>>(
     ensures later { IsPrefix (L.journal p.old) (L.journal p.new) }
     ensures doubled { Doubles (L.numbers links.now) (ShowsSize (L.numbers links.now) (target_at (L.seat links.now p.old).slots old.now)
         (L.seat links.now p.old)) (L.seat links.now p.old) result (L.seat links.now p.new) }
-    ensures lacking { result ≡ Rooted.NoNode → Within (length (L.journal p.old)) (length (L.journal p.new))
-        (L.lacking links.now (L.seat links.now p.old).agent (L.journal p.new)) }
-    ensures worn { (why : Spent) → result ≡ Rooted.Spent why → Within (length (L.journal p.old)) (length (L.journal p.new))
-        (L.worn links.now (L.seat links.now p.old).agent why (L.journal p.new)) }
+    ensures told { NewTells L.Links links.now result p.old p.new }
 {
-    if size <= most / 2 {
-        return double(links, p, most, size, old);
+    if size > most / 2 {
+        return Rooted::Done;
     }
-    Rooted::Done
+    match links.give(p, 1, u64::from(size) * 2, 2) {
+        Ok(new) => swing_size(links, p, most, size, old, new),
+        Err(_) => Rooted::NoNode,
+    }
 }
 
 // The same for the size of the node in hand, which is let go.
@@ -132,14 +98,11 @@ fn double_held<L: Links<Rule = Split>>(links: &L, p: &mut L::Pass, most: u32, no
     ensures later { IsPrefix (L.journal p.old) (L.journal p.new) }
     ensures doubled { DoublesAndGoes (L.numbers links.now) (ShowsSize (L.numbers links.now) (Some (id_in (L.seat links.now p.old).slots node))
         (L.seat links.now p.old)) node (L.seat links.now p.old) result (L.seat links.now p.new) }
-    ensures lacking { result ≡ Rooted.NoNode → Within (length (L.journal p.old)) (length (L.journal p.new))
-        (L.lacking links.now (L.seat links.now p.old).agent (L.journal p.new)) }
-    ensures worn { (why : Spent) → result ≡ Rooted.Spent why → Within (length (L.journal p.old)) (length (L.journal p.new))
-        (L.worn links.now (L.seat links.now p.old).agent why (L.journal p.new)) }
+    ensures told { NewTells L.Links links.now result p.old p.new }
 {
     let size = links.value(p, &node, 0) as u32;
     let old = Some(node);
-    let doubled = double_below(links, p, most, size, &old);
+    let doubled = double(links, p, most, size, &old);
     let_go(links, p, old);
     doubled
 }
@@ -151,17 +114,12 @@ fn grow<L: Links<Rule = Split>>(links: &L, p: &mut L::Pass, most: u32) -> Rooted
     requires idle { IsIdle (L.seat links.now p.old) }
     ensures pass { L.belongs links.now p.new }
     ensures later { IsPrefix (L.journal p.old) (L.journal p.new) }
-    ensures idle { IsIdle (L.seat links.now p.new) }
     ensures doubled { Doubles (L.numbers links.now) (Unit {0}) (L.seat links.now p.old) result (L.seat links.now p.new) }
-    ensures lacking { result ≡ Rooted.NoNode → WithinPart L.agent_of (L.seat links.now p.old).agent (L.journal p.old) (L.journal p.new)
-        (L.lacking links.now (L.seat links.now p.old).agent (L.journal p.new)) }
-    ensures worn { (why : Spent) → result ≡ Rooted.Spent why
-        → WithinPart L.agent_of (L.seat links.now p.old).agent (L.journal p.old) (L.journal p.new) (L.worn links.now (L.seat links.now p.old).agent why
-        (L.journal p.new)) }
+    ensures told { PartTells L.Links links.now result p.old p.new }
 {
     match links.look(p, &At::Root(most), 2) {
         Looked::Stable(_, Some(node)) => double_held(links, p, most, node),
-        Looked::Stable(_, None) => double_below(links, p, most, 1, &None),
+        Looked::Stable(_, None) => double(links, p, most, 1, &None),
         Looked::Moved => Rooted::Moved,
     }
 }
@@ -188,13 +146,8 @@ pub(crate) fn grow_after<L: Links<Rule = Split>>(
     requires idle { IsIdle (L.seat links.now p.old) }
     ensures pass { L.belongs links.now p.new }
     ensures later { IsPrefix (L.journal p.old) (L.journal p.new) }
-    ensures idle { IsIdle (L.seat links.now p.new) }
     ensures grown { GrowsAfter (L.numbers links.now) turn (L.seat links.now p.old) result (L.seat links.now p.new) }
-    ensures lacking { result ≡ Rooted.NoNode → WithinPart L.agent_of (L.seat links.now p.old).agent (L.journal p.old) (L.journal p.new)
-        (L.lacking links.now (L.seat links.now p.old).agent (L.journal p.new)) }
-    ensures worn { (why : Spent) → result ≡ Rooted.Spent why
-        → WithinPart L.agent_of (L.seat links.now p.old).agent (L.journal p.old) (L.journal p.new) (L.worn links.now (L.seat links.now p.old).agent why
-        (L.journal p.new)) }
+    ensures told { PartTells L.Links links.now result p.old p.new }
 {
     if is_crowded(turn) {
         return grow(links, p, most);

@@ -6,13 +6,13 @@ ghost use Rattle.orc_fault.specs.declared.Spent.{Spent};
 ghost use Rattle.orc_heap.specs.Seats.{IsIdle, Seat};
 ghost use Rattle.orc_heap.specs.declared.events.Place.{Place};
 ghost use Rattle.orc_history.specs.Journals.{Within};
-ghost use Rattle.orc_history.specs.Parts.{WithinPart};
 ghost use Rattle.orc_ordered_search.specs.Inserts.{HasRoomFor};
 ghost use Rattle.orc_ordered_search.specs.Searches.{FindsAbsent};
 ghost use Rattle.orc_ordered_search.specs.declared.turn.InsertTurn.{InsertTurn};
 ghost use Rattle.orc_split_rule.specs.SplitDiscipline.{greatest};
 ghost use Rattle.orc_split_rule.specs.SplitOrder.{dummy_place};
 ghost use Rattle.orc_split_rule.specs.declared.split.SplitNote.{SplitNote};
+ghost use Rattle.orc_split_set.specs.SetCalls.{FindsWorn, LacksRow};
 ghost use Rattle.orc_split_set.specs.SplitSearches.{split_reading};
 ghost use Rattle.orc_split_set.specs.Stops.{StopsUnnamed, linked_by};
 
@@ -73,11 +73,8 @@ pub(crate) fn stop_a_bucket<L: Links<Rule = Split>>(
     ensures pass { L.belongs links.now p.new }
     ensures later { IsPrefix (L.journal p.old) (L.journal p.new) }
     ensures stopped { StopsUnnamed (L.numbers links.now) bucket (L.seat links.now p.old) result (L.seat links.now p.new) }
-    ensures lacking { result ≡ InsertTurn.NoNode → WithinPart L.agent_of (L.seat links.now p.old).agent (L.journal p.old) (L.journal p.new)
-        (L.lacking links.now (L.seat links.now p.old).agent (L.journal p.new)) }
-    ensures worn { (why : Spent) → result ≡ InsertTurn.Spent why
-        → WithinPart L.agent_of (L.seat links.now p.old).agent (L.journal p.old) (L.journal p.new) (L.worn links.now (L.seat links.now p.old).agent why
-        (L.journal p.new)) }
+    ensures lacking { result ≡ InsertTurn.NoNode → LacksRow L.Links links.now p.old p.new }
+    ensures worn { (why : Spent) → result ≡ InsertTurn.Spent why → FindsWorn L.Links links.now why p.old p.new }
 {
     match search_for(links, p, NewNode::Dummy(bucket), None) {
         Searched::Over => InsertTurn::Over,

@@ -3,8 +3,9 @@ use Rattle.std.proofs.Common.{subst, sym}
 use Rattle.orc_heap.specs.Slots.{Slots}
 use Rattle.orc_ordered_search.specs.Searches.{HasRoom}
 use Rattle.orc_split_set.proofs.Beginning.{begins_key}
-use Rattle.orc_split_set.proofs.Crowding.{own_not_moved, own_read, own_sooner, puts_grow, seen_grows}
+use Rattle.orc_split_set.proofs.Crowding.{own_not_moved, own_read, own_sooner, puts_grow}
 use Rattle.orc_split_set.proofs.Looking.{read_few}
+use Rattle.orc_split_set.proofs.Passes.{seen_on}
 use Rattle.orc_split_set.proofs.begin.begin.Goals as goal
 
 pub begin_near-requires-clause-room : goal.begin_near-requires-clause-room
@@ -18,9 +19,7 @@ returns-in-Some-clause-begun g c =
     let u = g.L.Links.seat _ c.begin_near.new.p in
     let r = c.in-Some.ensures.read in
     let e = c.begin_near.ensures in
-    let grows = seen_grows _ g.L.Links.agent_of (g.met.L.Links.steps_add _) _
-    _ t u e.later (g.met.L.Links.seen_is _ _ c.in-Some.ensures.pass)
-    (g.met.L.Links.seen_is _ _ e.pass) in
+    let grows = seen_on g.L.Links g.met.L.Links.steps_add g.met.L.Links.seen_is _ c.read_size.new.p c.begin_near.new.p c.in-Some.ensures.pass e.pass e.later in
     begins_key n c.args.key c.in-Some.size s u c.begin_near.result
     (λ sees. own_read n c.in-Some.size s t r (own_sooner s t u (puts_grow s t r.own r.quiet.puts) grows sees)) (e.begun s r.own r.quiet r.slots)
 
@@ -31,12 +30,9 @@ returns-in-Some-clause-few g c = λ has.
     let s = g.L.Links.seat d c.args.p.now in
     let t = g.L.Links.seat d c.read_size.new.p in
     let u = g.L.Links.seat d c.begin_near.new.p in
-    let r = c.in-Some.ensures.read in
     let e = c.begin_near.ensures in
-    let grows = seen_grows (g.L.Links.events d) g.L.Links.agent_of (g.met.L.Links.steps_add d) (g.L.Links.journal c.read_size.new.p)
-    (g.L.Links.journal c.begin_near.new.p) t u e.later (g.met.L.Links.seen_is d c.read_size.new.p c.in-Some.ensures.pass)
-    (g.met.L.Links.seen_is d c.begin_near.new.p e.pass) in
-    read_few n c.args.key c.in-Some.size s t u r grows e.few has
+    read_few n c.args.key c.in-Some.size s t u c.in-Some.ensures.read
+    (seen_on g.L.Links g.met.L.Links.steps_add g.met.L.Links.seen_is d c.read_size.new.p c.begin_near.new.p c.in-Some.ensures.pass e.pass e.later) e.few has
 
 pub returns-in-None-clause-few : goal.returns-in-None-clause-few
 returns-in-None-clause-few g c = λ has k.

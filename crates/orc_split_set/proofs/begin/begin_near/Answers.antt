@@ -10,8 +10,9 @@ use Rattle.orc_split_rule.specs.SplitOrder.{bucket_of}
 use Rattle.orc_split_set.specs.Looks.{HasStart, root_loads}
 use Rattle.orc_split_set.specs.NewNodes.{node_value}
 use Rattle.orc_split_set.proofs.Beginning.{begins_later, from_root, half_begins, half_by, half_size}
-use Rattle.orc_split_set.proofs.Crowding.{own_heap, own_later, own_sooner, puts_grow, seen_grows}
+use Rattle.orc_split_set.proofs.Crowding.{own_heap, own_later, own_sooner, puts_grow}
 use Rattle.orc_split_set.proofs.Looking.{few_heap, few_none, few_same}
+use Rattle.orc_split_set.proofs.Passes.{seen_on}
 use Rattle.orc_split_set.proofs.Preparing.{size_some}
 use Rattle.orc_split_set.proofs.begin.begin_near.Goals as goal
 
@@ -19,6 +20,7 @@ pub loop-size-init : goal.loop-size-init
 loop-size-init g c = record {
   pass = c.requires.pass;
   later = ([], append-nil _);
+  grew = ([], append-nil _);
   size = c.requires.size;
   begins = c.requires.begins;
   by = omega arith;
@@ -42,14 +44,10 @@ returns-in-Some-clause-begun g c = λ s own q slots.
     let s0 = g.L.Links.seat _ c.args.p.now in
     let t = g.L.Links.seat _ c.loop-size.p in
     let u = g.L.Links.seat _ c.begin_at.new.p in
-    let is_t = g.met.L.Links.seen_is _ _ i.pass in
-    let grew = seen_grows _ g.L.Links.agent_of (g.met.L.Links.steps_add _) _
-    _ s0 t i.later (g.met.L.Links.seen_is _ _ c.requires.pass) is_t in
-    let grows = seen_grows _ g.L.Links.agent_of (g.met.L.Links.steps_add _) _
-    _ t u e.later is_t (g.met.L.Links.seen_is _ _ e.pass) in
+    let grows = seen_on g.L.Links g.met.L.Links.steps_add g.met.L.Links.seen_is _ c.loop-size.p c.begin_at.new.p i.pass e.pass e.later in
     let k = i.held s own q slots in
     let first = puts_grow s s0 own q.puts in
-    let whole = goes_on _ _ _ grew grows in
+    let whole = goes_on _ _ _ i.grew grows in
     let v = node_value c.args.new in
     begins_later n c.args.new c.loop-size.size c.args.size i.by s u
     (λ sees has.
@@ -58,27 +56,21 @@ returns-in-Some-clause-begun g c = λ s own q slots.
     let last = own_later s t u (puts_grow s t k.own k.quiet.puts) grows k.quiet.puts.agent sees in
     let heap : heap_of n u ≡ heap_of n s0 = few_heap n (root_loads (bucket_of v c.loop-size.size)) t u (e.few c.in-Some.begun refl) last
     ∙ (own_heap n s t k.own k.quiet sees_t ∙ sym (own_heap n s s0 own q sees_s0)) in
-    (i.still (subst (λ (h : Heap). HasStart h (bucket_of v c.args.size)) heap has) (own_later s s0 t first grew q.puts.agent sees_t)).0)
+    (i.still (subst (λ (h : Heap). HasStart h (bucket_of v c.args.size)) heap has) (own_later s s0 t first i.grew q.puts.agent sees_t)).0)
     c.in-Some.begun (e.begun s k.own k.quiet k.slots)
 
 pub returns-in-Some-clause-few : goal.returns-in-Some-clause-few
 returns-in-Some-clause-few g c = λ has sees.
     let d = c.args.links.now in
-    let n = g.L.Links.numbers d in
     let i = c.loop-size.invariant in
-    let e = c.in-Some.ensures in
     let s0 = g.L.Links.seat d c.args.p.now in
     let t = g.L.Links.seat d c.loop-size.p in
     let u = g.L.Links.seat d c.begin_at.new.p in
-    let is_t = g.met.L.Links.seen_is d c.loop-size.p i.pass in
-    let grew = seen_grows (g.L.Links.events d) g.L.Links.agent_of (g.met.L.Links.steps_add d) (g.L.Links.journal c.args.p.now)
-    (g.L.Links.journal c.loop-size.p) s0 t i.later (g.met.L.Links.seen_is d c.args.p.now c.requires.pass) is_t in
-    let grows = seen_grows (g.L.Links.events d) g.L.Links.agent_of (g.met.L.Links.steps_add d) (g.L.Links.journal c.loop-size.p)
-    (g.L.Links.journal c.begin_at.new.p) t u e.later is_t (g.met.L.Links.seen_is d c.begin_at.new.p e.pass) in
+    let grows = seen_on g.L.Links g.met.L.Links.steps_add g.met.L.Links.seen_is d c.loop-size.p c.begin_at.new.p i.pass c.in-Some.ensures.pass c.in-Some.ensures.later in
     let v = node_value c.args.new in
-    let (same, seen) = i.still has (own_sooner s0 t u grew grows sees) in
-    few_same (root_loads (bucket_of v c.loop-size.size)) (root_loads (bucket_of v c.args.size)) s0 t u grew grows i.agent seen
-    (ap (λ (x : ℕ). root_loads x) (sym same)) (e.few c.in-Some.begun refl) sees
+    let (same, seen) = i.still has (own_sooner s0 t u i.grew grows sees) in
+    few_same (root_loads (bucket_of v c.loop-size.size)) (root_loads (bucket_of v c.args.size)) s0 t u i.grew grows i.agent seen
+    (ap (λ (x : ℕ). root_loads x) (sym same)) (c.in-Some.ensures.few c.in-Some.begun refl) sees
 
 pub loop-size-smaller : goal.loop-size-smaller
 loop-size-smaller g c = omega (arith, c.loop-size-test.true)
@@ -93,15 +85,12 @@ loop-size-preserved g c =
     let s0 = g.L.Links.seat d c.args.p.now in
     let t = g.L.Links.seat d c.loop-size.p in
     let u = g.L.Links.seat d c.begin_at.new.p in
-    let is_t = g.met.L.Links.seen_is d c.loop-size.p i.pass in
-    let grew = seen_grows (g.L.Links.events d) g.L.Links.agent_of (g.met.L.Links.steps_add d) (g.L.Links.journal c.args.p.now)
-    (g.L.Links.journal c.loop-size.p) s0 t i.later (g.met.L.Links.seen_is d c.args.p.now c.requires.pass) is_t in
-    let grows = seen_grows (g.L.Links.events d) g.L.Links.agent_of (g.met.L.Links.steps_add d) (g.L.Links.journal c.loop-size.p)
-    (g.L.Links.journal c.begin_at.new.p) t u e.later is_t (g.met.L.Links.seen_is d c.begin_at.new.p e.pass) in
+    let grows = seen_on g.L.Links g.met.L.Links.steps_add g.met.L.Links.seen_is d c.loop-size.p c.begin_at.new.p i.pass e.pass e.later in
     let v = node_value c.args.new in
     record {
       pass = e.pass;
       later = goes_on _ _ _ i.later e.later;
+      grew = goes_on _ _ _ i.grew grows;
       size = half_size _ c.loop-size.size i.size.1 (omega (arith, two)) i.size.2 i.size.0;
       begins = half_begins c.args.new c.loop-size.size i.begins;
       by =
@@ -110,8 +99,8 @@ loop-size-preserved g c =
       room = subst (λ (z : Slots). HasRoom z) (sym (e.held refl)) i.room;
       agent = e.agent ∙ i.agent;
       still = λ has sees.
-          let (same, seen) = i.still has (own_sooner s0 t u grew grows sees) in
-          let last = own_later s0 t u grew grows i.agent sees in
+          let (same, seen) = i.still has (own_sooner s0 t u i.grew grows sees) in
+          let last = own_later s0 t u i.grew grows i.agent sees in
           let there = subst (λ z. HasStart (run_heap n z) (bucket_of v c.loop-size.size)) (sym seen)
           (subst (λ (x : ℕ). HasStart (heap_of n s0) x) same has) in
           let (half, none) = e.none refl there last in
@@ -125,16 +114,14 @@ returns-clause-begun g c = λ s own q same.
     let i = c.loop-size.invariant in
     let s0 = g.L.Links.seat _ c.args.p.now in
     let t = g.L.Links.seat _ c.loop-size.p in
-    let grew = seen_grows _ g.L.Links.agent_of (g.met.L.Links.steps_add _) _
-    _ s0 t i.later (g.met.L.Links.seen_is _ _ c.requires.pass) (g.met.L.Links.seen_is _ _ i.pass) in
     let k = i.held s own q same in
     let first = puts_grow s s0 own q.puts in
     let v = node_value c.args.new in
     let one : c.loop-size.size ≡ 1 = omega (arith, c.loop-size-test.false, size_some _ c.loop-size.size i.size) in
     from_root n c.args.new s t k.own k.quiet k.slots c.args.size
     (λ sees has.
-    let heap : heap_of n t ≡ heap_of n s0 = own_heap n s t k.own k.quiet sees ∙ sym (own_heap n s s0 own q (own_sooner s s0 t first grew sees)) in
-    let (bucket, seen) = i.still (subst (λ (h : Heap). HasStart h (bucket_of v c.args.size)) heap has) (own_later s s0 t first grew q.puts.agent sees) in
+    let heap : heap_of n t ≡ heap_of n s0 = own_heap n s t k.own k.quiet sees ∙ sym (own_heap n s s0 own q (own_sooner s s0 t first i.grew sees)) in
+    let (bucket, seen) = i.still (subst (λ (h : Heap). HasStart h (bucket_of v c.args.size)) heap has) (own_later s s0 t first i.grew q.puts.agent sees) in
     let zero : v % 1 ≡ 0 = omega arith in
     bucket ∙ (ap (λ (x : ℕ). v % x) one ∙ zero))
 

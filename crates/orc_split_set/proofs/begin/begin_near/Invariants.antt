@@ -18,6 +18,7 @@ abbrev pub invariant-loop-size : goal.invariant-loop-size
 invariant-loop-size g l = record {
   pass : g.L.Links.belongs l.links l.p;
   later : IsPrefix (g.L.Links.journal l.fn.p) (g.L.Links.journal l.p);
+  grew : IsPrefix (g.L.Links.seat l.links l.fn.p).seen (g.L.Links.seat l.links l.p).seen;
   size : IsSize (greatest (g.L.Links.numbers l.links)) l.size;
   begins : MayBeginAt l.new l.size;
   by : dummy_place (bucket_of (node_value l.new) l.size) ≤ dummy_place (bucket_of (node_value l.new) l.fn.size);

@@ -1,14 +1,14 @@
 -- The read of the size, and then the bucket's root.
 use Rattle.std.proofs.Common.{arith, subst, sym, ◌%◌, ◌<◌, ◌∙◌, ℕ}
-use Rattle.orc_heap.proofs.Parting.{part_of_next}
 use Rattle.orc_split_rule.specs.SplitDiscipline.{greatest}
 use Rattle.orc_heap.specs.Seats.{heap_of}
 use Rattle.orc_split_set.specs.Looks.{HasStart, LoadsFew, root_loads}
 use Rattle.orc_split_set.specs.Rootings.{Roots}
-use Rattle.orc_split_set.specs.declared.bucket.Rooted.TheVariants.{Moved}
-use Rattle.orc_split_set.proofs.Crowding.{seen_grows}
+use Rattle.orc_split_set.proofs.Calling.{call_idle}
+use Rattle.orc_split_set.proofs.Passes.{seen_on}
 use Rattle.orc_split_set.proofs.Reaching.{moved_after, none_before, prepares_few}
-use Rattle.orc_split_set.proofs.Preparing.{bucket_low, no_turns, prepares_by, prepares_idle, prepares_moved}
+use Rattle.orc_split_set.proofs.Preparing.{bucket_low, no_turns, prepares_by, prepares_moved}
+use Rattle.orc_split_set.proofs.Telling.{told_next}
 use Rattle.orc_split_set.proofs.bucket.prepare.Goals as goal
 
 pub returns-then-turns-eq0-clause-prepared : goal.returns-then-turns-eq0-clause-prepared
@@ -40,29 +40,17 @@ returns-in-None-clause-prepared g c =
     prepares_moved _ c.args.key c.args.turns _ _
     c.in-None.ensures.read c.requires.idle.fresh (λ zero. omega (arith, zero, c.if-turns-eq0.false))
 
-pub returns-in-Some-clause-lacking : goal.returns-in-Some-clause-lacking
-returns-in-Some-clause-lacking g c = λ told.
+pub returns-in-Some-clause-told : goal.returns-in-Some-clause-told
+returns-in-Some-clause-told g c =
     let e = c.in-Some.ensures in
-    let f = c.root_bucket.ensures in
-    part_of_next g.L.Links _ c.args.p.now c.read_size.new.p c.root_bucket.new.p e.read.quiet.puts.agent e.later f.later (g.L.Links.lacking _) (f.lacking told)
-
-pub returns-in-Some-clause-worn : goal.returns-in-Some-clause-worn
-returns-in-Some-clause-worn g c = λ why told.
-    let d = c.args.links.now in
-    let e = c.in-Some.ensures in
-    let f = c.root_bucket.ensures in
-    part_of_next g.L.Links d c.args.p.now c.read_size.new.p c.root_bucket.new.p e.read.quiet.puts.agent e.later f.later (λ agent. g.L.Links.worn d agent why)
-    (f.worn why told)
+    let root = c.root_bucket in
+    told_next g.L.Links c.args.links.now c.args.p.now c.read_size.new.p _ e.read.quiet.puts.agent e.later root.ensures.later root.result root.ensures.told
 
 pub returns-in-Some-clause-idle : goal.returns-in-Some-clause-idle
-returns-in-Some-clause-idle g c =
-    prepares_idle _ c.args.key c.args.turns _ _ c.root_bucket.result
-    (returns-in-Some-clause-prepared g c) c.requires.idle
+returns-in-Some-clause-idle g c = call_idle (returns-in-Some-clause-prepared g c).call c.requires.idle
 
 pub returns-in-None-clause-idle : goal.returns-in-None-clause-idle
-returns-in-None-clause-idle g c =
-    prepares_idle _ c.args.key c.args.turns _ _ Moved
-    (returns-in-None-clause-prepared g c) c.requires.idle
+returns-in-None-clause-idle g c = call_idle (returns-in-None-clause-prepared g c).call c.requires.idle
 
 pub returns-then-turns-eq0-clause-few : goal.returns-then-turns-eq0-clause-few
 returns-then-turns-eq0-clause-few g c = λ gap others has.
@@ -75,9 +63,7 @@ returns-in-Some-clause-few g c = λ gap others has.
     let u = g.L.Links.seat _ c.root_bucket.new.p in
     let r = c.in-Some.ensures.read in
     let e = c.root_bucket.ensures in
-    let grows = seen_grows _ g.L.Links.agent_of (g.met.L.Links.steps_add _) _
-    _ t u e.later (g.met.L.Links.seen_is _ _ c.in-Some.ensures.pass)
-    (g.met.L.Links.seen_is _ _ e.pass) in
+    let grows = seen_on g.L.Links g.met.L.Links.steps_add g.met.L.Links.seen_is _ c.read_size.new.p c.root_bucket.new.p c.in-Some.ensures.pass e.pass e.later in
     prepares_few n c.args.key c.in-Some.size _ t u gap others r (g.met.L.Links.allowed _ _ c.in-Some.ensures.pass)
     grows (subst (λ (x : ℕ). HasStart (heap_of n t) (c.args.key % x) → LoadsFew (root_loads (c.args.key % x)) t u) c.from.ensures e.few) has
 

@@ -1,13 +1,15 @@
 -- By what the look of the bucket's root found.
 use Rattle.std.proofs.Common.{arith, refl, ◌≤◌}
 use Rattle.orc_ordered_search.proofs.Held.{release_goes}
-use Rattle.orc_heap.proofs.Parting.{part_of_next}
 use Rattle.orc_split_set.specs.Looks.{root_loads}
-use Rattle.orc_split_set.proofs.Crowding.{own_not_moved, own_sooner, seen_grows}
+use Rattle.orc_split_set.proofs.Crowding.{own_not_moved, own_sooner}
 use Rattle.orc_split_set.proofs.Looking.{few_none, few_then, look_agent, look_grows, root_few, start_shown}
-use Rattle.orc_split_set.proofs.Preparing.{kept_roots, no_roots, null_held, root_held}
+use Rattle.orc_split_set.proofs.Passes.{seen_on}
+use Rattle.orc_split_set.proofs.Preparing.{kept_roots, no_roots, root_held}
+use Rattle.orc_split_set.proofs.RootLooks.{look_moved, null_held}
 use Rattle.orc_split_set.proofs.Rooting.{moved_roots}
-use Rattle.orc_split_set.proofs.Sizes.{looks_none, looks_some, size_moved}
+use Rattle.orc_split_set.proofs.Sizes.{looks_none, looks_some}
+use Rattle.orc_split_set.proofs.Telling.{told_next}
 use Rattle.orc_split_set.proofs.bucket.root_bucket.Goals as goal
 
 pub returns-then-bucket-eq0-clause-rooted : goal.returns-then-bucket-eq0-clause-rooted
@@ -51,26 +53,14 @@ returns-in-Stable-default-None-clause-rooted g c =
 pub returns-in-Moved-clause-rooted : goal.returns-in-Moved-clause-rooted
 returns-in-Moved-clause-rooted g c =
     moved_roots _ c.args.bucket _ _
-    (size_moved _ c.args.bucket _ _ c.in-Moved.ensures.looked (g.met.L.Links.allowed _ _ c.in-Moved.ensures.pass)) c.requires.idle.fresh
+    (look_moved _ c.args.bucket _ _ c.in-Moved.ensures.looked (g.met.L.Links.allowed _ _ c.in-Moved.ensures.pass)) c.requires.idle.fresh
 
-pub returns-in-Stable-default-None-clause-lacking : goal.returns-in-Stable-default-None-clause-lacking
-returns-in-Stable-default-None-clause-lacking g c = λ told.
-    let d = c.args.links.now in
+pub returns-in-Stable-default-None-clause-told : goal.returns-in-Stable-default-None-clause-told
+returns-in-Stable-default-None-clause-told g c =
     let x = c.in-Stable-default-None in
-    let held = null_held (g.L.Links.numbers d) (g.L.Links.seat d c.args.p.now) (g.L.Links.seat d c.look.new.p) c.args.bucket x.field-0
-    (looks_none c.args.bucket 2 x.field-0 x.field-1 _ _ x.field-1-is x.ensures.looked) in
-    let f = c.root_near.ensures in
-    part_of_next g.L.Links d c.args.p.now c.look.new.p c.root_near.new.p held.quiet.puts.agent x.ensures.later f.later (g.L.Links.lacking d) (f.lacking told)
-
-pub returns-in-Stable-default-None-clause-worn : goal.returns-in-Stable-default-None-clause-worn
-returns-in-Stable-default-None-clause-worn g c = λ why told.
-    let d = c.args.links.now in
-    let x = c.in-Stable-default-None in
-    let held = null_held (g.L.Links.numbers d) (g.L.Links.seat d c.args.p.now) (g.L.Links.seat d c.look.new.p) c.args.bucket x.field-0
-    (looks_none c.args.bucket 2 x.field-0 x.field-1 _ _ x.field-1-is x.ensures.looked) in
-    let f = c.root_near.ensures in
-    part_of_next g.L.Links d c.args.p.now c.look.new.p c.root_near.new.p held.quiet.puts.agent x.ensures.later f.later (λ agent. g.L.Links.worn d agent why)
-    (f.worn why told)
+    let near = c.root_near in
+    told_next g.L.Links c.args.links.now c.args.p.now c.look.new.p _ (look_agent c.args.bucket _ _ _ x.ensures.looked) x.ensures.later
+    near.ensures.later near.result near.ensures.told
 
 pub returns-then-bucket-eq0-clause-few : goal.returns-then-bucket-eq0-clause-few
 returns-then-bucket-eq0-clause-few g c = λ has.
@@ -94,11 +84,10 @@ returns-in-Stable-default-None-clause-few g c = λ has sees.
     let x = c.in-Stable-default-None in
     let looks = looks_none c.args.bucket 2 x.field-0 x.field-1 s t x.field-1-is x.ensures.looked in
     let e = c.root_near.ensures in
-    let grows = seen_grows (g.L.Links.events d) g.L.Links.agent_of (g.met.L.Links.steps_add d) (g.L.Links.journal c.look.new.p)
-    (g.L.Links.journal c.root_near.new.p) t u e.later (g.met.L.Links.seen_is d c.look.new.p x.ensures.pass) (g.met.L.Links.seen_is d c.root_near.new.p e.pass) in
+    let grows = seen_on g.L.Links g.met.L.Links.steps_add g.met.L.Links.seen_is d c.look.new.p c.root_near.new.p x.ensures.pass e.pass e.later in
     absurd (start_shown n s t c.args.bucket x.field-0 (omega (arith, c.if-bucket-eq0.false)) looks (g.met.L.Links.allowed d c.look.new.p x.ensures.pass) has
     (own_sooner s t u (look_grows c.args.bucket s t _ looks) grows sees))
 
 pub returns-in-Moved-clause-few : goal.returns-in-Moved-clause-few
 returns-in-Moved-clause-few g c = λ has sees.
-    absurd (own_not_moved _ _ _ (size_moved _ c.args.bucket _ _ c.in-Moved.ensures.looked (g.met.L.Links.allowed _ _ c.in-Moved.ensures.pass)) sees)
+    absurd (own_not_moved _ _ _ (look_moved _ c.args.bucket _ _ c.in-Moved.ensures.looked (g.met.L.Links.allowed _ _ c.in-Moved.ensures.pass)) sees)

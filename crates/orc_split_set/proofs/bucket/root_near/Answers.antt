@@ -1,12 +1,11 @@
 -- Where the search for the dummy begins, and what it found.
-use Rattle.std.proofs.Common.{refl, subst, sym, ℕ, ◌∙◌}
+use Rattle.std.proofs.Common.{refl, subst, sym, ◌∙◌}
 use Rattle.orc_heap.specs.Slots.{Slots}
-use Rattle.orc_history.specs.Parts.{WithinPart}
 use Rattle.orc_ordered_search.specs.Searches.{HasRoom}
 use Rattle.orc_ordered_search.proofs.Inserting.{idle_room}
-use Rattle.orc_heap.proofs.Parting.{part_of_part}
 use Rattle.orc_split_set.specs.Beginnings.{seat_before}
 use Rattle.orc_split_set.proofs.Rooting.{moved_roots, roots_after}
+use Rattle.orc_split_set.proofs.Telling.{told_next}
 use Rattle.orc_split_set.proofs.bucket.root_near.Goals as goal
 
 pub begin_near-requires-clause-size : goal.begin_near-requires-clause-size
@@ -36,27 +35,10 @@ returns-in-From-clause-rooted g c = λ s own q same idle.
     roots_after (g.L.Links.numbers d) c.args.bucket s (seat_before s t) (g.L.Links.seat d c.root_from.new.p) b.own b.quiet refl c.root_from.result
     (c.root_from.ensures.rooted b.start (seat_before s t) (idle_room s idle) idle.fresh b.begins)
 
-pub returns-in-From-clause-lacking : goal.returns-in-From-clause-lacking
-returns-in-From-clause-lacking g c = λ told.
-    let d = c.args.links.now in
-    let s0 = g.L.Links.seat d c.args.p.now in
-    let k = g.L.Links.journal c.begin_near.new.p in
-    let m = g.L.Links.journal c.root_from.new.p in
+pub returns-in-From-clause-told : goal.returns-in-From-clause-told
+returns-in-From-clause-told g c =
     let (s, own, q, same, idle) = c.requires.begun in
-    let b = c.in-From.ensures.begun s own q same in
-    let f = c.root_from.ensures in
-    let fact = subst (λ (x : ℕ). WithinPart g.L.Links.agent_of x k m (g.L.Links.lacking d x m)) (b.begins.begins.agent ∙ sym q.puts.agent) (f.lacking told) in
-    part_of_part g.L.Links.agent_of s0.agent (g.L.Links.lacking d s0.agent) _ k m c.in-From.ensures.later f.later fact
-
-pub returns-in-From-clause-worn : goal.returns-in-From-clause-worn
-returns-in-From-clause-worn g c = λ why told.
-    let d = c.args.links.now in
-    let s0 = g.L.Links.seat d c.args.p.now in
-    let k = g.L.Links.journal c.begin_near.new.p in
-    let m = g.L.Links.journal c.root_from.new.p in
-    let (s, own, q, same, idle) = c.requires.begun in
-    let b = c.in-From.ensures.begun s own q same in
-    let f = c.root_from.ensures in
-    let fact = subst (λ (x : ℕ). WithinPart g.L.Links.agent_of x k m (g.L.Links.worn d x why m)) (b.begins.begins.agent ∙ sym q.puts.agent)
-    (f.worn why told) in
-    part_of_part g.L.Links.agent_of s0.agent (g.L.Links.worn d s0.agent why) _ k m c.in-From.ensures.later f.later fact
+    let e = c.in-From.ensures in
+    let from = c.root_from in
+    told_next g.L.Links c.args.links.now c.args.p.now c.begin_near.new.p _ ((e.begun s own q same).begins.begins.agent ∙ sym q.puts.agent)
+    e.later from.ensures.later from.result from.ensures.told

@@ -1,14 +1,14 @@
--- With a new size node, or without one.
-use Rattle.std.proofs.Common.{Option, Some, [], ap, append-nil, arith, length, subst, sym, ℕ, ◌*◌, ◌∙◌, ◌≡◌}
+-- With a new size node, or without one, or where there would be too many buckets.
+use Rattle.std.proofs.Common.{Option, Some, [], ap, append-nil, arith, subst, sym, ℕ, ◌*◌, ◌∙◌, ◌≡◌}
 use Rattle.orc_heap.specs.Calls.{Gives}
 use Rattle.orc_heap.specs.Seats.{heap_of}
 use Rattle.orc_heap.specs.Slots.{SlotNode, Slots}
-use Rattle.orc_history.specs.Journals.{Within}
-use Rattle.orc_ordered_search.proofs.Marking.{part_fact, within_wider}
+use Rattle.orc_ordered_search.proofs.Marking.{part_fact}
 use Rattle.orc_ordered_search.specs.Searches.{HoldsIfAny, target_at}
 use Rattle.orc_split_rule.specs.Watches.{StandsFor}
 use Rattle.orc_split_set.specs.Growths.{ShowsSize, SwingsSize}
-use Rattle.orc_split_set.proofs.Growing.{doubles, doubles_none, held_beside, size_node, stands_puts}
+use Rattle.orc_split_set.proofs.Growing.{doubles, doubles_many, doubles_none, held_beside, size_node, stands_puts}
+use Rattle.orc_split_set.proofs.Telling.{told_wider}
 use Rattle.orc_split_set.proofs.grow.double.Goals as goal
 
 pub swing_size-requires-clause-old : goal.swing_size-requires-clause-old
@@ -53,27 +53,24 @@ returns-in-Ok-clause-doubled g c =
     (g.met.L.Links.allowed _ _ e.pass)
     (subst (λ (o : Option ℕ). SwingsSize n o c.in-Ok.new u c.swing_size.result v) to_is c.swing_size.ensures.swung)
 
-pub returns-in-Ok-clause-lacking : goal.returns-in-Ok-clause-lacking
-returns-in-Ok-clause-lacking g c = λ is. absurd (c.swing_size.ensures.some is)
-
-pub returns-in-Ok-clause-worn : goal.returns-in-Ok-clause-worn
-returns-in-Ok-clause-worn g c = λ why is.
-    let d = c.args.links.now in
-    let s = g.L.Links.seat d c.args.p.now in
-    let k = g.L.Links.journal c.give.new.p in
-    let m = g.L.Links.journal c.swing_size.new.p in
-    let e = c.in-Ok.ensures in
-    let there = subst (λ (x : ℕ). Within (length k) (length m) (g.L.Links.worn d x why m)) e.given.puts.agent (c.swing_size.ensures.worn why is) in
-    within_wider (g.L.Links.worn d s.agent why) _ k m m (λ xs more from to h. g.met.L.Links.worn_stays d s.agent why xs more from to h) e.later
-    ([], append-nil m) there
+pub returns-in-Ok-clause-told : goal.returns-in-Ok-clause-told
+returns-in-Ok-clause-told g c =
+    told_wider g.L.Links g.met.L.Links.lacking_stays g.met.L.Links.worn_stays c.args.links.now c.args.p.now c.give.new.p c.swing_size.new.p _
+    c.in-Ok.ensures.given.puts.agent c.in-Ok.ensures.later ([], append-nil _) c.swing_size.result c.swing_size.ensures.told
 
 pub returns-in-Err-clause-doubled : goal.returns-in-Err-clause-doubled
 returns-in-Err-clause-doubled g c =
     let s = g.L.Links.seat _ c.args.p.now in
     doubles_none _ (ShowsSize _ (target_at s.slots c.args.old.now) s) s _ c.in-Err.ensures.none c.requires.fresh
 
-pub returns-in-Err-clause-lacking : goal.returns-in-Err-clause-lacking
-returns-in-Err-clause-lacking g c = λ is.
+pub returns-in-Err-clause-told : goal.returns-in-Err-clause-told
+returns-in-Err-clause-told g c =
     let s = g.L.Links.seat _ c.args.p.now in
     let e = c.in-Err.ensures in
     part_fact g.L.Links.agent_of s.agent _ _ (g.L.Links.lacking _ s.agent _) e.later e.lacking
+
+pub returns-then-size-most-clause-doubled : goal.returns-then-size-most-clause-doubled
+returns-then-size-most-clause-doubled g c =
+    let s = g.L.Links.seat _ c.args.p.now in
+    doubles_many _ s (target_at s.slots c.args.old.now) c.args.size c.requires.fresh c.requires.old.1
+    (omega (arith, c.requires.most.0, c.if-size-most.true))

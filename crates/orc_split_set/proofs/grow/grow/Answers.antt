@@ -6,15 +6,14 @@ use Rattle.orc_heap.specs.Slots.{IsFree, Slots, id_in}
 use Rattle.orc_heap.specs.declared.events.Place.TheVariants.{Root}
 use Rattle.orc_heap.specs.declared.holds.Looked.TheVariants.{Stable}
 use Rattle.orc_ordered_search.proofs.Inserting.{idle_room}
-use Rattle.orc_heap.proofs.Parting.{part_of_later}
 use Rattle.orc_split_rule.specs.SplitDiscipline.{greatest}
 use Rattle.orc_split_set.specs.Beginnings.{Held}
 use Rattle.orc_split_set.specs.Growths.{ShowsSize}
-use Rattle.orc_split_set.specs.declared.bucket.Rooted.TheVariants.{Moved}
-use Rattle.orc_split_set.proofs.Growing.{doubles_after, doubles_held, doubles_idle, doubles_moved, free_beside, null_shows, still_shows}
+use Rattle.orc_split_set.proofs.Growing.{doubles_after, doubles_held, doubles_moved, free_beside, null_shows, still_shows}
 use Rattle.orc_ordered_search.proofs.Ranking.{looks_from}
-use Rattle.orc_split_set.proofs.Preparing.{null_held}
-use Rattle.orc_split_set.proofs.Sizes.{SizeHeld, looks_none, looks_some, size_held, size_moved}
+use Rattle.orc_split_set.proofs.RootLooks.{look_moved, null_held}
+use Rattle.orc_split_set.proofs.Sizes.{SizeHeld, looks_none, looks_some, size_held}
+use Rattle.orc_split_set.proofs.Telling.{told_later}
 use Rattle.orc_split_set.proofs.grow.grow.Given.{Over}
 use Rattle.orc_split_set.proofs.grow.grow.Goals.{In-Stable-default-None, In-Stable-default-Some}
 use Rattle.orc_split_set.proofs.grow.grow.Goals as goal
@@ -83,35 +82,20 @@ returns-in-Stable-default-Some-clause-doubled g c =
     (still_shows n s t k.own (record { to = Some k.id; mark = k.mark }) k.quiet (g.met.L.Links.obeys _ _ x.ensures.pass) k.shows sees))
     c.double_held.ensures.doubled
 
-pub returns-in-Stable-default-Some-clause-idle : goal.returns-in-Stable-default-Some-clause-idle
-returns-in-Stable-default-Some-clause-idle g c =
-    doubles_idle _ _ _ _ c.double_held.result
-    (returns-in-Stable-default-Some-clause-doubled g c) c.requires.idle
-
-pub returns-in-Stable-default-Some-clause-lacking : goal.returns-in-Stable-default-Some-clause-lacking
-returns-in-Stable-default-Some-clause-lacking g c = λ is.
-    let q = (sized g (goal.at.returns-in-Stable-default-Some-clause-lacking g c).In-Stable-default-Some).quiet in
+pub returns-in-Stable-default-Some-clause-told : goal.returns-in-Stable-default-Some-clause-told
+returns-in-Stable-default-Some-clause-told g c =
+    let q = (sized g (goal.at.returns-in-Stable-default-Some-clause-told g c).In-Stable-default-Some).quiet in
     let e = c.in-Stable-default-Some.ensures in
-    let f = c.double_held.ensures in
-    part_of_later g.L.Links g.met.L.Links.steps_add g.met.L.Links.seen_is _ _ c.look.new.p c.double_held.new.p _ c.requires.pass e.pass
-    q.puts q.some e.later f.later (g.L.Links.lacking _) (f.lacking is)
+    told_later g.L.Links g.met.L.Links.steps_add g.met.L.Links.seen_is _ c.args.p.now c.look.new.p _ _ c.requires.pass e.pass
+    q.puts q.some e.later c.double_held.ensures.later c.double_held.result c.double_held.ensures.told
 
-pub returns-in-Stable-default-Some-clause-worn : goal.returns-in-Stable-default-Some-clause-worn
-returns-in-Stable-default-Some-clause-worn g c = λ why is.
-    let q = (sized g (goal.at.returns-in-Stable-default-Some-clause-worn g c).In-Stable-default-Some).quiet in
-    let d = c.args.links.now in
-    let e = c.in-Stable-default-Some.ensures in
-    let f = c.double_held.ensures in
-    part_of_later g.L.Links g.met.L.Links.steps_add g.met.L.Links.seen_is _ _ c.look.new.p c.double_held.new.p _ c.requires.pass e.pass
-    q.puts q.some e.later f.later (λ agent. g.L.Links.worn d agent why) (f.worn why is)
-
-pub double_below-requires-clause-one : goal.double_below-requires-clause-one
-double_below-requires-clause-one g c =
-    let k = kept g (goal.at.double_below-requires-clause-one g c).In-Stable-default-None in
+pub double-requires-clause-one : goal.double-requires-clause-one
+double-requires-clause-one g c =
+    let k = kept g (goal.at.double-requires-clause-one g c).In-Stable-default-None in
     subst (λ (z : Slots). IsFree z 1) (sym k.slots) (idle_room _ c.requires.idle).one
 
-pub double_below-requires-clause-fresh : goal.double_below-requires-clause-fresh
-double_below-requires-clause-fresh g c = c.in-Stable-default-None.ensures.looked.fresh ∙ c.requires.idle.fresh
+pub double-requires-clause-fresh : goal.double-requires-clause-fresh
+double-requires-clause-fresh g c = c.in-Stable-default-None.ensures.looked.fresh ∙ c.requires.idle.fresh
 
 pub returns-in-Stable-default-None-clause-doubled : goal.returns-in-Stable-default-None-clause-doubled
 returns-in-Stable-default-None-clause-doubled g c =
@@ -122,38 +106,18 @@ returns-in-Stable-default-None-clause-doubled g c =
     let t = g.L.Links.seat d c.look.new.p in
     let x = c.in-Stable-default-None in
     let k = kept g at in
-    doubles_after n (ShowsSize n None t) s t _ k.own c.double_below.result k.quiet k.slots
+    doubles_after n (ShowsSize n None t) s t _ k.own c.double.result k.quiet k.slots
     (λ sees. null_shows n s t x.field-0 (unset g at) (g.met.L.Links.obeys _ _ x.ensures.pass)
-    (g.met.L.Links.allowed _ _ x.ensures.pass) sees) c.double_below.ensures.doubled
+    (g.met.L.Links.allowed _ _ x.ensures.pass) sees) c.double.ensures.doubled
 
-pub returns-in-Stable-default-None-clause-idle : goal.returns-in-Stable-default-None-clause-idle
-returns-in-Stable-default-None-clause-idle g c =
-    doubles_idle _ _ _ _ c.double_below.result
-    (returns-in-Stable-default-None-clause-doubled g c) c.requires.idle
-
-pub returns-in-Stable-default-None-clause-lacking : goal.returns-in-Stable-default-None-clause-lacking
-returns-in-Stable-default-None-clause-lacking g c = λ is.
-    let q = (kept g (goal.at.returns-in-Stable-default-None-clause-lacking g c).In-Stable-default-None).quiet in
+pub returns-in-Stable-default-None-clause-told : goal.returns-in-Stable-default-None-clause-told
+returns-in-Stable-default-None-clause-told g c =
+    let q = (kept g (goal.at.returns-in-Stable-default-None-clause-told g c).In-Stable-default-None).quiet in
     let e = c.in-Stable-default-None.ensures in
-    let f = c.double_below.ensures in
-    part_of_later g.L.Links g.met.L.Links.steps_add g.met.L.Links.seen_is _ _ c.look.new.p c.double_below.new.p _ c.requires.pass e.pass
-    q.puts q.some e.later f.later (g.L.Links.lacking _) (f.lacking is)
-
-pub returns-in-Stable-default-None-clause-worn : goal.returns-in-Stable-default-None-clause-worn
-returns-in-Stable-default-None-clause-worn g c = λ why is.
-    let q = (kept g (goal.at.returns-in-Stable-default-None-clause-worn g c).In-Stable-default-None).quiet in
-    let d = c.args.links.now in
-    let e = c.in-Stable-default-None.ensures in
-    let f = c.double_below.ensures in
-    part_of_later g.L.Links g.met.L.Links.steps_add g.met.L.Links.seen_is _ _ c.look.new.p c.double_below.new.p _ c.requires.pass e.pass
-    q.puts q.some e.later f.later (λ agent. g.L.Links.worn d agent why) (f.worn why is)
+    told_later g.L.Links g.met.L.Links.steps_add g.met.L.Links.seen_is _ c.args.p.now c.look.new.p _ _ c.requires.pass e.pass
+    q.puts q.some e.later c.double.ensures.later c.double.result c.double.ensures.told
 
 pub returns-in-Moved-clause-doubled : goal.returns-in-Moved-clause-doubled
 returns-in-Moved-clause-doubled g c =
-    doubles_moved _ _ _ (size_moved _ c.args.most _ _ c.in-Moved.ensures.looked (g.met.L.Links.allowed _ _ c.in-Moved.ensures.pass))
+    doubles_moved _ _ _ (look_moved _ c.args.most _ _ c.in-Moved.ensures.looked (g.met.L.Links.allowed _ _ c.in-Moved.ensures.pass))
     c.requires.idle.fresh
-
-pub returns-in-Moved-clause-idle : goal.returns-in-Moved-clause-idle
-returns-in-Moved-clause-idle g c =
-    doubles_idle _ _ _ _ Moved (returns-in-Moved-clause-doubled g c)
-    c.requires.idle

@@ -1,10 +1,7 @@
 -- The swing of the size's root, and the new node's release.
-use Rattle.std.proofs.Common.{Bool, Result, [], ap, append-nil, arith, length, refl, subst, sym, ℕ, ◌*◌, ◌∙◌}
-use Rattle.std.specs.Prelude.{IfErr}
-use Rattle.orc_fault.specs.declared.Spent.{Spent}
+use Rattle.std.proofs.Common.{[], ap, append-nil, arith, refl, subst, sym, ℕ, ◌*◌}
 use Rattle.orc_heap.specs.declared.events.Place.TheVariants.{Root}
-use Rattle.orc_history.specs.Journals.{Within}
-use Rattle.orc_ordered_search.proofs.Marking.{within_wider, worn_since}
+use Rattle.orc_ordered_search.proofs.Marking.{worn_since}
 use Rattle.orc_heap.proofs.Hands.{holds_of}
 use Rattle.orc_heap.specs.Heap.{link_to}
 use Rattle.orc_heap.specs.Slots.{Holds, Slots}
@@ -12,7 +9,8 @@ use Rattle.orc_ordered_search.specs.Searches.{target_at}
 use Rattle.orc_ordered_search.proofs.Held.{release_goes}
 use Rattle.orc_split_set.specs.Growths.{SwingsSize}
 use Rattle.orc_split_set.specs.declared.bucket.Rooted.{Rooted}
-use Rattle.orc_split_set.proofs.Growing.{grown_node, grown_spent, size_allowed, swing_slots, swings_size}
+use Rattle.orc_split_set.proofs.Growing.{size_allowed, swing_slots, swings_size}
+use Rattle.orc_split_set.proofs.Telling.{grown_told}
 use Rattle.orc_split_set.proofs.grow.swing_size.Goals as goal
 
 pub swing-swung-requires-clause-place : goal.swing-swung-requires-clause-place
@@ -52,20 +50,12 @@ returns-clause-swung g c =
     (ap (λ (i : ℕ). link_to i) (holds_of s.slots c.args.new id k.held).1) (ap Root c.requires.most.0) (c.link_to.ensures.link s.slots)
     (g.met.L.Links.allowed _ _ f.pass) f.swung f.none)
 
-pub returns-clause-some : goal.returns-clause-some
-returns-clause-some g c = λ is. grown_node c.swing-swung.result (sym c.grown_of.ensures ∙ is)
-
-pub returns-clause-worn : goal.returns-clause-worn
-returns-clause-worn g c = λ why is.
+pub returns-clause-told : goal.returns-clause-told
+returns-clause-told g c =
     let d = c.args.links.now in
-    let s = g.L.Links.seat d c.args.p.now in
-    let j = g.L.Links.journal c.args.p.now in
-    let k = g.L.Links.journal c.swing-swung.new.p in
+    let by = (g.L.Links.seat d c.args.p.now).agent in
     let f = c.swing-swung.ensures in
-    let since = worn_since (g.L.Links.worn d) g.L.Links.agent_of s.agent s.agent j j k
-    (λ why xs more from to h. g.met.L.Links.worn_stays d s.agent why xs more from to h) refl ([], append-nil j) f.later c.swing-swung.result f.worn in
-    let worn : Within (length j) (length k) (g.L.Links.worn d s.agent why k) = subst
-    (λ (r : Result Bool Spent). IfErr r (λ x. Within (length j) (length k) (g.L.Links.worn d s.agent x k)))
-    (grown_spent c.swing-swung.result why (sym c.grown_of.ensures ∙ is)) since in
-    within_wider (g.L.Links.worn d s.agent why) j j k _
-    (λ xs more from to h. g.met.L.Links.worn_stays d s.agent why xs more from to h) ([], append-nil j) c.release.ensures.later worn
+    let worn = worn_since (g.L.Links.worn d) g.L.Links.agent_of by by _ _ _ (g.met.L.Links.worn_stays d by) refl ([], append-nil _) f.later
+    c.swing-swung.result f.worn in
+    grown_told g.L.Links g.met.L.Links.lacking_stays g.met.L.Links.worn_stays d c.args.p.now c.swing-swung.new.p _ c.release.ensures.later c.swing-swung.result
+    worn _ c.grown_of.ensures

@@ -2,7 +2,8 @@
 use Rattle.std.proofs.Common.{ap, arith, subst, ◌≤◌, ℕ}
 use Rattle.orc_heap.specs.declared.events.Place.TheVariants.{Root}
 use Rattle.orc_ordered_search.proofs.Ranking.{looks_from}
-use Rattle.orc_split_set.proofs.Sizes.{looks_none, looks_some, size_given, size_moved, size_one}
+use Rattle.orc_split_set.proofs.RootLooks.{look_moved}
+use Rattle.orc_split_set.proofs.Sizes.{looks_none, looks_some, size_given, size_one}
 use Rattle.orc_split_set.proofs.size.read_size.Goals as goal
 
 pub overflow_cast-result : goal.overflow_cast-result
@@ -32,7 +33,7 @@ returns-in-Stable-default-Some-clause-read g c =
 
 pub returns-in-Moved-clause-read : goal.returns-in-Moved-clause-read
 returns-in-Moved-clause-read g c =
-    size_moved _ c.args.most _ _ c.in-Moved.ensures.looked
+    look_moved _ c.args.most _ _ c.in-Moved.ensures.looked
     (g.met.L.Links.allowed _ _ c.in-Moved.ensures.pass)
 
 pub returns-in-Stable-default-None-clause-read : goal.returns-in-Stable-default-None-clause-read
