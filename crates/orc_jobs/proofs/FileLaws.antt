@@ -3,9 +3,12 @@ use Rattle.std.proofs.Common.{◌≡◌, ◌∙◌, ◌<◌, ◌++◌, ◌⊎◌
 use Rattle.std.proofs.lemmas.List.{length-map}
 use Rattle.std.proofs.lemmas.List.Elements.{All-head, All-tail}
 use Rattle.std.proofs.lemmas.Result.{IfErr-weaker, IfOk-weaker, MatchResult-from_both}
-use Rattle.std.specs.Prelude.{IfErr, IfOk, MatchResult}
+use Rattle.std.specs.Prelude.{IfErr, IfOk}
 use Rattle.std.specs.declared.result.Result.{Result}
+use Rattle.orc_jobs.specs.OneRecord.{GivesFault, GivesLines, RefusesFile}
 use Rattle.orc_jobs.specs.RecordFiles.{HasFirst, HasTooMany, IsFile, IsMalformed}
+use Rattle.orc_jobs.specs.declared.records.FileRefused.{FileRefused}
+use Rattle.orc_jobs.specs.declared.records.FileRefused.TheVariants as fault
 
 -- two numbers in order
 in_order : (a b : ℕ) → (a < b) ⊎ ((a ≡ b) ⊎ (b < a))
@@ -22,12 +25,12 @@ pub whether : (P : Type 0) → ¬ ¬ (P ⊎ ¬ P)
 whether P k = k (inr (λ p. k (inl p)))
 
 module _ {C : Type 0} (Applies : C → List (List ℕ) → Type 0) (rank_of : C → ℕ) where
-  -- a record has one cause
-  pub one-cause : ((a b : C) → rank_of a ≡ rank_of b → a ≡ b) → (fields : List (List ℕ)) (a b : C) → HasFirst Applies rank_of fields a
-      → HasFirst Applies rank_of fields b → a ≡ b
-  one-cause same fields a b h k = elim (in_order (rank_of a) (rank_of b)) [
+  -- a record has one cause, where each is known by its rank
+  pub one-cause : (cause_at : ℕ → C) → ((why : C) → cause_at (rank_of why) ≡ why) → (fields : List (List ℕ)) (a b : C)
+      → HasFirst Applies rank_of fields a → HasFirst Applies rank_of fields b → a ≡ b
+  one-cause cause_at ranked fields a b h k = elim (in_order (rank_of a) (rank_of b)) [
     | inl lt ↦ absurd (k.first a lt h.applies)
-    | inr more ↦ elim more [ inl e ↦ same a b e | inr gt ↦ absurd (h.first b gt k.applies) ]
+    | inr more ↦ elim more [ inl e ↦ sym (ranked a) ∙ ap cause_at e ∙ ranked b | inr gt ↦ absurd (h.first b gt k.applies) ]
   ]
 
   -- where no cause is the first that applies, none applies
@@ -47,19 +50,14 @@ same-place record_of (a ∷ as1) (b ∷ bs) x y xs ys n e =
     let same : map record_of as1 ++ (x ∷ xs) ≡ map record_of bs ++ (y ∷ ys) = cc e in
     same-place record_of as1 bs x y xs ys (omega (arith, n)) same
 
--- what is told of bytes that are no file of lines, and what is known of lines and causes
-pub record AreFaults {L C F : Type 0} (record_of : L → List (List ℕ)) (IsLine : L → Type 0) (HasCause : List (List ℕ) → C → Type 0) (malformed : ℕ → C → F)
-    (too_many no_memory : F) (Refuses : List ℕ → F → Type 0) : Type 1 where
-  pub by_cases : (P : F → Type 0) → ((at : ℕ) (why : C) → P (malformed at why)) → P too_many → P no_memory → (f : F) → P f
-  pub malformed_is : (bytes : List ℕ) (at : ℕ) (why : C) → Refuses bytes (malformed at why) → IsMalformed record_of IsLine HasCause bytes at why
-  pub too_many_is : (bytes : List ℕ) → Refuses bytes too_many → HasTooMany record_of IsLine bytes
+-- a line is known by its record and has no cause, and a record has one cause
+pub record AreDetermined {L C : Type 0} (record_of : L → List (List ℕ)) (IsLine : L → Type 0) (HasCause : List (List ℕ) → C → Type 0) : Type 0 where
   pub same_line : (a b : L) → IsLine a → IsLine b → record_of a ≡ record_of b → a ≡ b
   pub no_cause : (l : L) (why : C) → IsLine l → ¬ HasCause (record_of l) why
   pub one_cause : (fields : List (List ℕ)) (a b : C) → HasCause fields a → HasCause fields b → a ≡ b
 
-module _ {L C F : Type 0} {record_of : L → List (List ℕ)} {IsLine : L → Type 0} {HasCause : List (List ℕ) → C → Type 0} {malformed : ℕ → C → F}
-    {too_many no_memory : F} {Refuses : List ℕ → F → Type 0}
-    (faults : AreFaults record_of IsLine HasCause malformed too_many no_memory Refuses) where
+module _ {L C : Type 0} {record_of : L → List (List ℕ)} {IsLine : L → Type 0} {HasCause : List (List ℕ) → C → Type 0}
+    (laws : AreDetermined record_of IsLine HasCause) where
   same-lines : (a b : List L) → All IsLine a → All IsLine b → map record_of a ≡ map record_of b → a ≡ b
   same-lines [] [] h k e = refl
   same-lines [] (y ∷ ys) h k e = cc e
@@ -67,7 +65,7 @@ module _ {L C F : Type 0} {record_of : L → List (List ℕ)} {IsLine : L → Ty
   same-lines (x ∷ xs) (y ∷ ys) h k e =
       let first : record_of x ≡ record_of y = cc e in
       let rest : map record_of xs ≡ map record_of ys = cc e in
-      ap₂ (λ l ls. l ∷ ls) (faults.same_line x y (All-head IsLine x xs h) (All-head IsLine y ys k) first)
+      ap₂ (λ l ls. l ∷ ls) (laws.same_line x y (All-head IsLine x xs h) (All-head IsLine y ys k) first)
       (same-lines xs ys (All-tail IsLine x xs h) (All-tail IsLine y ys k) rest)
 
   -- no record of a list of lines has a cause
@@ -77,7 +75,7 @@ module _ {L C F : Type 0} {record_of : L → List (List ℕ)} {IsLine : L → Ty
   none-bad [] (f ∷ fs) bad rest why each e h = cc e
   none-bad (l ∷ ls) [] bad rest why each e h =
       let same : record_of l ≡ bad = cc e in
-      faults.no_cause l why (All-head IsLine l ls each) (rw same h)
+      laws.no_cause l why (All-head IsLine l ls each) (rw same h)
   none-bad (l ∷ ls) (f ∷ fs) bad rest why each e h =
       let same : map record_of ls ≡ map record_of fs ++ (bad ∷ rest) = cc e in
       none-bad ls fs bad rest why (All-tail IsLine l ls each) same h
@@ -88,7 +86,7 @@ module _ {L C F : Type 0} {record_of : L → List (List ℕ)} {IsLine : L → Ty
   none-bad-before [] front bad more rest why each lt e h = absurd (omega (arith, lt))
   none-bad-before (l ∷ ls) [] bad more rest why each lt e h =
       let same : record_of l ≡ bad = cc e in
-      faults.no_cause l why (All-head IsLine l ls each) (rw same h)
+      laws.no_cause l why (All-head IsLine l ls each) (rw same h)
   none-bad-before (l ∷ ls) (f ∷ fs) bad more rest why each lt e h =
       let same : map record_of ls ++ more ≡ map record_of fs ++ (bad ∷ rest) = cc e in
       none-bad-before ls fs bad more rest why (All-tail IsLine l ls each) (omega (arith, lt)) same h
@@ -116,7 +114,7 @@ module _ {L C F : Type 0} {record_of : L → List (List ℕ)} {IsLine : L → Ty
 
   -- and the first record with a cause is one
   same-refusal : (bytes : List ℕ) (at : ℕ) (why : C) (there : ℕ) (other : C) → IsMalformed record_of IsLine HasCause bytes at why
-      → IsMalformed record_of IsLine HasCause bytes there other → malformed there other ≡ malformed at why
+      → IsMalformed record_of IsLine HasCause bytes there other → ◌≡◌ {A = FileRefused C} (fault.Malformed there other) (fault.Malformed at why)
   same-refusal bytes at why there other x y =
       let place = x.4 in
       let place2 = y.4 in
@@ -125,50 +123,49 @@ module _ {L C F : Type 0} {record_of : L → List (List ℕ)} {IsLine : L → Ty
         | inr more ↦ elim more [
           | inl e ↦
               let same = same-place record_of y.0 x.0 y.1 x.1 y.2 x.2 (omega arith) (sym y.3.records ∙ x.3.records) in
-              ap₂ malformed (sym e) (faults.one_cause x.1 other why (rw (← same) y.6) x.6)
+              ap₂ (λ place cause. fault.Malformed place cause) (sym e) (laws.one_cause x.1 other why (rw (← same) y.6) x.6)
           | inr gt ↦ absurd (none-bad-before x.0 y.0 y.1 (x.1 ∷ x.2) y.2 other x.3.each (omega arith) (sym x.3.records ∙ y.3.records) y.6)
         ]
       ]
 
+  abbrev Refuses : List ℕ → FileRefused C → Type 0
+  Refuses bytes f = RefusesFile record_of IsLine HasCause bytes f
+
   -- a file of lines is refused for want of memory alone
-  file-refused : (bytes : List ℕ) (lines : List L) → IsFile record_of IsLine lines bytes → (f : F) → Refuses bytes f → f ≡ no_memory
-  file-refused bytes lines file =
-      faults.by_cases (λ f. Refuses bytes f → f ≡ no_memory)
-      (λ at why refused. absurd (not-read bytes lines at why (faults.malformed_is bytes at why refused) file))
-      (λ refused. absurd (not-few bytes lines (faults.too_many_is bytes refused) file)) (λ refused. refl)
+  file-refused : (bytes : List ℕ) (lines : List L) → IsFile record_of IsLine lines bytes → (f : FileRefused C) → Refuses bytes f → f ≡ fault.NoMemory
+  file-refused bytes lines file (fault.Malformed at why) refused = absurd (not-read bytes lines at why refused file)
+  file-refused bytes lines file fault.TooMany refused = absurd (not-few bytes lines refused file)
+  file-refused bytes lines file fault.NoMemory refused = refl
 
-  pub one-refusal : (bytes : List ℕ) (at : ℕ) (why : C) → Refuses bytes (malformed at why) → (f : F) → Refuses bytes f
-      → (f ≡ malformed at why) ⊎ (f ≡ no_memory)
-  one-refusal bytes at why bad =
-      let is = faults.malformed_is bytes at why bad in
-      faults.by_cases (λ f. Refuses bytes f → (f ≡ malformed at why) ⊎ (f ≡ no_memory))
-      (λ there other found. inl (same-refusal bytes at why there other is (faults.malformed_is bytes there other found)))
-      (λ found. absurd (not-too-many bytes at why is (faults.too_many_is bytes found))) (λ found. inr refl)
+  pub one-refusal : (bytes : List ℕ) (at : ℕ) (why : C) → Refuses bytes (fault.Malformed at why) → (f : FileRefused C) → Refuses bytes f
+      → (f ≡ fault.Malformed at why) ⊎ (f ≡ fault.NoMemory)
+  one-refusal bytes at why bad (fault.Malformed there other) found = inl (same-refusal bytes at why there other bad found)
+  one-refusal bytes at why bad fault.TooMany found = absurd (not-too-many bytes at why bad found)
+  one-refusal bytes at why bad fault.NoMemory found = inr refl
 
-  refused-many : (bytes : List ℕ) → Refuses bytes too_many → (f : F) → Refuses bytes f → (f ≡ too_many) ⊎ (f ≡ no_memory)
-  refused-many bytes many =
-      faults.by_cases (λ f. Refuses bytes f → (f ≡ too_many) ⊎ (f ≡ no_memory))
-      (λ there other found. absurd (not-too-many bytes there other (faults.malformed_is bytes there other found) (faults.too_many_is bytes many)))
-      (λ found. inl refl) (λ found. inr refl)
+  refused-many : (bytes : List ℕ) → Refuses bytes fault.TooMany → (f : FileRefused C) → Refuses bytes f → (f ≡ fault.TooMany) ⊎ (f ≡ fault.NoMemory)
+  refused-many bytes many (fault.Malformed there other) found = absurd (not-too-many bytes there other found many)
+  refused-many bytes many fault.TooMany found = inl refl
+  refused-many bytes many fault.NoMemory found = inr refl
 
   -- what is read, where lines are read only from their file, and bytes are refused only for what is amiss
-  module _ (bytes : List ℕ) (r : Result (List L) F) (ok : IfOk r (λ lines. IsFile record_of IsLine lines bytes)) (err : IfErr r (Refuses bytes)) where
-    pub reads-file : (file : List L) → IsFile record_of IsLine file bytes → MatchResult r (λ lines. lines ≡ file) (λ e. e ≡ no_memory)
+  module _ (bytes : List ℕ) (r : Result (List L) (FileRefused C)) (ok : IfOk r (λ lines. IsFile record_of IsLine lines bytes)) (err : IfErr r (Refuses bytes)) where
+    pub reads-file : (file : List L) → IsFile record_of IsLine file bytes → GivesLines file r
     reads-file file is =
-        MatchResult-from_both r (λ lines. lines ≡ file) (λ e. e ≡ no_memory)
+        MatchResult-from_both r (λ lines. lines ≡ file) (λ e. e ≡ fault.NoMemory)
         (IfOk-weaker r (λ lines. IsFile record_of IsLine lines bytes) (λ lines. lines ≡ file) (λ lines h. one-reading bytes lines file h is) ok)
-        (IfErr-weaker r (Refuses bytes) (λ e. e ≡ no_memory) (file-refused bytes file is) err)
+        (IfErr-weaker r (Refuses bytes) (λ e. e ≡ fault.NoMemory) (file-refused bytes file is) err)
 
-    pub reads-bad : (at : ℕ) (why : C) → Refuses bytes (malformed at why)
-        → MatchResult r (λ lines. ⊥) (λ e. (e ≡ malformed at why) ⊎ (e ≡ no_memory))
-    reads-bad at why is =
-        MatchResult-from_both r (λ lines. ⊥) (λ e. (e ≡ malformed at why) ⊎ (e ≡ no_memory))
-        (IfOk-weaker r (λ lines. IsFile record_of IsLine lines bytes) (λ lines. ⊥)
-        (λ lines h. not-read bytes lines at why (faults.malformed_is bytes at why is) h) ok)
-        (IfErr-weaker r (Refuses bytes) (λ e. (e ≡ malformed at why) ⊎ (e ≡ no_memory)) (one-refusal bytes at why is) err)
+    -- no line is read of other bytes
+    refused-with : (why : FileRefused C) → ((lines : List L) → ¬ IsFile record_of IsLine lines bytes)
+        → ((f : FileRefused C) → Refuses bytes f → (f ≡ why) ⊎ (f ≡ fault.NoMemory)) → GivesFault why r
+    refused-with why none one =
+        MatchResult-from_both r (λ lines. ⊥) (λ e. (e ≡ why) ⊎ (e ≡ fault.NoMemory))
+        (IfOk-weaker r (λ lines. IsFile record_of IsLine lines bytes) (λ lines. ⊥) none ok)
+        (IfErr-weaker r (Refuses bytes) (λ e. (e ≡ why) ⊎ (e ≡ fault.NoMemory)) one err)
 
-    pub reads-many : Refuses bytes too_many → MatchResult r (λ lines. ⊥) (λ e. (e ≡ too_many) ⊎ (e ≡ no_memory))
-    reads-many is =
-        MatchResult-from_both r (λ lines. ⊥) (λ e. (e ≡ too_many) ⊎ (e ≡ no_memory))
-        (IfOk-weaker r (λ lines. IsFile record_of IsLine lines bytes) (λ lines. ⊥) (λ lines h. not-few bytes lines (faults.too_many_is bytes is) h) ok)
-        (IfErr-weaker r (Refuses bytes) (λ e. (e ≡ too_many) ⊎ (e ≡ no_memory)) (refused-many bytes is) err)
+    pub reads-bad : (at : ℕ) (why : C) → Refuses bytes (fault.Malformed at why) → GivesFault (fault.Malformed at why) r
+    reads-bad at why is = refused-with (fault.Malformed at why) (λ lines. not-read bytes lines at why is) (one-refusal bytes at why is)
+
+    pub reads-many : Refuses bytes fault.TooMany → GivesFault fault.TooMany r
+    reads-many is = refused-with fault.TooMany (λ lines. not-few bytes lines is) (refused-many bytes is)

@@ -3,19 +3,19 @@ use Rattle.std.proofs.Common.{◌≡◌, ◌≢◌, ◌∙◌, ◌<◌, ◌^◌,
 use Rattle.std.proofs.lemmas.List.Elements.{All-cons, All-nil}
 use Rattle.std.specs.Fmt.{decimal}
 use Rattle.orc_jobs.proofs.Fields.{IsUtf8-decimal, first-byte, first-field}
-use Rattle.orc_jobs.proofs.FileLaws.{AreFaults, one-cause, one-reading, one-refusal}
+use Rattle.orc_jobs.proofs.FileLaws.{AreDetermined, one-cause, one-reading, one-refusal}
 use Rattle.std.proofs.lemmas.Fmt.{decimal_injective}
 use Rattle.orc_jobs.specs.JobGrammar.{Applies, HasCause, IsFileOf, IsLine, Refuses, TakesText, rank_of, record_of, word_of}
 use Rattle.orc_jobs.specs.Line.{job_line}
 use Rattle.orc_jobs.specs.Numbers.{IsNumberList}
 use Rattle.orc_jobs.specs.declared.cause.Cause.{Cause}
 use Rattle.orc_jobs.specs.declared.cause.Cause.TheVariants as cause
-use Rattle.orc_jobs.specs.declared.cause.JobsFault.{JobsFault}
-use Rattle.orc_jobs.specs.declared.cause.JobsFault.TheVariants as fault
 use Rattle.orc_jobs.specs.declared.line.Job.{Job}
 use Rattle.orc_jobs.specs.declared.line.Job.TheVariants as job
 use Rattle.orc_jobs.specs.declared.line.Line.{Line}
 use Rattle.orc_jobs.specs.declared.line.Line.TheVariants as line
+use Rattle.orc_jobs.specs.declared.records.FileRefused.{FileRefused}
+use Rattle.orc_jobs.specs.declared.records.FileRefused.TheVariants as fault
 
 -- ---- lines and causes
 
@@ -97,25 +97,19 @@ not-applies (line.Drop id) h cause.Id bad = bad (id, h, refl)
 not-applies (line.Drop id) h cause.Op bad = bad.0 refl
 not-applies (line.Drop id) h cause.Sum bad = bad.0 refl
 
-pub no-cause : (l : Line) (why : Cause) → IsLine l → ¬ HasCause (record_of l) why
-no-cause l why h bad = not-applies l h why bad.applies
-
-cause_at : ℕ → Cause
+-- the cause of a rank
+abbrev cause_at : ℕ → Cause
 cause_at n =
     if n == 0 then cause.Fields else if n == 1 then cause.Utf8 else if n == 2 then cause.Verb
     else if n == 3 then cause.Id else if n == 4 then cause.Op else cause.Sum
 
 cause_at-rank_of : (why : Cause) → cause_at (rank_of why) ≡ why
-unfolding cause_at
 cause_at-rank_of cause.Fields = refl
 cause_at-rank_of cause.Utf8 = refl
 cause_at-rank_of cause.Verb = refl
 cause_at-rank_of cause.Id = refl
 cause_at-rank_of cause.Op = refl
 cause_at-rank_of cause.Sum = refl
-
-same-rank : (a b : Cause) → rank_of a ≡ rank_of b → a ≡ b
-same-rank a b e = sym (cause_at-rank_of a) ∙ ap cause_at e ∙ cause_at-rank_of b
 
 same-op : (a b : Job) → word_of a ≡ word_of b → a ≡ b
 same-op job.Bytes job.Bytes e = refl
@@ -157,27 +151,17 @@ same-line (line.Drop i) (line.Drop j) h k e =
     let ids : decimal i ≡ decimal j = ap (λ r. get_or r 1 []) e in
     ap (λ x. line.Drop x) (decimal_injective i j (omega (arith, h)) (omega (arith, k)) ids)
 
--- ---- faults
-
-by_cases : (P : JobsFault → Type 0) → ((at : ℕ) (why : Cause) → P (fault.Malformed at why)) → P fault.TooMany → P fault.NoMemory → (f : JobsFault) → P f
-by_cases P malformed many none (fault.Malformed at why) = malformed at why
-by_cases P malformed many none fault.TooMany = many
-by_cases P malformed many none fault.NoMemory = none
-
-pub faults : AreFaults record_of IsLine HasCause (λ at why. fault.Malformed at why) fault.TooMany fault.NoMemory Refuses
-faults = record {
-  by_cases = by_cases;
-  malformed_is = λ bytes at why refused. refused;
-  too_many_is = λ bytes refused. refused;
+pub laws : AreDetermined record_of IsLine HasCause
+laws = record {
   same_line = same-line;
-  no_cause = no-cause;
-  one_cause = one-cause Applies rank_of same-rank;
+  no_cause = λ l why h bad. not-applies l h why bad.applies;
+  one_cause = one-cause Applies rank_of cause_at cause_at-rank_of;
 }
 
 -- a file has one reading, and a refused one another fault at most where memory suffices
 pub file-read : (bytes : List ℕ) (a b : List Line) → IsFileOf a bytes → IsFileOf b bytes → a ≡ b
-file-read bytes a b x y = one-reading faults bytes a b x y
+file-read bytes a b x y = one-reading laws bytes a b x y
 
-pub refused-bad : (bytes : List ℕ) (at : ℕ) (why : Cause) (f : JobsFault) → Refuses bytes (fault.Malformed at why) → Refuses bytes f
+pub refused-bad : (bytes : List ℕ) (at : ℕ) (why : Cause) (f : FileRefused Cause) → Refuses bytes (fault.Malformed at why) → Refuses bytes f
     → (f ≡ fault.Malformed at why) ⊎ (f ≡ fault.NoMemory)
-refused-bad bytes at why f bad found = one-refusal faults bytes at why bad f found
+refused-bad bytes at why f bad found = one-refusal laws bytes at why bad f found

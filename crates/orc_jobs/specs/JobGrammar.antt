@@ -2,16 +2,16 @@
 use Rattle.std.specs.Prelude.{◌≡◌, ◌≢◌, ◌^◌, ◌<◌, ◌⊎◌, ◌∷◌, All, IsUtf8, List, [], ℕ, codes, length, ⊤}
 use Rattle.std.specs.Fmt.{decimal}
 pub use Rattle.orc_jobs.specs.RecordFiles.{field, records_of}
-use Rattle.orc_jobs.specs.RecordFiles.{HasFirst, HasTooMany, IsFile, IsMalformed}
+use Rattle.orc_jobs.specs.OneRecord.{RefusesFile}
+use Rattle.orc_jobs.specs.RecordFiles.{HasFirst, IsFile}
 use Rattle.orc_jobs.specs.Numbers.{IsNumber, IsNumberList}
 use Rattle.orc_jobs.specs.declared.cause.Cause.{Cause}
 use Rattle.orc_jobs.specs.declared.cause.Cause.TheVariants as cause
-use Rattle.orc_jobs.specs.declared.cause.JobsFault.{JobsFault}
-use Rattle.orc_jobs.specs.declared.cause.JobsFault.TheVariants as fault
 use Rattle.orc_jobs.specs.declared.line.Job.{Job}
 use Rattle.orc_jobs.specs.declared.line.Job.TheVariants as job
 use Rattle.orc_jobs.specs.declared.line.Line.{Line}
 use Rattle.orc_jobs.specs.declared.line.Line.TheVariants as line
+use Rattle.orc_jobs.specs.declared.records.FileRefused.{FileRefused}
 
 -- the word of an operation
 abbrev pub word_of : Job → List ℕ
@@ -67,8 +67,6 @@ rank_of cause.Sum = 5
 abbrev pub HasCause : List (List ℕ) → Cause → Type 0
 HasCause fields why = HasFirst Applies rank_of fields why
 
--- the bytes are refused with this fault: some lines, and then a record with a cause within the first 65,535; or 65,535 lines, and then any record
-abbrev pub Refuses : List ℕ → JobsFault → Type 0
-Refuses bytes (fault.Malformed at why) = IsMalformed record_of IsLine HasCause bytes at why
-Refuses bytes fault.TooMany = HasTooMany record_of IsLine bytes
-Refuses bytes fault.NoMemory = ⊤
+-- the bytes are refused with this fault
+abbrev pub Refuses : List ℕ → FileRefused Cause → Type 0
+Refuses bytes why = RefusesFile record_of IsLine HasCause bytes why

@@ -1,5 +1,6 @@
 -- What is done with one record, behind the lines of the earlier ones, and why the bytes of all are refused.
-use Rattle.std.specs.Prelude.{◌≡◌, ◌<◌, List, ℕ, length, ⊤}
+use Rattle.std.specs.Prelude.{◌≡◌, ◌<◌, ◌⊎◌, List, MatchResult, ℕ, length, ⊤}
+use Rattle.std.specs.declared.result.Result.{Result}
 use Rattle.orc_jobs.specs.RecordFiles.{HasTooMany, IsMalformed}
 use Rattle.orc_jobs.specs.declared.from_record.RecordRefused.{RecordRefused}
 use Rattle.orc_jobs.specs.declared.from_record.RecordRefused.TheVariants as refused
@@ -22,3 +23,11 @@ abbrev pub RefusesFile : {L C : Type 0} → (L → List (List ℕ)) → (L → T
 RefusesFile record_of IsLine HasCause bytes (fault.Malformed at why) = IsMalformed record_of IsLine HasCause bytes at why
 RefusesFile record_of IsLine HasCause bytes fault.TooMany = HasTooMany record_of IsLine bytes
 RefusesFile record_of IsLine HasCause bytes fault.NoMemory = ⊤
+
+-- these lines are read, unless memory runs out
+abbrev pub GivesLines : {L C : Type 0} → List L → Result (List L) (FileRefused C) → Type 0
+GivesLines file r = MatchResult r (λ lines. lines ≡ file) (λ e. e ≡ fault.NoMemory)
+
+-- no line is read, and this fault is told, unless memory runs out
+abbrev pub GivesFault : {L C : Type 0} → FileRefused C → Result (List L) (FileRefused C) → Type 0
+GivesFault why r = MatchResult r (λ _. ⊥) (λ e. (e ≡ why) ⊎ (e ≡ fault.NoMemory))

@@ -1,8 +1,3 @@
-ghost use Rattle.std.specs.Prelude.{◌≡◌};
-ghost use Rattle.orc_jobs.specs.declared.cause.JobsFault.TheVariants.{NoMemory as Refused};
-
-use orc_fault::NoMemory;
-
 /// What is wrong with a record. Where several causes apply, the first in this order is told.
 #[derive(Clone, Copy, Debug, PartialEq, Eq, Drop)]
 pub enum Cause {
@@ -18,22 +13,4 @@ pub enum Cause {
     Op,
     /// The text of a `sum` is neither empty nor canonical decimals below 2^32 that single spaces part.
     Sum,
-}
-
-/// Why bytes are no job file.
-#[derive(Clone, Copy, Debug, PartialEq, Eq, Drop)]
-pub enum JobsFault {
-    /// The record of this number, from 0, is the first that has a cause.
-    Malformed { line: u32, cause: Cause },
-    /// There are 65,535 lines, and then a further record.
-    TooMany,
-    NoMemory,
-}
-
-impl From<NoMemory> for JobsFault {
-    ghost from_gives = { λ _ e. e ≡ Refused };
-
-    fn from(_refused: NoMemory) -> JobsFault {
-        JobsFault::NoMemory
-    }
 }

@@ -16,13 +16,13 @@ mod records;
 mod text;
 mod value;
 
-pub use cause::{Cause, JobsFault};
+pub use cause::Cause;
 pub use from_record::{FromRecord, RecordRefused};
 pub use generated::make_lines;
 pub use generated_text::{generated_lines_are_read, lines_text};
 pub use laws::{records_are_determined, values_are_determined};
 pub use line::{Job, Line};
-pub use lines::{Lines, MOST_BYTES};
+pub use lines::{LineList, Lines, MOST_BYTES};
 pub use number::number_of;
 pub use read::read_jobs;
 pub use record_fields::{field_of, is_text, is_word};

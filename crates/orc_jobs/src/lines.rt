@@ -10,38 +10,33 @@ pub const MOST_BYTES: usize = 16_777_216;
 
 /// A list of lines.
 #[derive(Drop, Debug)]
-pub struct Lines {
-    items: Vec<Line>,
+pub struct LineList<L> {
+    items: Vec<L>,
 }
 
-impl Model for Lines {
-    ghost use Rattle.std.specs.Prelude.{List};
-    ghost use Rattle.orc_jobs.specs.declared.line.Line.{Line};
+/// The lines of a job file.
+pub type Lines = LineList<Line>;
 
-    ghost Value = { List Line };
+impl<L> Model for LineList<L> {
+    ghost use Rattle.std.specs.Prelude.{List};
+
+    ghost Value = { List L };
 
     ghost view = { λ t. t.items.items };
 }
 
-impl Lines {
+impl<L: Drop> LineList<L> {
     /// No line; it takes no memory.
-    pub fn new(alloc: Global) -> Lines
+    pub fn new(alloc: Global) -> Self
         ensures { result ≡ [] }
     {
-        Lines {
+        LineList {
             items: Vec::new(alloc),
         }
     }
 
-    // These lines; it takes no memory.
-    pub(crate) fn from_vec(items: Vec<Line>) -> Lines
-        ensures { result ≡ items.items }
-    {
-        Lines { items }
-    }
-
     /// Appends a line, or changes nothing.
-    pub fn push(&mut self, item: Line) -> Result<(), NoMemory>
+    pub fn push(&mut self, item: L) -> Result<(), NoMemory>
         ensures ok { OnOk result (self.new ≡ self.old ++ item ∷ []) }
         ensures err { OnErr result (self.new ≡ self.old) }
     {
@@ -57,7 +52,7 @@ impl Lines {
     }
 
     /// The line at a place, from 0.
-    pub fn get(&self, index: usize) -> &Line
+    pub fn get(&self, index: usize) -> &L
         requires { index < length self.now }
         ensures { slice_get self.now index ≡ Some result.now }
     {

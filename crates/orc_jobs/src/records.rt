@@ -5,7 +5,7 @@ ghost use Rattle.csv.specs.Reading.{NotLengths, error_kind};
 ghost use Rattle.orc_jobs.specs.OneRecord.{RefusesFile, RefusesRecord};
 ghost use Rattle.orc_jobs.specs.RecordFiles.{IsFile, TakesRecord};
 
-use crate::{FromRecord, RecordRefused};
+use crate::{FromRecord, LineList, RecordRefused};
 use csv::{ByteRecord, Error, ErrorKind, ReaderBuilder};
 use std::alloc::Global;
 
@@ -13,7 +13,7 @@ use std::alloc::Global;
 const MOST_RECORDS: usize = 65535;
 
 /// Why bytes are no file of lines.
-#[derive(Debug, Drop)]
+#[derive(Clone, Copy, Debug, PartialEq, Eq, Drop)]
 pub enum FileRefused<C> {
     /// The record of this number, from 0, is the first that has a cause.
     Malformed { line: u32, cause: C },
@@ -27,15 +27,15 @@ pub enum FileRefused<C> {
 pub fn read_records<L: FromRecord>(
     alloc: Global,
     bytes: &[u8],
-) -> Result<Vec<L>, FileRefused<L::Cause>>
-    ensures ok { IfOk result (λ lines. IsFile L.spelling L.is_line lines.items bytes.now) }
+) -> Result<LineList<L>, FileRefused<L::Cause>>
+    ensures ok { IfOk result (λ lines. IsFile L.spelling L.is_line lines bytes.now) }
     ensures err { IfErr result (RefusesFile L.spelling L.is_line L.has_cause bytes.now) }
 {
     let reader = ReaderBuilder::new()
         .has_headers(false)
         .flexible(true)
         .from_reader(alloc, bytes);
-    let mut lines = Vec::new(alloc);
+    let mut lines = LineList::new(alloc);
     for row in reader.into_byte_records() {
         let row = match row {
             Ok(row) => row,
@@ -62,11 +62,11 @@ fn fault_of<C>(error: Error) -> FileRefused<C>
 fn take_record<L: FromRecord>(
     alloc: Global,
     row: &ByteRecord,
-    lines: &mut Vec<L>,
+    lines: &mut LineList<L>,
 ) -> Result<(), FileRefused<L::Cause>>
-    requires { length lines.old.items ≤ 65535 }
-    ensures ok { OnOk result (TakesRecord L.spelling L.is_line lines.old.items lines.new.items (fields_of row.now)) }
-    ensures err { IfErr result (RefusesRecord L.has_cause lines.old.items (fields_of row.now)) }
+    requires { length lines.old ≤ 65535 }
+    ensures ok { OnOk result (TakesRecord L.spelling L.is_line lines.old lines.new (fields_of row.now)) }
+    ensures err { IfErr result (RefusesRecord L.has_cause lines.old (fields_of row.now)) }
 {
     let place = lines.len();
     if place >= MOST_RECORDS {

@@ -7,8 +7,9 @@ use Rattle.orc_program.specs.Answers.{AnswersFile}
 use Rattle.orc_program.specs.Ended.{NothingEnded}
 use Rattle.orc_program.specs.Refusals.{RefusesJobs, input_too_large, malformed_line}
 use Rattle.orc_jobs.specs.JobGrammar.{IsFileOf, Refuses}
-use Rattle.orc_jobs.specs.declared.cause.JobsFault.{JobsFault}
-use Rattle.orc_jobs.specs.declared.cause.JobsFault.TheVariants as fault
+use Rattle.orc_jobs.specs.declared.cause.Cause.{Cause}
+use Rattle.orc_jobs.specs.declared.records.FileRefused.{FileRefused}
+use Rattle.orc_jobs.specs.declared.records.FileRefused.TheVariants as fault
 use Rattle.orc_jobs.specs.declared.line.Line.{Line}
 
 module _ {L C : Type 0} (is_file : List L → Type 0) (is_bad : ℕ → C → Type 0) (line : ℕ → C → List ℕ) (has_told : List L → List ℕ → Type 0) (ended : Ended)
@@ -47,7 +48,7 @@ module _ {L C : Type 0} (is_file : List L → Type 0) (is_bad : ℕ → C → Ty
       not_many many few none is (inr (three, new, named)) = none named.place named.why named.refused is
 
 -- a job file that is refused is answered, or has too many records
-pub jobs_refused : {E : Type 0} (bytes : List ℕ) (has_told : List Line → List ℕ → Type 0) (ended : Ended) (why : JobsFault) (r : Result Answer E)
+pub jobs_refused : {E : Type 0} (bytes : List ℕ) (has_told : List Line → List ℕ → Type 0) (ended : Ended) (why : FileRefused Cause) (r : Result Answer E)
     → Refuses bytes why → NothingEnded ended → IfOk r (λ (a : Answer). RefusesJobs why a.status a.text)
     → IfOk r (IsTheAnswer (λ lines. IsFileOf lines bytes) (λ place cause. Refuses bytes (fault.Malformed place cause)) malformed_line has_told ended
     (λ a. (a.status ≡ 6) × NothingEnded ended × Refuses bytes fault.TooMany × (a.text ≡ input_too_large)))

@@ -1,12 +1,13 @@
 -- Settings and bytes have one answer.
 use Rattle.std.proofs.Common.{◌≡◌, ◌≢◌, ◌∙◌, ◌≤◌, ◌⊎◌, List, [], ℕ, Ok, ap, arith, inl, inr, length, subst}
 use Rattle.orc_jobs.specs.JobGrammar.{IsFileOf, Refuses}
+use Rattle.orc_jobs.specs.OneRecord.{RefusesFile}
 use Rattle.orc_jobs.specs.declared.cause.Cause.{Cause}
-use Rattle.orc_jobs.specs.declared.cause.JobsFault.{JobsFault}
-use Rattle.orc_jobs.specs.declared.cause.JobsFault.TheVariants as fault
+use Rattle.orc_jobs.specs.declared.records.FileRefused.{FileRefused}
+use Rattle.orc_jobs.specs.declared.records.FileRefused.TheVariants as fault
 use Rattle.orc_jobs.specs.declared.line.Line.{Line}
-use Rattle.orc_jobs.proofs.FileLaws.{not-few, not-read, one-refusal}
-use Rattle.orc_jobs.proofs.GrammarLaws.{faults}
+use Rattle.orc_jobs.proofs.FileLaws.{AreDetermined, not-few, not-read, one-refusal}
+use Rattle.orc_jobs.proofs.GrammarLaws.{laws}
 use Rattle.orc_trace.specs.Answers.{audit_lines, fault_line, replay_line}
 use Rattle.orc_trace.specs.Audit.{IsAudit}
 use Rattle.orc_trace.specs.Replay.{IsReplay, RefusesTrace}
@@ -27,46 +28,29 @@ use Rattle.orc_program.specs.Ended.{HasReported, TellsStages, HasWatched}
 use Rattle.orc_jobs.specs.declared.lines.TheConstants.{MOST_BYTES}
 use Rattle.orc_program.specs.Refusals.{input_too_large, malformed_line, malformed_watch}
 use Rattle.orc_program.proofs.Files.{not_many as no_answer, of_file, of_record}
-use Rattle.orc_watch.proofs.GrammarLaws.{faults as watch_faults}
+use Rattle.orc_watch.proofs.GrammarLaws.{laws as watch_laws}
 use Rattle.orc_watch.specs.WatchGrammar.{IsFileOf as IsWatchFile, Refuses as RefusesWatch}
-use Rattle.orc_watch.specs.declared.fault.WatchCause.{WatchCause}
-use Rattle.orc_watch.specs.declared.fault.WatchFault.{WatchFault}
-use Rattle.orc_watch.specs.declared.fault.WatchFault.TheVariants as watch
+use Rattle.orc_watch.specs.declared.cause.WatchCause.{WatchCause}
 use Rattle.orc_watch.specs.declared.line.WatchLine.{WatchLine}
 
--- the line of a fault that names a record
-abbrev line_of : JobsFault → List ℕ
-line_of (fault.Malformed place why) = malformed_line place why
-line_of fault.TooMany = []
-line_of fault.NoMemory = []
+-- a record that is refused is the first, so there is one line, and not too many records
+module _ {L C : Type 0} {record_of : L → List (List ℕ)} {IsLine : L → Type 0} {HasCause : List (List ℕ) → C → Type 0}
+    (laws : AreDetermined record_of IsLine HasCause) (line : ℕ → C → List ℕ) (bytes : List ℕ) (place : ℕ) (why : C) where
+  -- the line of a fault that names a record
+  abbrev line_of : FileRefused C → List ℕ
+  line_of (fault.Malformed p w) = line p w
+  line_of fault.TooMany = []
+  line_of fault.NoMemory = []
 
-abbrev watch_line_of : WatchFault → List ℕ
-watch_line_of (watch.Malformed place why) = malformed_watch place why
-watch_line_of watch.TooMany = []
-watch_line_of watch.NoMemory = []
+  one_line : (p : ℕ) (w : C) → RefusesFile record_of IsLine HasCause bytes (fault.Malformed place why)
+      → RefusesFile record_of IsLine HasCause bytes (fault.Malformed p w) → line p w ≡ line place why
+  one_line p w bad found = elim (one-refusal laws bytes place why bad (fault.Malformed p w) found) [
+    | inl same ↦ ap line_of same
+    | inr memory ↦ let n : ⊥ = cc memory in absurd n
+  ]
 
--- a record that is refused is the first, so there is one line
-one_line : (bytes : List ℕ) (place : ℕ) (why : Cause) (p : ℕ) (w : Cause) → Refuses bytes (fault.Malformed place why)
-    → Refuses bytes (fault.Malformed p w) → malformed_line p w ≡ malformed_line place why
-one_line bytes place why p w bad found = elim (one-refusal faults bytes place why bad (fault.Malformed p w) found) [
-  | inl same ↦ ap line_of same
-  | inr memory ↦ let n : ⊥ = cc memory in absurd n
-]
-
-not_many : (bytes : List ℕ) (place : ℕ) (why : Cause) → Refuses bytes (fault.Malformed place why) → Refuses bytes fault.TooMany → ⊥
-not_many bytes place why bad many = elim (one-refusal faults bytes place why bad fault.TooMany many) [ inl same ↦ cc same | inr memory ↦ cc memory ]
-
--- the same of a watch file
-one_watch_line : (bytes : List ℕ) (place : ℕ) (why : WatchCause) (p : ℕ) (w : WatchCause) → RefusesWatch bytes (watch.Malformed place why)
-    → RefusesWatch bytes (watch.Malformed p w) → malformed_watch p w ≡ malformed_watch place why
-one_watch_line bytes place why p w bad found = elim (one-refusal watch_faults bytes place why bad (watch.Malformed p w) found) [
-  | inl same ↦ ap watch_line_of same
-  | inr memory ↦ let n : ⊥ = cc memory in absurd n
-]
-
-not_many_watched : (bytes : List ℕ) (place : ℕ) (why : WatchCause) → RefusesWatch bytes (watch.Malformed place why) → RefusesWatch bytes watch.TooMany → ⊥
-not_many_watched bytes place why bad many =
-    elim (one-refusal watch_faults bytes place why bad watch.TooMany many) [ inl same ↦ cc same | inr memory ↦ cc memory ]
+  not_many : RefusesFile record_of IsLine HasCause bytes (fault.Malformed place why) → RefusesFile record_of IsLine HasCause bytes fault.TooMany → ⊥
+  not_many bad many = elim (one-refusal laws bytes place why bad fault.TooMany many) [ inl same ↦ cc same | inr memory ↦ cc memory ]
 
 -- none of these is the status of a failed read or write, or of want of memory
 pub no_failure : (n : ℕ) → (n ≡ 0) ⊎ (n ≡ 3) ⊎ (n ≡ 6) ⊎ (n ≡ 8) → (n ≢ 4) × (n ≢ 5) × (n ≢ 7)
@@ -89,53 +73,53 @@ module _ (s : Settings) (bytes : List ℕ) (e : Ended) (status : ℕ) (text : Li
   IsBad place why = Refuses bytes (fault.Malformed place why)
 
   abbrev IsWatchBad : ℕ → WatchCause → Type 0
-  IsWatchBad place why = RefusesWatch bytes (watch.Malformed place why)
+  IsWatchBad place why = RefusesWatch bytes (fault.Malformed place why)
 
   pub file : ProgramAnswers s bytes e status text → s.mode ≡ mode.Run → length bytes ≤ MOST_BYTES → (lines : List Line) → IsFileOf lines bytes → status ≡ 0
   file a run few lines is =
-      of_file (λ ls. IsFileOf ls bytes) IsBad malformed_line (λ ls t. HasReported ls s e t) e (not-read faults bytes) status text lines is
-      (in_mode mode.Run a run few (λ many. not-few faults bytes lines many is))
+      of_file (λ ls. IsFileOf ls bytes) IsBad malformed_line (λ ls t. HasReported ls s e t) e (not-read laws bytes) status text lines is
+      (in_mode mode.Run a run few (λ many. not-few laws bytes lines many is))
 
   pub refused : ProgramAnswers s bytes e status text → s.mode ≡ mode.Run → length bytes ≤ MOST_BYTES → (place : ℕ) (why : Cause)
       → Refuses bytes (fault.Malformed place why) → (status ≡ 3) × (text ≡ malformed_line place why)
   refused a run few place why bad =
-      of_record (λ ls. IsFileOf ls bytes) IsBad malformed_line (λ ls t. HasReported ls s e t) e (not-read faults bytes) status text (one_line bytes) place why bad
-      (in_mode mode.Run a run few (λ many. not_many bytes place why bad many))
+      of_record (λ ls. IsFileOf ls bytes) IsBad malformed_line (λ ls t. HasReported ls s e t) e (not-read laws bytes) status text (one_line laws malformed_line bytes) place why bad
+      (in_mode mode.Run a run few (λ many. not_many laws malformed_line bytes place why bad many))
 
   pub watch_file : ProgramAnswers s bytes e status text → s.mode ≡ mode.Watch → length bytes ≤ MOST_BYTES → (lines : List WatchLine) → IsWatchFile lines bytes
       → status ≡ 0
   watch_file a asks few lines is =
-      of_file (λ ls. IsWatchFile ls bytes) IsWatchBad malformed_watch (λ ls t. HasWatched ls s e t) e (not-read watch_faults bytes) status text lines is
-      (in_mode mode.Watch a asks few (λ many. not-few watch_faults bytes lines many is))
+      of_file (λ ls. IsWatchFile ls bytes) IsWatchBad malformed_watch (λ ls t. HasWatched ls s e t) e (not-read watch_laws bytes) status text lines is
+      (in_mode mode.Watch a asks few (λ many. not-few watch_laws bytes lines many is))
 
   pub watch_refused : ProgramAnswers s bytes e status text → s.mode ≡ mode.Watch → length bytes ≤ MOST_BYTES → (place : ℕ) (why : WatchCause)
-      → RefusesWatch bytes (watch.Malformed place why) → (status ≡ 3) × (text ≡ malformed_watch place why)
+      → RefusesWatch bytes (fault.Malformed place why) → (status ≡ 3) × (text ≡ malformed_watch place why)
   watch_refused a asks few place why bad =
-      of_record (λ ls. IsWatchFile ls bytes) IsWatchBad malformed_watch (λ ls t. HasWatched ls s e t) e (not-read watch_faults bytes) status text
-      (one_watch_line bytes) place why bad (in_mode mode.Watch a asks few (λ many. not_many_watched bytes place why bad many))
+      of_record (λ ls. IsWatchFile ls bytes) IsWatchBad malformed_watch (λ ls t. HasWatched ls s e t) e (not-read watch_laws bytes) status text
+      (one_line watch_laws malformed_watch bytes) place why bad (in_mode mode.Watch a asks few (λ many. not_many watch_laws malformed_watch bytes place why bad many))
 
   pub stages_file : ProgramAnswers s bytes e status text → s.mode ≡ mode.Stages → length bytes ≤ MOST_BYTES → (lines : List Line) → IsFileOf lines bytes
       → status ≡ 0
   stages_file a asks few lines is =
-      of_file (λ ls. IsFileOf ls bytes) IsBad malformed_line (λ ls t. TellsStages ls s e t) e (not-read faults bytes) status text lines is
-      (in_mode mode.Stages a asks few (λ many. not-few faults bytes lines many is))
+      of_file (λ ls. IsFileOf ls bytes) IsBad malformed_line (λ ls t. TellsStages ls s e t) e (not-read laws bytes) status text lines is
+      (in_mode mode.Stages a asks few (λ many. not-few laws bytes lines many is))
 
   pub stages_refused : ProgramAnswers s bytes e status text → s.mode ≡ mode.Stages → length bytes ≤ MOST_BYTES → (place : ℕ) (why : Cause)
       → Refuses bytes (fault.Malformed place why) → (status ≡ 3) × (text ≡ malformed_line place why)
   stages_refused a asks few place why bad =
-      of_record (λ ls. IsFileOf ls bytes) IsBad malformed_line (λ ls t. TellsStages ls s e t) e (not-read faults bytes) status text (one_line bytes) place why bad
-      (in_mode mode.Stages a asks few (λ many. not_many bytes place why bad many))
+      of_record (λ ls. IsFileOf ls bytes) IsBad malformed_line (λ ls t. TellsStages ls s e t) e (not-read laws bytes) status text (one_line laws malformed_line bytes) place why bad
+      (in_mode mode.Stages a asks few (λ many. not_many laws malformed_line bytes place why bad many))
 
   not_answered : (m : Mode) → HasTooManyRecords m bytes → ModeAnswers m s bytes e status text → ⊥
   not_answered mode.Run many a =
-      no_answer (λ ls. IsFileOf ls bytes) IsBad malformed_line (λ ls t. HasReported ls s e t) e (not-read faults bytes) status text (Refuses bytes fault.TooMany)
-      (λ lines file is. not-few faults bytes lines is file) (not_many bytes) many a
+      no_answer (λ ls. IsFileOf ls bytes) IsBad malformed_line (λ ls t. HasReported ls s e t) e (not-read laws bytes) status text (Refuses bytes fault.TooMany)
+      (λ lines file is. not-few laws bytes lines is file) (not_many laws malformed_line bytes) many a
   not_answered mode.Watch many a =
-      no_answer (λ ls. IsWatchFile ls bytes) IsWatchBad malformed_watch (λ ls t. HasWatched ls s e t) e (not-read watch_faults bytes) status text
-      (RefusesWatch bytes watch.TooMany) (λ lines file is. not-few watch_faults bytes lines is file) (not_many_watched bytes) many a
+      no_answer (λ ls. IsWatchFile ls bytes) IsWatchBad malformed_watch (λ ls t. HasWatched ls s e t) e (not-read watch_laws bytes) status text
+      (RefusesWatch bytes fault.TooMany) (λ lines file is. not-few watch_laws bytes lines is file) (not_many watch_laws malformed_watch bytes) many a
   not_answered mode.Stages many a =
-      no_answer (λ ls. IsFileOf ls bytes) IsBad malformed_line (λ ls t. TellsStages ls s e t) e (not-read faults bytes) status text (Refuses bytes fault.TooMany)
-      (λ lines file is. not-few faults bytes lines is file) (not_many bytes) many a
+      no_answer (λ ls. IsFileOf ls bytes) IsBad malformed_line (λ ls t. TellsStages ls s e t) e (not-read laws bytes) status text (Refuses bytes fault.TooMany)
+      (λ lines file is. not-few laws bytes lines is file) (not_many laws malformed_line bytes) many a
   not_answered mode.Make many a = many
   not_answered mode.Trial many a = many
   not_answered mode.Replay many a = many

@@ -3,9 +3,8 @@ use Rattle.std.specs.Prelude.{◌≡◌, ◌≢◌, ◌<◌, ◌≤◌, ◌⊎�
 use Rattle.std.specs.Io.KnownBytes.{Consumes, IsAtEnd}
 use Rattle.orc_jobs.specs.Generated.{text_of_lines}
 use Rattle.orc_jobs.specs.JobGrammar.{IsFileOf, Refuses}
-use Rattle.orc_jobs.specs.declared.cause.JobsFault.TheVariants as fault
+use Rattle.orc_jobs.specs.declared.records.FileRefused.TheVariants as fault
 use Rattle.orc_watch.specs.WatchGrammar.{IsFileOf as IsWatchFile, Refuses as RefusesWatch}
-use Rattle.orc_watch.specs.declared.fault.WatchFault.TheVariants as watch
 use Rattle.orc_trace.specs.declared.answers.Audit.{Audit}
 use Rattle.orc_trace.specs.declared.answers.Replayed.{Replayed}
 use Rattle.orc_trace.specs.declared.answers.TraceFault.{TraceFault}
@@ -59,7 +58,7 @@ AnswersJobs settings bytes ended = AnswersFile (λ lines. IsFileOf lines bytes) 
     (λ lines text. HasReported lines settings ended text) ended
 
 abbrev pub AnswersWatch : Settings → List ℕ → Ended → ℕ → List ℕ → Type 0
-AnswersWatch settings bytes ended = AnswersFile (λ lines. IsWatchFile lines bytes) (λ place why. RefusesWatch bytes (watch.Malformed place why))
+AnswersWatch settings bytes ended = AnswersFile (λ lines. IsWatchFile lines bytes) (λ place why. RefusesWatch bytes (fault.Malformed place why))
     malformed_watch (λ lines text. HasWatched lines settings ended text) ended
 
 -- of a job file, whose jobs go through a pipeline
@@ -84,7 +83,7 @@ ModeAnswers mode.Stages settings bytes ended status text = AnswersStages setting
 -- more records than a job file may have, or a watch file
 abbrev pub HasTooManyRecords : Mode → List ℕ → Type 0
 HasTooManyRecords mode.Run bytes = Refuses bytes fault.TooMany
-HasTooManyRecords mode.Watch bytes = RefusesWatch bytes watch.TooMany
+HasTooManyRecords mode.Watch bytes = RefusesWatch bytes fault.TooMany
 HasTooManyRecords mode.Stages bytes = Refuses bytes fault.TooMany
 HasTooManyRecords m bytes = ⊥
 

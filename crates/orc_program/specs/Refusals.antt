@@ -3,10 +3,10 @@ use Rattle.std.specs.Prelude.{◌++◌, ◌≡◌, List, ℕ, codes}
 use Rattle.std.specs.Fmt.{decimal}
 use Rattle.orc_jobs.specs.declared.cause.Cause.{Cause}
 use Rattle.orc_jobs.specs.declared.cause.Cause.TheVariants as cause
-use Rattle.orc_jobs.specs.declared.cause.JobsFault.{JobsFault}
-use Rattle.orc_jobs.specs.declared.cause.JobsFault.TheVariants as fault
-use Rattle.orc_watch.specs.declared.fault.WatchCause.{WatchCause}
-use Rattle.orc_watch.specs.declared.fault.WatchCause.TheVariants as watch
+use Rattle.orc_jobs.specs.declared.records.FileRefused.{FileRefused}
+use Rattle.orc_jobs.specs.declared.records.FileRefused.TheVariants as fault
+use Rattle.orc_watch.specs.declared.cause.WatchCause.{WatchCause}
+use Rattle.orc_watch.specs.declared.cause.WatchCause.TheVariants as watch
 
 abbrev pub words_refused : List ℕ
 words_refused = codes "words refused\n"
@@ -40,7 +40,7 @@ abbrev pub malformed_watch : ℕ → WatchCause → List ℕ
 malformed_watch place why = record_line place (watch_cause_word why)
 
 -- how a job file with this fault is refused: by the line of its record, or for its many records; for want of memory it has no answer
-abbrev pub RefusesJobs : JobsFault → ℕ → List ℕ → Type 0
+abbrev pub RefusesJobs : FileRefused Cause → ℕ → List ℕ → Type 0
 RefusesJobs (fault.Malformed place why) status text = (status ≡ 3) × (text ≡ malformed_line place why)
 RefusesJobs fault.TooMany status text = (status ≡ 6) × (text ≡ input_too_large)
 RefusesJobs fault.NoMemory status text = ⊥

@@ -14,7 +14,7 @@ use crate::trial_mode::answer_trial;
 use crate::watch_mode::answer_watch;
 use orc_board::Gate;
 use orc_fault::NoMemory;
-use orc_jobs::{Cause, JobsFault, MOST_BYTES, Text};
+use orc_jobs::{Cause, FileRefused, MOST_BYTES, Text};
 use orc_options::{Mode, Settings};
 use std::alloc::Global;
 use std::sync::Wait;
@@ -65,13 +65,13 @@ pub(crate) fn too_large(alloc: Global) -> Result<Answer, NoMemory>
 }
 
 // Why a job file isn't worked through.
-pub(crate) fn refuse_jobs(alloc: Global, fault: JobsFault) -> Result<Answer, NoMemory>
+pub(crate) fn refuse_jobs(alloc: Global, fault: FileRefused<Cause>) -> Result<Answer, NoMemory>
     ensures { IfOk result (λ a. RefusesJobs fault a.status a.text) }
 {
     match fault {
-        JobsFault::Malformed { line, cause } => refuse_record(alloc, line, word_of(cause)),
-        JobsFault::TooMany => too_large(alloc),
-        JobsFault::NoMemory => Err(NoMemory),
+        FileRefused::Malformed { line, cause } => refuse_record(alloc, line, word_of(cause)),
+        FileRefused::TooMany => too_large(alloc),
+        FileRefused::NoMemory => Err(NoMemory),
     }
 }
 

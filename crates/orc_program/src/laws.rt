@@ -4,7 +4,7 @@ ghost use Rattle.orc_jobs.specs.JobGrammar.{IsFileOf, Refuses};
 ghost use Rattle.orc_jobs.specs.declared.cause.Cause.{Cause};
 ghost use Rattle.orc_jobs.specs.declared.line.Line.{Line};
 ghost use Rattle.orc_watch.specs.WatchGrammar.{IsFileOf as IsWatchFile, Refuses as RefusesWatch};
-ghost use Rattle.orc_watch.specs.declared.fault.WatchCause.{WatchCause};
+ghost use Rattle.orc_watch.specs.declared.cause.WatchCause.{WatchCause};
 ghost use Rattle.orc_watch.specs.declared.line.WatchLine.{WatchLine};
 ghost use Rattle.orc_trace.specs.Answers.{audit_lines, fault_line, replay_line};
 ghost use Rattle.orc_trace.specs.Audit.{IsAudit};
@@ -17,10 +17,9 @@ ghost use Rattle.orc_program.specs.Answers.{ProgramAnswers, IsInput, IsTooLarge,
 ghost use Rattle.orc_program.specs.Refusals.{input_too_large, malformed_line, malformed_watch};
 ghost use Rattle.orc_program.specs.declared.ended.Ended.{Ended};
 
-use orc_jobs::{JobsFault, MOST_BYTES};
+use orc_jobs::{FileRefused, MOST_BYTES};
 use orc_options::Mode;
 use orc_trace::TraceFault;
-use orc_watch::WatchFault;
 
 /// A law, with nothing to run: settings and bytes have one status, and but for a report, a summary and what came of a watch or of a pipeline one text.
 /// So whatever answers a file of lines is its report, and so on.
@@ -30,7 +29,7 @@ pub fn inputs_have_one_answer()
     ensures file { (s : Settings) (bytes : List ℕ) (e : Ended) (status : ℕ) (text : List ℕ) → ProgramAnswers s bytes e status text
         → s.mode ≡ Mode.Run → length bytes ≤ MOST_BYTES → (lines : List Line) → IsFileOf lines bytes → status ≡ 0 }
     ensures record { (s : Settings) (bytes : List ℕ) (e : Ended) (status : ℕ) (text : List ℕ) → ProgramAnswers s bytes e status text
-        → s.mode ≡ Mode.Run → length bytes ≤ MOST_BYTES → (place : ℕ) (why : Cause) → Refuses bytes (JobsFault.Malformed place why)
+        → s.mode ≡ Mode.Run → length bytes ≤ MOST_BYTES → (place : ℕ) (why : Cause) → Refuses bytes (FileRefused.Malformed place why)
         → (status ≡ 3) × (text ≡ malformed_line place why) }
     ensures make { (s : Settings) (e : Ended) (status : ℕ) (text : List ℕ) → ProgramAnswers s [] e status text
         → s.mode ≡ Mode.Make → (status ≡ 0) × (text ≡ made_text s) }
@@ -47,12 +46,12 @@ pub fn inputs_have_one_answer()
     ensures watch { (s : Settings) (bytes : List ℕ) (e : Ended) (status : ℕ) (text : List ℕ) → ProgramAnswers s bytes e status text
         → s.mode ≡ Mode.Watch → length bytes ≤ MOST_BYTES → (lines : List WatchLine) → IsWatchFile lines bytes → status ≡ 0 }
     ensures watch_record { (s : Settings) (bytes : List ℕ) (e : Ended) (status : ℕ) (text : List ℕ) → ProgramAnswers s bytes e status text
-        → s.mode ≡ Mode.Watch → length bytes ≤ MOST_BYTES → (place : ℕ) (why : WatchCause) → RefusesWatch bytes (WatchFault.Malformed place why)
+        → s.mode ≡ Mode.Watch → length bytes ≤ MOST_BYTES → (place : ℕ) (why : WatchCause) → RefusesWatch bytes (FileRefused.Malformed place why)
         → (status ≡ 3) × (text ≡ malformed_watch place why) }
     ensures stages { (s : Settings) (bytes : List ℕ) (e : Ended) (status : ℕ) (text : List ℕ) → ProgramAnswers s bytes e status text
         → s.mode ≡ Mode.Stages → length bytes ≤ MOST_BYTES → (lines : List Line) → IsFileOf lines bytes → status ≡ 0 }
     ensures stages_record { (s : Settings) (bytes : List ℕ) (e : Ended) (status : ℕ) (text : List ℕ) → ProgramAnswers s bytes e status text
-        → s.mode ≡ Mode.Stages → length bytes ≤ MOST_BYTES → (place : ℕ) (why : Cause) → Refuses bytes (JobsFault.Malformed place why)
+        → s.mode ≡ Mode.Stages → length bytes ≤ MOST_BYTES → (place : ℕ) (why : Cause) → Refuses bytes (FileRefused.Malformed place why)
         → (status ≡ 3) × (text ≡ malformed_line place why) }
 {}
 

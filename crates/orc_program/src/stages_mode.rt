@@ -11,7 +11,7 @@ use crate::Ended;
 use crate::answer::{Answer, refuse_jobs};
 use orc_board::Gate;
 use orc_fault::NoMemory;
-use orc_jobs::{JobsFault, Lines, MOST_BYTES, read_jobs};
+use orc_jobs::{FileRefused, Lines, MOST_BYTES, read_jobs};
 use orc_options::Settings;
 use orc_stages_run::run_pipeline;
 use orc_stages_text::stages_text;
@@ -32,7 +32,7 @@ pub(crate) fn answer_stages<R: Threads + Wait + Sync, G: Gate + Sync>(
     requires few { length bytes.now ≤ MOST_BYTES }
     requires new { NothingEnded ended.old }
     ensures answers { IfOk result (λ a. AnswersStages settings bytes.now ended.new a.status a.text
-        ⊎ ((a.status ≡ 6) × NothingEnded ended.new × Refuses bytes.now JobsFault.TooMany × (a.text ≡ input_too_large))) }
+        ⊎ ((a.status ≡ 6) × NothingEnded ended.new × Refuses bytes.now FileRefused.TooMany × (a.text ≡ input_too_large))) }
     ensures nothing { OnErr result (NothingEnded ended.new) }
 {
     match read_jobs(alloc, bytes) {

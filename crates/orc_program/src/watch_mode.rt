@@ -10,8 +10,9 @@ use crate::Ended;
 use crate::answer::{Answer, refuse_record, too_large};
 use orc_board::Gate;
 use orc_fault::NoMemory;
+use orc_jobs::FileRefused;
 use orc_options::Settings;
-use orc_watch::{CellNumbers, WatchCause, WatchFault, WatchLines, read_watch, watch_text};
+use orc_watch::{CellNumbers, WatchCause, WatchLines, read_watch, watch_text};
 use orc_watch_domain::{WatchFinished, watch_new_cell};
 use std::alloc::Global;
 use std::sync::Wait;
@@ -29,14 +30,14 @@ pub(crate) fn answer_watch<R: Threads + Wait + Sync, G: Gate + Sync>(
     requires ranges { AreInRange settings }
     requires new { NothingEnded ended.old }
     ensures answers { IfOk result (λ a. AnswersWatch settings bytes.now ended.new a.status a.text
-        ⊎ ((a.status ≡ 6) × NothingEnded ended.new × Refuses bytes.now WatchFault.TooMany × (a.text ≡ input_too_large))) }
+        ⊎ ((a.status ≡ 6) × NothingEnded ended.new × Refuses bytes.now FileRefused.TooMany × (a.text ≡ input_too_large))) }
     ensures nothing { OnErr result (NothingEnded ended.new) }
 {
     match read_watch(alloc, bytes) {
         Ok(lines) => watch(rt, alloc, settings, &lines, gate, ended),
-        Err(WatchFault::Malformed { line, cause }) => refuse_record(alloc, line, word_of(cause)),
-        Err(WatchFault::TooMany) => too_large(alloc),
-        Err(WatchFault::NoMemory) => Err(NoMemory),
+        Err(FileRefused::Malformed { line, cause }) => refuse_record(alloc, line, word_of(cause)),
+        Err(FileRefused::TooMany) => too_large(alloc),
+        Err(FileRefused::NoMemory) => Err(NoMemory),
     }
 }
 

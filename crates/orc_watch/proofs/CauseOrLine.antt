@@ -5,8 +5,8 @@ use Rattle.orc_jobs.proofs.Fields.{two-fields}
 use Rattle.orc_jobs.proofs.FileLaws.{none-applies, whether}
 use Rattle.orc_jobs.specs.RecordFiles.{field}
 use Rattle.orc_watch.specs.WatchGrammar.{Applies, HasCause, IsLine, rank_of, record_of}
-use Rattle.orc_watch.specs.declared.fault.WatchCause.{WatchCause}
-use Rattle.orc_watch.specs.declared.fault.WatchCause.TheVariants as cause
+use Rattle.orc_watch.specs.declared.cause.WatchCause.{WatchCause}
+use Rattle.orc_watch.specs.declared.cause.WatchCause.TheVariants as cause
 use Rattle.orc_watch.specs.declared.line.WatchLine.{WatchLine}
 use Rattle.orc_watch.specs.declared.line.WatchLine.TheVariants as line
 

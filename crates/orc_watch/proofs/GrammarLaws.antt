@@ -3,13 +3,11 @@ use Rattle.std.proofs.Common.{◌≡◌, ◌∙◌, ◌<◌, ◌^◌, All, List,
 use Rattle.std.proofs.lemmas.List.Elements.{All-cons, All-nil}
 use Rattle.std.specs.Fmt.{decimal}
 use Rattle.orc_jobs.proofs.Fields.{IsUtf8-decimal, first-byte, first-field}
-use Rattle.orc_jobs.proofs.FileLaws.{AreFaults, one-cause}
+use Rattle.orc_jobs.proofs.FileLaws.{AreDetermined, one-cause}
 use Rattle.std.proofs.lemmas.Fmt.{decimal_injective}
-use Rattle.orc_watch.specs.WatchGrammar.{Applies, HasCause, IsLine, Refuses, rank_of, record_of}
-use Rattle.orc_watch.specs.declared.fault.WatchCause.{WatchCause}
-use Rattle.orc_watch.specs.declared.fault.WatchCause.TheVariants as cause
-use Rattle.orc_watch.specs.declared.fault.WatchFault.{WatchFault}
-use Rattle.orc_watch.specs.declared.fault.WatchFault.TheVariants as fault
+use Rattle.orc_watch.specs.WatchGrammar.{Applies, HasCause, IsLine, rank_of, record_of}
+use Rattle.orc_watch.specs.declared.cause.WatchCause.{WatchCause}
+use Rattle.orc_watch.specs.declared.cause.WatchCause.TheVariants as cause
 use Rattle.orc_watch.specs.declared.line.WatchLine.{WatchLine}
 use Rattle.orc_watch.specs.declared.line.WatchLine.TheVariants as line
 
@@ -86,21 +84,15 @@ not-applies (line.Both m n) h cause.Value (inr bad) = bad.1 (n, h.1, refl)
 not-applies line.See h cause.Value (inl bad) = bad.0 refl
 not-applies line.See h cause.Value (inr bad) = both-not-see (sym bad.0)
 
-pub no-cause : (l : WatchLine) (why : WatchCause) → IsLine l → ¬ HasCause (record_of l) why
-no-cause l why h bad = not-applies l h why bad.applies
-
-cause_at : ℕ → WatchCause
+-- the cause of a rank
+abbrev cause_at : ℕ → WatchCause
 cause_at n = if n == 0 then cause.Fields else if n == 1 then cause.Utf8 else if n == 2 then cause.Verb else cause.Value
 
 cause_at-rank_of : (why : WatchCause) → cause_at (rank_of why) ≡ why
-unfolding cause_at
 cause_at-rank_of cause.Fields = refl
 cause_at-rank_of cause.Utf8 = refl
 cause_at-rank_of cause.Verb = refl
 cause_at-rank_of cause.Value = refl
-
-same-rank : (a b : WatchCause) → rank_of a ≡ rank_of b → a ≡ b
-same-rank a b e = sym (cause_at-rank_of a) ∙ ap cause_at e ∙ cause_at-rank_of b
 
 same-number : (m n : ℕ) → m < 2 ^ 32 → n < 2 ^ 32 → decimal m ≡ decimal n → m ≡ n
 same-number m n h k e = decimal_injective m n (omega (arith, h)) (omega (arith, k)) e
@@ -125,19 +117,9 @@ same-line line.See (line.Left n) h k e = absurd (left-not-see (sym (first-field 
 same-line line.See (line.Right n) h k e = absurd (right-not-see (sym (first-field e)))
 same-line line.See (line.Both n j) h k e = absurd (both-not-see (sym (first-field e)))
 
--- ---- faults
-
-by_cases : (P : WatchFault → Type 0) → ((at : ℕ) (why : WatchCause) → P (fault.Malformed at why)) → P fault.TooMany → P fault.NoMemory → (f : WatchFault) → P f
-by_cases P malformed many none (fault.Malformed at why) = malformed at why
-by_cases P malformed many none fault.TooMany = many
-by_cases P malformed many none fault.NoMemory = none
-
-pub faults : AreFaults record_of IsLine HasCause (λ at why. fault.Malformed at why) fault.TooMany fault.NoMemory Refuses
-faults = record {
-  by_cases = by_cases;
-  malformed_is = λ bytes at why refused. refused;
-  too_many_is = λ bytes refused. refused;
+pub laws : AreDetermined record_of IsLine HasCause
+laws = record {
   same_line = same-line;
-  no_cause = no-cause;
-  one_cause = one-cause Applies rank_of same-rank;
+  no_cause = λ l why h bad. not-applies l h why bad.applies;
+  one_cause = one-cause Applies rank_of cause_at cause_at-rank_of;
 }

@@ -1,12 +1,12 @@
 -- What a watch file says: how each line is spelled as a record, and what is first amiss with a record that is the spelling of none.
 use Rattle.std.specs.Prelude.{◌≡◌, ◌≢◌, ◌^◌, ◌<◌, ◌⊎◌, ◌∷◌, All, IsUtf8, List, [], ℕ, codes, length, ⊤}
 use Rattle.std.specs.Fmt.{decimal}
-use Rattle.orc_jobs.specs.RecordFiles.{HasFirst, HasTooMany, IsFile, IsMalformed, field}
+use Rattle.orc_jobs.specs.OneRecord.{RefusesFile}
+use Rattle.orc_jobs.specs.RecordFiles.{HasFirst, IsFile, field}
 use Rattle.orc_jobs.specs.Numbers.{IsNumber}
-use Rattle.orc_watch.specs.declared.fault.WatchCause.{WatchCause}
-use Rattle.orc_watch.specs.declared.fault.WatchCause.TheVariants as cause
-use Rattle.orc_watch.specs.declared.fault.WatchFault.{WatchFault}
-use Rattle.orc_watch.specs.declared.fault.WatchFault.TheVariants as fault
+use Rattle.orc_jobs.specs.declared.records.FileRefused.{FileRefused}
+use Rattle.orc_watch.specs.declared.cause.WatchCause.{WatchCause}
+use Rattle.orc_watch.specs.declared.cause.WatchCause.TheVariants as cause
 use Rattle.orc_watch.specs.declared.line.WatchLine.{WatchLine}
 use Rattle.orc_watch.specs.declared.line.WatchLine.TheVariants as line
 
@@ -52,8 +52,6 @@ rank_of cause.Value = 3
 abbrev pub HasCause : List (List ℕ) → WatchCause → Type 0
 HasCause fields why = HasFirst Applies rank_of fields why
 
--- the bytes are refused with this fault: some lines, and then a record with a cause within the first 65,535; or 65,535 lines, and then any record
-abbrev pub Refuses : List ℕ → WatchFault → Type 0
-Refuses bytes (fault.Malformed at why) = IsMalformed record_of IsLine HasCause bytes at why
-Refuses bytes fault.TooMany = HasTooMany record_of IsLine bytes
-Refuses bytes fault.NoMemory = ⊤
+-- the bytes are refused with this fault
+abbrev pub Refuses : List ℕ → FileRefused WatchCause → Type 0
+Refuses bytes why = RefusesFile record_of IsLine HasCause bytes why

@@ -1,7 +1,7 @@
 //! Watch files: their lines, how they are read, what came of each line, and the text that tells it.
 #![tactic(auto)]
 
-mod fault;
+mod cause;
 mod laws;
 mod line;
 mod read;
@@ -9,7 +9,7 @@ mod record;
 mod reply;
 mod text;
 
-pub use fault::{WatchCause, WatchFault};
+pub use cause::WatchCause;
 pub use laws::watch_records_are_determined;
 pub use line::{WatchLine, WatchLines};
 pub use read::read_watch;

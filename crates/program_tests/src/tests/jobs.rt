@@ -8,7 +8,7 @@ ghost use Rattle.orc_jobs.specs.Numbers.{IsNumber, SpellsNumbers};
 
 use orc_fault::NoMemory;
 use orc_jobs::{
-    Cause, Job, JobsFault, Line, Lines, MOST_BYTES, Text, job_value, lines_text, make_lines,
+    Cause, FileRefused, Job, Line, Lines, MOST_BYTES, Text, job_value, lines_text, make_lines,
     read_jobs,
 };
 use std::alloc::Global;
@@ -52,9 +52,9 @@ fn causes_by_hand()
     ensures fields { HasCause (codes "drop" ∷ []) Cause.Fields }
     ensures verb { HasCause (codes "put" ∷ codes "x" ∷ codes "y" ∷ codes "z" ∷ []) Cause.Verb }
     ensures first { ¬ HasCause (codes "put" ∷ codes "x" ∷ codes "y" ∷ codes "z" ∷ []) Cause.Id }
-    ensures refused { Refuses (codes "drop\n") (JobsFault.Malformed 0 Cause.Fields) }
-    ensures place { ¬ Refuses (codes "drop\n") (JobsFault.Malformed 1 Cause.Fields) }
-    ensures many { ¬ Refuses (codes "drop\n") JobsFault.TooMany }
+    ensures refused { Refuses (codes "drop\n") (FileRefused.Malformed 0 Cause.Fields) }
+    ensures place { ¬ Refuses (codes "drop\n") (FileRefused.Malformed 1 Cause.Fields) }
+    ensures many { ¬ Refuses (codes "drop\n") FileRefused.TooMany }
 {}
 
 fn values_by_hand()
@@ -97,7 +97,7 @@ fn is_refused<R: Abort>(rt: &R, alloc: Global, record: &[u8], why: Cause) -> Res
         assert!(rt; bytes.len() <= MOST_BYTES);
         match read_jobs(alloc, bytes) {
             Ok(_) => assert!(rt; false, "{record:?} is read"),
-            Err(fault) => assert_eq!(rt; fault, JobsFault::Malformed { line, cause: why }),
+            Err(fault) => assert_eq!(rt; fault, FileRefused::Malformed { line, cause: why }),
         }
     }
     Ok(())
@@ -205,20 +205,20 @@ fn drops(alloc: Global, lines: usize, wrong: Option<usize>) -> Result<Vec<u8>, F
 
 #[test]
 fn counts_records(rt: HostRuntime) -> Result<(), Fail> {
-    let refused = JobsFault::Malformed {
+    let refused = FileRefused::Malformed {
         line: 3,
         cause: Cause::Id,
     };
-    let last = JobsFault::Malformed {
+    let last = FileRefused::Malformed {
         line: 65534,
         cause: Cause::Id,
     };
     for (lines, wrong, wanted) in [
         (65535, None, None),
-        (65536, None, Some(JobsFault::TooMany)),
+        (65536, None, Some(FileRefused::TooMany)),
         (65536, Some(3), Some(refused)),
         (65536, Some(65534), Some(last)),
-        (65536, Some(65535), Some(JobsFault::TooMany)),
+        (65536, Some(65535), Some(FileRefused::TooMany)),
     ] {
         let bytes = drops(rt.alloc(), lines, wrong)?;
         assert!(rt; bytes.len() <= MOST_BYTES);

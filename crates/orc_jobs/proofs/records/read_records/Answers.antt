@@ -34,7 +34,7 @@ loop-row-init g c =
     let start = c.into_iter-row-iterator.ensures.into_iter_gives ∙ refl in
     let rdr = c.into_byte_records-row-items.ensures.rdr in
     let left = c.into_byte_records-row-items.ensures.left in
-    rw (start, rdr, c.new-lines.ensures.items) (record {
+    rw (start, rdr, c.new-lines.ensures) (record {
       trim = rw (f, e) at fr.trim ∙ c.new.ensures.trim;
       ready = inr (inr (rw (f, e) at fr.has_headers, fr.headers));
       left = left;
@@ -52,10 +52,10 @@ returns-in_err-take_record-clause-err g c =
     let inv = c.loop-row.invariant in
     let s = rw (c.in-Some.is, c.in-Ok.is) at ((c.next.ensures.steps inv.left inv.trim).0 inv.ready) in
     let m = line-and-more (λ (s : Bor (List ℕ)). Some s.now) c.loop-row.row-iterator.rdr c.next.new.self.rdr
-    (fields_of c.in-Ok.row) c.args.bytes.now (map g.L.FromRecord.spelling c.loop-row.lines.items) inv.bytes inv.config inv.source inv.reached s.0 in
+    (fields_of c.in-Ok.row) c.args.bytes.now (map g.L.FromRecord.spelling c.loop-row.lines) inv.bytes inv.config inv.source inv.reached s.0 in
     let p = err_from_is_err_and c.from_residual.result c.from_residual.ensures.1 in
     rw (p.1, p.2)
-    (refused-here g.L.FromRecord.spelling g.L.FromRecord.is_line g.L.FromRecord.has_cause c.args.bytes.now c.loop-row.lines.items (fields_of c.in-Ok.row) m.0 c.in_err-take_record.field-0.0
+    (refused-here g.L.FromRecord.spelling g.L.FromRecord.is_line g.L.FromRecord.has_cause c.args.bytes.now c.loop-row.lines (fields_of c.in-Ok.row) m.0 c.in_err-take_record.field-0.0
     (record { records = m.1; each = inv.each }) c.in_err-take_record.ensures.err)
 
 pub loop-row-preserved : goal.loop-row-preserved
@@ -63,11 +63,11 @@ loop-row-preserved g c =
     let inv = c.loop-row.invariant in
     let s = rw (c.in-Some.is, c.in-Ok.is) at ((c.next.ensures.steps inv.left inv.trim).0 inv.ready) in
     let m = rows-more (λ (s : Bor (List ℕ)). Some s.now) c.loop-row.row-iterator.rdr c.next.new.self.rdr
-    (fields_of c.in-Ok.row) default_config st.StartRecord (strip_bom c.args.bytes.now) inv.bytes (map g.L.FromRecord.spelling c.loop-row.lines.items) inv.config inv.source inv.reached s.0 in
+    (fields_of c.in-Ok.row) default_config st.StartRecord (strip_bom c.args.bytes.now) inv.bytes (map g.L.FromRecord.spelling c.loop-row.lines) inv.config inv.source inv.reached s.0 in
     let took = c.in_ok-take_record.ensures.ok in
     let room = took.room in
-    let rows : map g.L.FromRecord.spelling c.take_record.new.lines.items ≡ map g.L.FromRecord.spelling c.loop-row.lines.items ++ (fields_of c.in-Ok.row ∷ []) =
-    rw (took.joined, map-append g.L.FromRecord.spelling c.loop-row.lines.items (took.line ∷ []), took.spelled) refl in
+    let rows : map g.L.FromRecord.spelling c.take_record.new.lines ≡ map g.L.FromRecord.spelling c.loop-row.lines ++ (fields_of c.in-Ok.row ∷ []) =
+    rw (took.joined, map-append g.L.FromRecord.spelling c.loop-row.lines (took.line ∷ []), took.spelled) refl in
     record {
       trim = s.0.3 ∙ inv.trim;
       ready = inl s.1;
@@ -76,8 +76,8 @@ loop-row-preserved g c =
       bytes = m.0;
       source = m.1;
       reached = rw rows m.2;
-      each = rw took.joined (All-push g.L.FromRecord.is_line c.loop-row.lines.items took.line inv.each took.is);
-      few = rw took.joined (omega (arith, room, length-append c.loop-row.lines.items (took.line ∷ [])));
+      each = rw took.joined (All-push g.L.FromRecord.is_line c.loop-row.lines took.line inv.each took.is);
+      few = rw took.joined (omega (arith, room, length-append c.loop-row.lines (took.line ∷ [])));
       flexible = rw (c.in-Some.is, c.in-Ok.is) at ((c.next.ensures.steps inv.left inv.trim).3) ∙ inv.flexible;
     }
 
@@ -86,7 +86,7 @@ returns-clause-ok g c =
     let inv = c.loop-row.invariant in
     let s = rw c.in-None.is at ((c.next.ensures.steps inv.left inv.trim).0 inv.ready) in
     record {
-      records = lines-end (λ (s : Bor (List ℕ)). Some s.now) c.loop-row.row-iterator.rdr c.next.new.self.rdr [] c.args.bytes.now (map g.L.FromRecord.spelling c.loop-row.lines.items)
+      records = lines-end (λ (s : Bor (List ℕ)). Some s.now) c.loop-row.row-iterator.rdr c.next.new.self.rdr [] c.args.bytes.now (map g.L.FromRecord.spelling c.loop-row.lines)
           inv.bytes inv.config inv.source inv.reached s;
       each = inv.each;
       few = inv.few;

@@ -12,8 +12,8 @@ invariant-loop-row g l = record {
   config : l.row-iterator.rdr.config ≡ default_config;
   bytes : List ℕ;
   source : source_of (λ s. Some s.now) l.row-iterator.rdr ≡ Some bytes;
-  reached : Reached default_config st.StartRecord (strip_bom l.fn.bytes) (map g.L.FromRecord.spelling l.lines.items) l.row-iterator.rdr.state bytes;
-  each : All g.L.FromRecord.is_line l.lines.items;
-  few : length l.lines.items ≤ 65535;
+  reached : Reached default_config st.StartRecord (strip_bom l.fn.bytes) (map g.L.FromRecord.spelling l.lines) l.row-iterator.rdr.state bytes;
+  each : All g.L.FromRecord.is_line l.lines;
+  few : length l.lines ≤ 65535;
   flexible : is_flexible l.row-iterator.rdr ≡ true;
 }

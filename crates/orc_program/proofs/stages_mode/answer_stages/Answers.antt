@@ -1,5 +1,5 @@
 use Rattle.orc_jobs.specs.JobGrammar.{Refuses}
-use Rattle.orc_jobs.specs.declared.cause.JobsFault.TheVariants as fault
+use Rattle.orc_jobs.specs.declared.records.FileRefused.TheVariants as fault
 use Rattle.orc_program.specs.Ended.{TellsStages}
 use Rattle.orc_program.specs.Refusals.{malformed_line}
 use Rattle.orc_program.proofs.Files.{is_told, jobs_refused}

@@ -4,7 +4,7 @@ use Rattle.orc_program.specs.Refusals.{malformed_watch}
 use Rattle.orc_program.proofs.Files.{is_refused, is_told}
 use Rattle.orc_program.proofs.watch_mode.answer_watch.Goals as goal
 use Rattle.orc_watch.specs.WatchGrammar.{IsFileOf, Refuses}
-use Rattle.orc_watch.specs.declared.fault.WatchFault.TheVariants as fault
+use Rattle.orc_jobs.specs.declared.records.FileRefused.TheVariants as fault
 
 pub returns-in-Ok-clause-answers : goal.returns-in-Ok-clause-answers
 returns-in-Ok-clause-answers g c =

@@ -1,6 +1,6 @@
 //! Which bytes are a watch file, and how others are refused.
 
-use orc_watch::{WatchCause, WatchFault, WatchLine, read_watch};
+use orc_watch::{WatchCause, WatchLine, read_watch};
 use std::alloc::Global;
 use std::process::Abort;
 use std::test::Fail;
@@ -27,7 +27,7 @@ fn is_refused<R: Abort>(rt: &R, alloc: Global, record: &[u8], why: WatchCause) -
     for (line, bytes) in [(0, record), (1, after.as_slice())] {
         match read_watch(alloc, bytes) {
             Ok(_) => assert!(rt; false, "{record:?} is read"),
-            Err(fault) => assert_eq!(rt; fault, WatchFault::Malformed { line, cause: why }),
+            Err(fault) => assert_eq!(rt; fault, FileRefused::Malformed { line, cause: why }),
         }
     }
     Ok(())
@@ -110,7 +110,7 @@ fn the_last_record_is_the_65535th(rt: HostRuntime) -> Result<(), Fail> {
         let more = reads(alloc, 65535, last)?;
         match read_watch(alloc, more.as_slice()) {
             Ok(_) => assert!(rt; false, "65,536 records are read"),
-            Err(fault) => assert_eq!(rt; fault, WatchFault::TooMany),
+            Err(fault) => assert_eq!(rt; fault, FileRefused::TooMany),
         }
     }
     Ok(())

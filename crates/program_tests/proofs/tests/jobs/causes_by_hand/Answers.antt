@@ -5,7 +5,7 @@ use Rattle.orc_jobs.proofs.GrammarLaws.{refused-bad}
 use Rattle.orc_jobs.specs.JobGrammar.{Applies, HasCause, IsLine, Refuses, rank_of}
 use Rattle.orc_jobs.specs.declared.cause.Cause.{Cause}
 use Rattle.orc_jobs.specs.declared.cause.Cause.TheVariants as cause
-use Rattle.orc_jobs.specs.declared.cause.JobsFault.TheVariants as fault
+use Rattle.orc_jobs.specs.declared.records.FileRefused.TheVariants as fault
 use Rattle.program_tests.proofs.tests.jobs.causes_by_hand.Goals as goal
 
 put : List (List ℕ)
