@@ -105,8 +105,8 @@ module _ {L C : Type 0} {record_of : L → List (List ℕ)} {IsLine : L → Type
       omega (arith, sizes, few, many.4, length-map lines record_of, length-map many.0 record_of, length-append (map record_of many.0) (many.1 ∷ many.2))
 
   -- it has not both
-  not-too-many : (bytes : List ℕ) (at : ℕ) (why : C) → IsMalformed record_of IsLine HasCause bytes at why → ¬ HasTooMany record_of IsLine bytes
-  not-too-many bytes at why bad many =
+  pub not-both : (bytes : List ℕ) (at : ℕ) (why : C) → IsMalformed record_of IsLine HasCause bytes at why → ¬ HasTooMany record_of IsLine bytes
+  not-both bytes at why bad many =
       let place = bad.4 in
       let below = bad.5 in
       let long = many.4 in
@@ -140,11 +140,11 @@ module _ {L C : Type 0} {record_of : L → List (List ℕ)} {IsLine : L → Type
   pub one-refusal : (bytes : List ℕ) (at : ℕ) (why : C) → Refuses bytes (fault.Malformed at why) → (f : FileRefused C) → Refuses bytes f
       → (f ≡ fault.Malformed at why) ⊎ (f ≡ fault.NoMemory)
   one-refusal bytes at why bad (fault.Malformed there other) found = inl (same-refusal bytes at why there other bad found)
-  one-refusal bytes at why bad fault.TooMany found = absurd (not-too-many bytes at why bad found)
+  one-refusal bytes at why bad fault.TooMany found = absurd (not-both bytes at why bad found)
   one-refusal bytes at why bad fault.NoMemory found = inr refl
 
   refused-many : (bytes : List ℕ) → Refuses bytes fault.TooMany → (f : FileRefused C) → Refuses bytes f → (f ≡ fault.TooMany) ⊎ (f ≡ fault.NoMemory)
-  refused-many bytes many (fault.Malformed there other) found = absurd (not-too-many bytes there other found many)
+  refused-many bytes many (fault.Malformed there other) found = absurd (not-both bytes there other found many)
   refused-many bytes many fault.TooMany found = inl refl
   refused-many bytes many fault.NoMemory found = inr refl
 

@@ -1,12 +1,11 @@
 -- Settings and bytes have one answer.
 use Rattle.std.proofs.Common.{◌≡◌, ◌≢◌, ◌∙◌, ◌≤◌, ◌⊎◌, List, [], ℕ, Ok, ap, arith, inl, inr, length, subst}
-use Rattle.orc_jobs.specs.JobGrammar.{IsFileOf, Refuses}
+use Rattle.orc_jobs.specs.JobGrammar.{IsFileOf}
 use Rattle.orc_jobs.specs.OneRecord.{RefusesFile}
-use Rattle.orc_jobs.specs.declared.cause.Cause.{Cause}
-use Rattle.orc_jobs.specs.declared.records.FileRefused.{FileRefused}
-use Rattle.orc_jobs.specs.declared.records.FileRefused.TheVariants as fault
+use Rattle.orc_jobs.specs.RecordFiles.{IsFile}
 use Rattle.orc_jobs.specs.declared.line.Line.{Line}
-use Rattle.orc_jobs.proofs.FileLaws.{AreDetermined, not-few, not-read, one-refusal}
+use Rattle.orc_jobs.specs.declared.records.FileRefused.TheVariants as fault
+use Rattle.orc_jobs.proofs.FileLaws.{AreDetermined, not-both, not-few}
 use Rattle.orc_jobs.proofs.GrammarLaws.{laws}
 use Rattle.orc_trace.specs.Answers.{audit_lines, fault_line, replay_line}
 use Rattle.orc_trace.specs.Audit.{IsAudit}
@@ -26,31 +25,9 @@ use Rattle.orc_program.specs.declared.trace_mode.Told.TheVariants as told
 use Rattle.orc_program.specs.Answers.{ProgramAnswers, AnswersTrace, HasTooManyRecords, IsTooLarge, ModeAnswers, made_text}
 use Rattle.orc_program.specs.Ended.{HasReported, TellsStages, HasWatched}
 use Rattle.orc_jobs.specs.declared.lines.TheConstants.{MOST_BYTES}
-use Rattle.orc_program.specs.Refusals.{input_too_large, malformed_line, malformed_watch}
-use Rattle.orc_program.proofs.Files.{not_many as no_answer, of_file, of_record}
+use Rattle.orc_program.specs.Refusals.{cause_word, input_too_large, record_line, watch_cause_word}
+use Rattle.orc_program.proofs.Files.{IsFileAnswered, no_answer, of_file, of_record}
 use Rattle.orc_watch.proofs.GrammarLaws.{laws as watch_laws}
-use Rattle.orc_watch.specs.WatchGrammar.{IsFileOf as IsWatchFile, Refuses as RefusesWatch}
-use Rattle.orc_watch.specs.declared.cause.WatchCause.{WatchCause}
-use Rattle.orc_watch.specs.declared.line.WatchLine.{WatchLine}
-
--- a record that is refused is the first, so there is one line, and not too many records
-module _ {L C : Type 0} {record_of : L → List (List ℕ)} {IsLine : L → Type 0} {HasCause : List (List ℕ) → C → Type 0}
-    (laws : AreDetermined record_of IsLine HasCause) (line : ℕ → C → List ℕ) (bytes : List ℕ) (place : ℕ) (why : C) where
-  -- the line of a fault that names a record
-  abbrev line_of : FileRefused C → List ℕ
-  line_of (fault.Malformed p w) = line p w
-  line_of fault.TooMany = []
-  line_of fault.NoMemory = []
-
-  one_line : (p : ℕ) (w : C) → RefusesFile record_of IsLine HasCause bytes (fault.Malformed place why)
-      → RefusesFile record_of IsLine HasCause bytes (fault.Malformed p w) → line p w ≡ line place why
-  one_line p w bad found = elim (one-refusal laws bytes place why bad (fault.Malformed p w) found) [
-    | inl same ↦ ap line_of same
-    | inr memory ↦ let n : ⊥ = cc memory in absurd n
-  ]
-
-  not_many : RefusesFile record_of IsLine HasCause bytes (fault.Malformed place why) → RefusesFile record_of IsLine HasCause bytes fault.TooMany → ⊥
-  not_many bad many = elim (one-refusal laws bytes place why bad fault.TooMany many) [ inl same ↦ cc same | inr memory ↦ cc memory ]
 
 -- none of these is the status of a failed read or write, or of want of memory
 pub no_failure : (n : ℕ) → (n ≡ 0) ⊎ (n ≡ 3) ⊎ (n ≡ 6) ⊎ (n ≡ 8) → (n ≢ 4) × (n ≢ 5) × (n ≢ 7)
@@ -69,57 +46,30 @@ module _ (s : Settings) (bytes : List ℕ) (e : Ended) (status : ℕ) (text : Li
     | inr many ↦ absurd (single (subst (λ (n : Mode). HasTooManyRecords n bytes) is many))
   ]
 
-  abbrev IsBad : ℕ → Cause → Type 0
-  IsBad place why = Refuses bytes (fault.Malformed place why)
+  -- of a file of lines, in a mode that answers it
+  module _ {L C : Type 0} {record_of : L → List (List ℕ)} {IsLine : L → Type 0} {HasCause : List (List ℕ) → C → Type 0}
+      (known : AreDetermined record_of IsLine HasCause) (word : C → List ℕ) (has_told : List L → Ended → List ℕ → Type 0)
+      (m : Mode) (as_file : ModeAnswers m s bytes e status text → IsFileAnswered known word has_told bytes e status text)
+      (as_many : HasTooManyRecords m bytes → RefusesFile record_of IsLine HasCause bytes fault.TooMany)
+      (answer : ProgramAnswers s bytes e status text) (asks : s.mode ≡ m) (few : length bytes ≤ MOST_BYTES)
+    where
+      pub of_lines : (lines : List L) → IsFile record_of IsLine lines bytes → status ≡ 0
+      of_lines lines is =
+          of_file known word has_told bytes e status text lines is (as_file (in_mode m answer asks few (λ many. not-few known bytes lines (as_many many) is)))
 
-  abbrev IsWatchBad : ℕ → WatchCause → Type 0
-  IsWatchBad place why = RefusesWatch bytes (fault.Malformed place why)
+      pub of_bad : (place : ℕ) (why : C) → RefusesFile record_of IsLine HasCause bytes (fault.Malformed place why)
+          → (status ≡ 3) × (text ≡ record_line place (word why))
+      of_bad place why bad =
+          of_record known word has_told bytes e status text place why bad
+          (as_file (in_mode m answer asks few (λ many. not-both known bytes place why bad (as_many many))))
 
   pub file : ProgramAnswers s bytes e status text → s.mode ≡ mode.Run → length bytes ≤ MOST_BYTES → (lines : List Line) → IsFileOf lines bytes → status ≡ 0
-  file a run few lines is =
-      of_file (λ ls. IsFileOf ls bytes) IsBad malformed_line (λ ls t. HasReported ls s e t) e (not-read laws bytes) status text lines is
-      (in_mode mode.Run a run few (λ many. not-few laws bytes lines many is))
-
-  pub refused : ProgramAnswers s bytes e status text → s.mode ≡ mode.Run → length bytes ≤ MOST_BYTES → (place : ℕ) (why : Cause)
-      → Refuses bytes (fault.Malformed place why) → (status ≡ 3) × (text ≡ malformed_line place why)
-  refused a run few place why bad =
-      of_record (λ ls. IsFileOf ls bytes) IsBad malformed_line (λ ls t. HasReported ls s e t) e (not-read laws bytes) status text (one_line laws malformed_line bytes) place why bad
-      (in_mode mode.Run a run few (λ many. not_many laws malformed_line bytes place why bad many))
-
-  pub watch_file : ProgramAnswers s bytes e status text → s.mode ≡ mode.Watch → length bytes ≤ MOST_BYTES → (lines : List WatchLine) → IsWatchFile lines bytes
-      → status ≡ 0
-  watch_file a asks few lines is =
-      of_file (λ ls. IsWatchFile ls bytes) IsWatchBad malformed_watch (λ ls t. HasWatched ls s e t) e (not-read watch_laws bytes) status text lines is
-      (in_mode mode.Watch a asks few (λ many. not-few watch_laws bytes lines many is))
-
-  pub watch_refused : ProgramAnswers s bytes e status text → s.mode ≡ mode.Watch → length bytes ≤ MOST_BYTES → (place : ℕ) (why : WatchCause)
-      → RefusesWatch bytes (fault.Malformed place why) → (status ≡ 3) × (text ≡ malformed_watch place why)
-  watch_refused a asks few place why bad =
-      of_record (λ ls. IsWatchFile ls bytes) IsWatchBad malformed_watch (λ ls t. HasWatched ls s e t) e (not-read watch_laws bytes) status text
-      (one_line watch_laws malformed_watch bytes) place why bad (in_mode mode.Watch a asks few (λ many. not_many watch_laws malformed_watch bytes place why bad many))
-
-  pub stages_file : ProgramAnswers s bytes e status text → s.mode ≡ mode.Stages → length bytes ≤ MOST_BYTES → (lines : List Line) → IsFileOf lines bytes
-      → status ≡ 0
-  stages_file a asks few lines is =
-      of_file (λ ls. IsFileOf ls bytes) IsBad malformed_line (λ ls t. TellsStages ls s e t) e (not-read laws bytes) status text lines is
-      (in_mode mode.Stages a asks few (λ many. not-few laws bytes lines many is))
-
-  pub stages_refused : ProgramAnswers s bytes e status text → s.mode ≡ mode.Stages → length bytes ≤ MOST_BYTES → (place : ℕ) (why : Cause)
-      → Refuses bytes (fault.Malformed place why) → (status ≡ 3) × (text ≡ malformed_line place why)
-  stages_refused a asks few place why bad =
-      of_record (λ ls. IsFileOf ls bytes) IsBad malformed_line (λ ls t. TellsStages ls s e t) e (not-read laws bytes) status text (one_line laws malformed_line bytes) place why bad
-      (in_mode mode.Stages a asks few (λ many. not_many laws malformed_line bytes place why bad many))
+  file a run few = of_lines laws cause_word (λ ls e t. HasReported ls s e t) mode.Run (λ h. h) (λ h. h) a run few
 
   not_answered : (m : Mode) → HasTooManyRecords m bytes → ModeAnswers m s bytes e status text → ⊥
-  not_answered mode.Run many a =
-      no_answer (λ ls. IsFileOf ls bytes) IsBad malformed_line (λ ls t. HasReported ls s e t) e (not-read laws bytes) status text (Refuses bytes fault.TooMany)
-      (λ lines file is. not-few laws bytes lines is file) (not_many laws malformed_line bytes) many a
-  not_answered mode.Watch many a =
-      no_answer (λ ls. IsWatchFile ls bytes) IsWatchBad malformed_watch (λ ls t. HasWatched ls s e t) e (not-read watch_laws bytes) status text
-      (RefusesWatch bytes fault.TooMany) (λ lines file is. not-few watch_laws bytes lines is file) (not_many watch_laws malformed_watch bytes) many a
-  not_answered mode.Stages many a =
-      no_answer (λ ls. IsFileOf ls bytes) IsBad malformed_line (λ ls t. TellsStages ls s e t) e (not-read laws bytes) status text (Refuses bytes fault.TooMany)
-      (λ lines file is. not-few laws bytes lines is file) (not_many laws malformed_line bytes) many a
+  not_answered mode.Run many a = no_answer laws cause_word (λ ls e t. HasReported ls s e t) bytes e status text many a
+  not_answered mode.Watch many a = no_answer watch_laws watch_cause_word (λ ls e t. HasWatched ls s e t) bytes e status text many a
+  not_answered mode.Stages many a = no_answer laws cause_word (λ ls e t. TellsStages ls s e t) bytes e status text many a
   not_answered mode.Make many a = many
   not_answered mode.Trial many a = many
   not_answered mode.Replay many a = many

@@ -3,6 +3,8 @@ use Rattle.std.specs.Prelude.{◌≡◌, ◌≢◌, ◌<◌, ◌≤◌, ◌⊎�
 use Rattle.std.specs.Io.KnownBytes.{Consumes, IsAtEnd}
 use Rattle.orc_jobs.specs.Generated.{text_of_lines}
 use Rattle.orc_jobs.specs.JobGrammar.{IsFileOf, Refuses}
+use Rattle.orc_jobs.specs.declared.line.Line.{Line}
+use Rattle.orc_jobs.specs.declared.records.FileRefused.{FileRefused}
 use Rattle.orc_jobs.specs.declared.records.FileRefused.TheVariants as fault
 use Rattle.orc_watch.specs.WatchGrammar.{IsFileOf as IsWatchFile, Refuses as RefusesWatch}
 use Rattle.orc_trace.specs.declared.answers.Audit.{Audit}
@@ -17,18 +19,20 @@ use Rattle.orc_options.specs.declared.settings.Mode.{Mode}
 use Rattle.orc_options.specs.declared.settings.Mode.TheVariants as mode
 use Rattle.orc_options.specs.declared.settings.Settings.{Settings}
 use Rattle.orc_program.specs.declared.ended.Ended.{Ended}
+use Rattle.orc_program.specs.declared.jobs_mode.Way.{Way}
+use Rattle.orc_program.specs.declared.jobs_mode.Way.TheVariants as way
 use Rattle.orc_program.specs.declared.trace_mode.Told.{Told}
 use Rattle.orc_program.specs.declared.trace_mode.Told.TheVariants as told
 use Rattle.orc_program.specs.Ended.{HasReported, TellsStages, HasSummed, HasWatched, NothingEnded, generated_lines}
 use Rattle.orc_jobs.specs.declared.lines.TheConstants.{MOST_BYTES}
-use Rattle.orc_program.specs.Refusals.{input_too_large, malformed_line, malformed_watch, words_refused}
+use Rattle.orc_program.specs.Refusals.{cause_word, input_too_large, record_line, watch_cause_word, words_refused}
 
--- the text is the line of the first record that is outside the grammar, with its cause
-pub record NamesRecord {C : Type 0} (is_bad : ℕ → C → Type 0) (line : ℕ → C → List ℕ) (text : List ℕ) : Type 0 where
+-- the text is the line of the first record that is outside the grammar, with the word of its cause
+pub record NamesRecord {C : Type 0} (refuses : FileRefused C → Type 0) (word : C → List ℕ) (text : List ℕ) : Type 0 where
   pub place : ℕ
   pub why : C
-  pub refused : is_bad place why
-  pub says : text ≡ line place why
+  pub refused : refuses (fault.Malformed place why)
+  pub says : text ≡ record_line place (word why)
 
 -- the text names the first fault of the bytes as a trace
 pub record NamesFault (bytes text : List ℕ) : Type 0 where
@@ -47,24 +51,24 @@ TellsTrace told.Census bytes text = (played : Replayed) × IsReplay bytes played
 TellsTrace told.Audit bytes text = (audit : Audit) × IsAudit bytes audit × (text ≡ audit_lines audit)
 
 -- the lines of a file are worked through and told; other bytes are refused at their first record outside the grammar
-abbrev pub AnswersFile : {L C : Type 0} → (List L → Type 0) → (ℕ → C → Type 0) → (ℕ → C → List ℕ) → (List L → List ℕ → Type 0) → Ended → ℕ → List ℕ → Type 0
-AnswersFile {L} is_file is_bad line has_told ended status text =
-    ((status ≡ 0) × ((lines : List L) × is_file lines × has_told lines text))
-    ⊎ ((status ≡ 3) × NothingEnded ended × NamesRecord is_bad line text)
+abbrev pub AnswersFile : {L C : Type 0} → (List L → Type 0) → (FileRefused C → Type 0) → (C → List ℕ) → (List L → Ended → List ℕ → Type 0) → Ended → ℕ → List ℕ → Type 0
+AnswersFile {L} is_file refuses word has_told ended status text =
+    ((status ≡ 0) × ((lines : List L) × is_file lines × has_told lines ended text))
+    ⊎ ((status ≡ 3) × NothingEnded ended × NamesRecord refuses word text)
 
--- of a job file, which is reported, and of a watch file
-abbrev pub AnswersJobs : Settings → List ℕ → Ended → ℕ → List ℕ → Type 0
-AnswersJobs settings bytes ended = AnswersFile (λ lines. IsFileOf lines bytes) (λ place why. Refuses bytes (fault.Malformed place why)) malformed_line
-    (λ lines text. HasReported lines settings ended text) ended
+-- the jobs of these lines went their way, and the text tells what came of them
+abbrev pub TellsJobs : Way → List Line → Settings → Ended → List ℕ → Type 0
+TellsJobs way.Board lines settings ended text = HasReported lines settings ended text
+TellsJobs way.Stages lines settings ended text = TellsStages lines settings ended text
+
+-- of a job file, whose jobs go this way, and of a watch file
+abbrev pub AnswersJobs : Way → Settings → List ℕ → Ended → ℕ → List ℕ → Type 0
+AnswersJobs w settings bytes ended = AnswersFile (λ lines. IsFileOf lines bytes) (λ why. Refuses bytes why) cause_word
+    (λ lines e text. TellsJobs w lines settings e text) ended
 
 abbrev pub AnswersWatch : Settings → List ℕ → Ended → ℕ → List ℕ → Type 0
-AnswersWatch settings bytes ended = AnswersFile (λ lines. IsWatchFile lines bytes) (λ place why. RefusesWatch bytes (fault.Malformed place why))
-    malformed_watch (λ lines text. HasWatched lines settings ended text) ended
-
--- of a job file, whose jobs go through a pipeline
-abbrev pub AnswersStages : Settings → List ℕ → Ended → ℕ → List ℕ → Type 0
-AnswersStages settings bytes ended = AnswersFile (λ lines. IsFileOf lines bytes) (λ place why. Refuses bytes (fault.Malformed place why)) malformed_line
-    (λ lines text. TellsStages lines settings ended text) ended
+AnswersWatch settings bytes ended = AnswersFile (λ lines. IsWatchFile lines bytes) (λ why. RefusesWatch bytes why) watch_cause_word
+    (λ lines e text. HasWatched lines settings e text) ended
 
 -- a trace is told; other bytes are refused at their first fault
 abbrev pub AnswersTrace : Told → List ℕ → ℕ → List ℕ → Type 0
@@ -72,13 +76,13 @@ AnswersTrace what bytes status text = ((status ≡ 0) × TellsTrace what bytes t
 
 -- what each mode answers to bytes that are not too large
 abbrev pub ModeAnswers : Mode → Settings → List ℕ → Ended → ℕ → List ℕ → Type 0
-ModeAnswers mode.Run settings bytes ended status text = AnswersJobs settings bytes ended status text
+ModeAnswers mode.Run settings bytes ended status text = AnswersJobs way.Board settings bytes ended status text
 ModeAnswers mode.Make settings bytes ended status text = (status ≡ 0) × NothingEnded ended × (text ≡ made_text settings)
 ModeAnswers mode.Trial settings bytes ended status text = (status ≡ 0) × HasSummed settings ended text
 ModeAnswers mode.Replay settings bytes ended status text = NothingEnded ended × AnswersTrace told.Census bytes status text
 ModeAnswers mode.Audit settings bytes ended status text = NothingEnded ended × AnswersTrace told.Audit bytes status text
 ModeAnswers mode.Watch settings bytes ended status text = AnswersWatch settings bytes ended status text
-ModeAnswers mode.Stages settings bytes ended status text = AnswersStages settings bytes ended status text
+ModeAnswers mode.Stages settings bytes ended status text = AnswersJobs way.Stages settings bytes ended status text
 
 -- more records than a job file may have, or a watch file
 abbrev pub HasTooManyRecords : Mode → List ℕ → Type 0
@@ -91,10 +95,14 @@ HasTooManyRecords m bytes = ⊥
 abbrev pub IsTooLarge : Mode → List ℕ → Type 0
 IsTooLarge m bytes = (MOST_BYTES < length bytes) ⊎ HasTooManyRecords m bytes
 
+-- an input is refused for its size
+abbrev pub RefusesSize : Type 0 → Ended → ℕ → List ℕ → Type 0
+RefusesSize large ended status text = (status ≡ 6) × NothingEnded ended × large × (text ≡ input_too_large)
+
 -- what the program answers in these settings to these bytes: that they are too large, or what the mode answers
 abbrev pub ProgramAnswers : Settings → List ℕ → Ended → ℕ → List ℕ → Type 0
 ProgramAnswers settings bytes ended status text =
-    ((status ≡ 6) × NothingEnded ended × IsTooLarge settings.mode bytes × (text ≡ input_too_large))
+    RefusesSize (IsTooLarge settings.mode bytes) ended status text
     ⊎ ((length bytes ≤ MOST_BYTES) × ModeAnswers settings.mode settings bytes ended status text)
 
 -- the mode reads an input

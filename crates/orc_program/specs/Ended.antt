@@ -30,13 +30,17 @@ use Rattle.orc_program.specs.declared.ended.Ended.{Ended}
 use Rattle.orc_options.specs.declared.settings.Settings.{Settings}
 use Rattle.orc_program.specs.Headline.{Headline, WorkedThrough}
 
--- nothing has ended yet
-pub record NothingEnded (ended : Ended) : Type 0 where
+-- no run has ended
+pub record NoRunEnded (ended : Ended) : Type 0 where
   pub queue : ended.queue ≡ None
   pub rush : ended.rush ≡ None
   pub set : ended.set ≡ None
   pub split : ended.split ≡ None
   pub replies : ended.replies ≡ None
+
+-- nothing has ended yet
+pub record NothingEnded (ended : Ended) : Type 0 where
+  pub run : NoRunEnded ended
   pub cell : ended.cell ≡ None
   pub stages : ended.stages ≡ None
 
@@ -56,37 +60,24 @@ pub record RunEnded (finished : Finished) (ended : Ended) : Type 0 where
 
 -- what a watch has left is there
 pub record WatchEnded (finished : WatchFinished) (ended : Ended) : Type 0 where
-  pub queue : ended.queue ≡ None
-  pub rush : ended.rush ≡ None
-  pub set : ended.set ≡ None
-  pub split : ended.split ≡ None
-  pub replies : ended.replies ≡ None
+  pub run : NoRunEnded ended
   pub cell : ended.cell ≡ Some finished.cell
   pub stages : ended.stages ≡ None
 
 -- what a run of the pipeline has left is there
 pub record StagesEnded (finished : StagesFinished) (ended : Ended) : Type 0 where
-  pub queue : ended.queue ≡ None
-  pub rush : ended.rush ≡ None
-  pub set : ended.set ≡ None
-  pub split : ended.split ≡ None
-  pub replies : ended.replies ≡ None
+  pub run : NoRunEnded ended
   pub cell : ended.cell ≡ None
   pub stages : ended.stages ≡ Some finished.queues
 
 -- Where a run has ended, by the three actual journals, of the queue, at false, of the rush queue, at true, and of the set, or by that
 -- of the cell: no row was used again while it was linked or held, nor twice; and at the end what was given was freed or is linked.
 pub record EndsSafely (ended : Ended) : Type 0 where
-  pub queues_reuse : (rush : Bool) → IfSome (pick ended.queue ended.rush rush) (λ r. ReusesRowsSafely (domain_bounds (rest_domain r)) r)
-  pub set_reuse : IfSome ended.set (λ r. ReusesRowsSafely (domain_bounds (rest_domain r)) r)
-  pub split_reuse : IfSome ended.split (λ r. ReusesRowsSafely (domain_bounds (rest_domain r)) r)
-  pub cell_reuse : IfSome ended.cell (λ r. ReusesSafely (domain_bounds (rest_domain r)) (rest_journal r))
-  pub stages_reuse : IfSome ended.stages (λ rs. AllByRecursion (λ r. ReusesRowsSafely (domain_bounds (rest_domain r)) r) rs.items)
-  pub queues_rest : (rush : Bool) → IfSome (pick ended.queue ended.rush rush) (λ r. EndsWithoutLeak (domain_bounds (rest_domain r)) r)
-  pub set_rest : IfSome ended.set (λ r. EndsWithoutLeak (domain_bounds (rest_domain r)) r)
-  pub split_rest : IfSome ended.split (λ r. EndsWithoutLeak (domain_bounds (rest_domain r)) r)
-  pub cell_rest : IfSome ended.cell (λ r. LeaksNothing (domain_bounds (rest_domain r)) (rest_journal r))
-  pub stages_rest : IfSome ended.stages (λ rs. AllByRecursion (λ r. EndsWithoutLeak (domain_bounds (rest_domain r)) r) rs.items)
+  pub queues : (rush : Bool) → IfSome (pick ended.queue ended.rush rush) (λ r. ReusesRowsSafely (domain_bounds (rest_domain r)) r × EndsWithoutLeak (domain_bounds (rest_domain r)) r)
+  pub set : IfSome ended.set (λ r. ReusesRowsSafely (domain_bounds (rest_domain r)) r × EndsWithoutLeak (domain_bounds (rest_domain r)) r)
+  pub split : IfSome ended.split (λ r. ReusesRowsSafely (domain_bounds (rest_domain r)) r × EndsWithoutLeak (domain_bounds (rest_domain r)) r)
+  pub cell : IfSome ended.cell (λ r. ReusesSafely (domain_bounds (rest_domain r)) (rest_journal r) × LeaksNothing (domain_bounds (rest_domain r)) (rest_journal r))
+  pub stages : IfSome ended.stages (λ rs. AllByRecursion (λ r. ReusesRowsSafely (domain_bounds (rest_domain r)) r × EndsWithoutLeak (domain_bounds (rest_domain r)) r) rs.items)
 
 -- these lines were worked through as the settings say, and the headline holds of what has ended
 pub record HasReported (lines : List Line) (settings : Settings) (ended : Ended) (text : List ℕ) : Type 0 where

@@ -39,8 +39,8 @@ malformed_line place why = record_line place (cause_word why)
 abbrev pub malformed_watch : ℕ → WatchCause → List ℕ
 malformed_watch place why = record_line place (watch_cause_word why)
 
--- how a job file with this fault is refused: by the line of its record, or for its many records; for want of memory it has no answer
-abbrev pub RefusesJobs : FileRefused Cause → ℕ → List ℕ → Type 0
-RefusesJobs (fault.Malformed place why) status text = (status ≡ 3) × (text ≡ malformed_line place why)
-RefusesJobs fault.TooMany status text = (status ≡ 6) × (text ≡ input_too_large)
-RefusesJobs fault.NoMemory status text = ⊥
+-- how a file with this fault is refused, where each cause has a word: by the line of its record, or for its many records; for want of memory it has no answer
+abbrev pub AnswersFault : {C : Type 0} → (C → List ℕ) → FileRefused C → ℕ → List ℕ → Type 0
+AnswersFault word (fault.Malformed place why) status text = (status ≡ 3) × (text ≡ record_line place (word why))
+AnswersFault word fault.TooMany status text = (status ≡ 6) × (text ≡ input_too_large)
+AnswersFault word fault.NoMemory status text = ⊥

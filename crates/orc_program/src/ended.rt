@@ -41,10 +41,9 @@ impl Ended {
         }
     }
 
-    // Keeps what a run has left.
-    pub(crate) fn keep(&mut self, finished: Finished)
-        requires { NothingEnded self.old }
-        ensures { RunEnded finished self.new }
+    // What a run has left.
+    pub(crate) fn of_run(finished: Finished) -> Ended
+        ensures { RunEnded finished result }
     {
         let Finished {
             queue,
@@ -52,30 +51,34 @@ impl Ended {
             set,
             replies,
         } = finished;
-        self.queue = Some(queue);
-        self.rush = Some(rush);
+        let mut ended = Ended::new();
+        ended.queue = Some(queue);
+        ended.rush = Some(rush);
         match set {
-            SetRest::Lists(rest) => self.set = Some(rest),
-            SetRest::Split(rest) => self.split = Some(rest),
+            SetRest::Lists(rest) => ended.set = Some(rest),
+            SetRest::Split(rest) => ended.split = Some(rest),
         }
-        self.replies = Some(replies);
+        ended.replies = Some(replies);
+        ended
     }
 
-    // Keeps what a watch has left.
-    pub(crate) fn keep_cell(&mut self, finished: WatchFinished)
-        requires { NothingEnded self.old }
-        ensures { WatchEnded finished self.new }
+    // What a watch has left.
+    pub(crate) fn of_watch(finished: WatchFinished) -> Ended
+        ensures { WatchEnded finished result }
     {
         let WatchFinished { cell, .. } = finished;
-        self.cell = Some(cell);
+        let mut ended = Ended::new();
+        ended.cell = Some(cell);
+        ended
     }
 
-    // Keeps what a run of the pipeline has left.
-    pub(crate) fn keep_stages(&mut self, finished: StagesFinished)
-        requires { NothingEnded self.old }
-        ensures { StagesEnded finished self.new }
+    // What a run of the pipeline has left.
+    pub(crate) fn of_stages(finished: StagesFinished) -> Ended
+        ensures { StagesEnded finished result }
     {
         let StagesFinished { queues, .. } = finished;
-        self.stages = Some(queues);
+        let mut ended = Ended::new();
+        ended.stages = Some(queues);
+        ended
     }
 }

@@ -1,68 +1,74 @@
-//! Mode run: a job file is worked through and reported.
-ghost use Rattle.std.specs.Prelude.{◌≡◌, ◌≤◌, ◌⊎◌, if◌then◌else◌, IfOk, None, OnErr, Some, length};
+//! Modes run and stages: the jobs of a job file are worked through and reported, or go through a pipeline.
+ghost use Rattle.std.specs.Prelude.{◌≡◌, ◌≤◌, ◌⊎◌, if◌then◌else◌, IfOk, None, Some, length};
 ghost use Rattle.orc_jobs.specs.GoodLines.{AreGood};
 ghost use Rattle.orc_jobs.specs.JobGrammar.{Refuses};
 ghost use Rattle.orc_options.specs.Settings.{AreInRange};
-ghost use Rattle.orc_program.specs.Answers.{AnswersJobs};
-ghost use Rattle.orc_program.specs.Ended.{HasReported, NothingEnded};
+ghost use Rattle.orc_program.specs.Answers.{AnswersJobs, RefusesSize, TellsJobs};
+ghost use Rattle.orc_program.specs.Ended.{HasReported};
 ghost use Rattle.orc_program.specs.Headline.{numbers_of_rest};
-ghost use Rattle.orc_program.specs.Refusals.{input_too_large};
 
 use crate::Ended;
-use crate::answer::{Answer, refuse_jobs};
-use crate::working::run_as_asked;
+use crate::answer::{Answer, Setup};
+use crate::refusing::refuse_file;
 use orc_board::Gate;
 use orc_fault::NoMemory;
 use orc_jobs::{FileRefused, Lines, MOST_BYTES, read_jobs};
-use orc_options::Settings;
 use orc_report::{RestNumbers, report_text};
 use orc_run::Finished;
-use std::alloc::Global;
 use std::sync::Wait;
 use std::thread::Threads;
 
-// The report of the jobs of these bytes, or why there is none.
-pub(crate) fn answer_jobs<R: Threads + Wait + Sync, G: Gate + Sync>(
-    rt: &R,
-    alloc: Global,
-    settings: Settings,
-    bytes: &[u8],
-    gate: &G,
-    ended: &mut Ended,
-) -> Result<Answer, NoMemory>
-    requires ranges { AreInRange settings }
-    requires few { length bytes.now ≤ MOST_BYTES }
-    requires new { NothingEnded ended.old }
-    ensures answers { IfOk result (λ a. AnswersJobs settings bytes.now ended.new a.status a.text
-        ⊎ ((a.status ≡ 6) × NothingEnded ended.new × Refuses bytes.now FileRefused.TooMany × (a.text ≡ input_too_large))) }
-    ensures nothing { OnErr result (NothingEnded ended.new) }
-{
-    match read_jobs(alloc, bytes) {
-        Ok(lines) => report(rt, alloc, settings, &lines, gate, ended),
-        Err(fault) => refuse_jobs(alloc, fault),
-    }
+/// What the jobs of a file go through.
+#[derive(Clone, Copy)]
+pub(crate) enum Way {
+    /// The queue, the rush queue and the set of the job board.
+    Board,
+    /// A pipeline of queues.
+    Stages,
 }
 
-// Works through these lines, and reports.
-fn report<R: Threads + Wait + Sync, G: Gate + Sync>(
-    rt: &R,
-    alloc: Global,
-    settings: Settings,
-    lines: &Lines,
-    gate: &G,
-    ended: &mut Ended,
-) -> Result<Answer, NoMemory>
-    requires ranges { AreInRange settings }
-    requires good { AreGood lines.now }
-    requires new { NothingEnded ended.old }
-    ensures reported { IfOk result (λ a. (a.status ≡ 0) × HasReported lines.now settings ended.new a.text) }
-    ensures nothing { OnErr result (NothingEnded ended.new) }
-{
-    let finished = run_as_asked(rt, alloc, settings, lines, gate)?;
-    let numbers = numbers_at_rest(settings.rest, &finished);
-    let text = report_text(alloc, lines, &finished.replies, numbers.as_ref())?;
-    ended.keep(finished);
-    Ok(Answer { status: 0, text })
+impl<R: Threads + Wait + Sync, G: Gate + Sync> Setup<'_, R, G> {
+    // What came of the jobs of these bytes, or why nothing did.
+    pub(crate) fn answer_jobs(&self, bytes: &[u8], way: Way) -> Result<Answer, NoMemory>
+        requires ranges { AreInRange self.now.settings }
+        requires few { length bytes.now ≤ MOST_BYTES }
+        ensures { IfOk result (λ a. AnswersJobs way self.now.settings bytes.now a.ended a.status a.text
+            ⊎ RefusesSize (Refuses bytes.now FileRefused.TooMany) a.ended a.status a.text) }
+    {
+        match read_jobs(self.alloc, bytes) {
+            Ok(lines) => self.tell(&lines, way),
+            Err(fault) => refuse_file(self.alloc, fault),
+        }
+    }
+
+    // Takes these lines their way, and tells what came of them.
+    fn tell(&self, lines: &Lines, way: Way) -> Result<Answer, NoMemory>
+        requires ranges { AreInRange self.now.settings }
+        requires good { AreGood lines.now }
+        ensures { IfOk result (λ a. (a.status ≡ 0) × TellsJobs way lines.now self.now.settings a.ended a.text) }
+    {
+        match way {
+            Way::Board => self.report(lines),
+            Way::Stages => self.send_through(lines),
+        }
+    }
+
+    // Works through these lines, and reports.
+    fn report(&self, lines: &Lines) -> Result<Answer, NoMemory>
+        requires ranges { AreInRange self.now.settings }
+        requires good { AreGood lines.now }
+        ensures { IfOk result (λ a. (a.status ≡ 0) × HasReported lines.now self.now.settings a.ended a.text) }
+    {
+        let finished = self.run(lines)?;
+        let numbers = numbers_at_rest(self.settings.rest, &finished);
+        let text = report_text(self.alloc, lines, &finished.replies, numbers.as_ref())?;
+        let ended = Ended::of_run(finished);
+        Ok(Answer {
+            status: 0,
+            text,
+            ended,
+        })
+    }
 }
 
 // What is at rest after a run, where it is asked for.

@@ -9,6 +9,7 @@ mod jobs_mode;
 mod laws;
 mod make_mode;
 mod reading;
+mod refusing;
 mod stages_mode;
 mod streams;
 mod top_call;

@@ -9,7 +9,7 @@ ghost use Rattle.orc_options.specs.Settings.{AskFor};
 ghost use Rattle.orc_program.specs.Answers.{AnswersWords, AskToRead};
 ghost use Rattle.orc_program.specs.Ended.{EndsSafely, NothingEnded};
 
-use crate::answer::answer_of;
+use crate::answer::{Answer, Setup};
 use crate::reading::read_input;
 use crate::writing::{refuse_words, write_text};
 use crate::{CommandWords, Ended};
@@ -92,8 +92,21 @@ pub fn orc_main<R: Threads + Wait + Sync, S: Source, K: Sink, G: Gate + Sync>(
         Err(ReadAll::Failed) => return 4,
         Err(ReadAll::NoMemory) => return 7,
     };
-    match answer_of(rt, alloc, settings, bytes.as_slice(), gate, ended) {
-        Ok(answer) => write_text(sink, answer.text.bytes(), answer.status),
+    let setup = Setup {
+        rt,
+        alloc,
+        settings,
+        gate,
+    };
+    match setup.answer_of(bytes.as_slice()) {
+        Ok(Answer {
+            status,
+            text,
+            ended: left,
+        }) => {
+            *ended = left;
+            write_text(sink, text.bytes(), status)
+        }
         Err(NoMemory) => 7,
     }
 }

@@ -1,36 +1,31 @@
 //! Mode trial: generated work is worked through and summed up.
-ghost use Rattle.std.specs.Prelude.{◌≡◌, IfOk, OnErr};
+ghost use Rattle.std.specs.Prelude.{◌≡◌, IfOk};
 ghost use Rattle.orc_options.specs.Settings.{AreInRange};
-ghost use Rattle.orc_program.specs.Ended.{HasSummed, NothingEnded};
+ghost use Rattle.orc_program.specs.Ended.{HasSummed};
 
 use crate::Ended;
-use crate::answer::Answer;
-use crate::working::run_as_asked;
+use crate::answer::{Answer, Setup};
 use orc_board::Gate;
 use orc_fault::NoMemory;
 use orc_jobs::make_lines;
-use orc_options::Settings;
 use orc_report::summary_text;
-use std::alloc::Global;
 use std::sync::Wait;
 use std::thread::Threads;
 
-// Works through the lines that are generated from the settings' seed, and sums up.
-pub(crate) fn answer_trial<R: Threads + Wait + Sync, G: Gate + Sync>(
-    rt: &R,
-    alloc: Global,
-    settings: Settings,
-    gate: &G,
-    ended: &mut Ended,
-) -> Result<Answer, NoMemory>
-    requires ranges { AreInRange settings }
-    requires new { NothingEnded ended.old }
-    ensures summed { IfOk result (λ a. (a.status ≡ 0) × HasSummed settings ended.new a.text) }
-    ensures nothing { OnErr result (NothingEnded ended.new) }
-{
-    let made = make_lines(alloc, settings.seed, settings.lines)?;
-    let finished = run_as_asked(rt, alloc, settings, &made, gate)?;
-    let text = summary_text(alloc, &made, &finished.replies)?;
-    ended.keep(finished);
-    Ok(Answer { status: 0, text })
+impl<R: Threads + Wait + Sync, G: Gate + Sync> Setup<'_, R, G> {
+    // Works through the lines that are generated from the settings' seed, and sums up.
+    pub(crate) fn answer_trial(&self) -> Result<Answer, NoMemory>
+        requires { AreInRange self.now.settings }
+        ensures { IfOk result (λ a. (a.status ≡ 0) × HasSummed self.now.settings a.ended a.text) }
+    {
+        let made = make_lines(self.alloc, self.settings.seed, self.settings.lines)?;
+        let finished = self.run(&made)?;
+        let text = summary_text(self.alloc, &made, &finished.replies)?;
+        let ended = Ended::of_run(finished);
+        Ok(Answer {
+            status: 0,
+            text,
+            ended,
+        })
+    }
 }

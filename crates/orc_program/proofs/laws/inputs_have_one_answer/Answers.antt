@@ -1,3 +1,8 @@
+use Rattle.orc_jobs.proofs.GrammarLaws.{laws}
+use Rattle.orc_watch.proofs.GrammarLaws.{laws as watch_laws}
+use Rattle.orc_options.specs.declared.settings.Mode.TheVariants as mode
+use Rattle.orc_program.specs.Ended.{HasReported, HasWatched, TellsStages}
+use Rattle.orc_program.specs.Refusals.{cause_word, watch_cause_word}
 use Rattle.orc_program.proofs.OneAnswer as one
 use Rattle.orc_program.proofs.laws.inputs_have_one_answer.Goals as goal
 
@@ -8,7 +13,7 @@ pub returns-clause-file : goal.returns-clause-file
 returns-clause-file c = one.file
 
 pub returns-clause-record : goal.returns-clause-record
-returns-clause-record c = one.refused
+returns-clause-record c s bytes e status text = one.of_bad s bytes e status text laws cause_word (λ ls e t. HasReported ls s e t) mode.Run (λ h. h) (λ h. h)
 
 pub returns-clause-make : goal.returns-clause-make
 returns-clause-make c = one.make
@@ -26,13 +31,13 @@ pub returns-clause-fault : goal.returns-clause-fault
 returns-clause-fault c = one.fault_named
 
 pub returns-clause-watch : goal.returns-clause-watch
-returns-clause-watch c = one.watch_file
+returns-clause-watch c s bytes e status text = one.of_lines s bytes e status text watch_laws watch_cause_word (λ ls e t. HasWatched ls s e t) mode.Watch (λ h. h) (λ h. h)
 
 pub returns-clause-watch_record : goal.returns-clause-watch_record
-returns-clause-watch_record c = one.watch_refused
+returns-clause-watch_record c s bytes e status text = one.of_bad s bytes e status text watch_laws watch_cause_word (λ ls e t. HasWatched ls s e t) mode.Watch (λ h. h) (λ h. h)
 
 pub returns-clause-stages : goal.returns-clause-stages
-returns-clause-stages c = one.stages_file
+returns-clause-stages c s bytes e status text = one.of_lines s bytes e status text laws cause_word (λ ls e t. TellsStages ls s e t) mode.Stages (λ h. h) (λ h. h)
 
 pub returns-clause-stages_record : goal.returns-clause-stages_record
-returns-clause-stages_record c = one.stages_refused
+returns-clause-stages_record c s bytes e status text = one.of_bad s bytes e status text laws cause_word (λ ls e t. TellsStages ls s e t) mode.Stages (λ h. h) (λ h. h)

@@ -5,19 +5,19 @@ use Rattle.orc_run.specs.Runs.{set_bounds}
 use Rattle.orc_program.specs.Ended.{generated_lines}
 use Rattle.orc_program.specs.Headline.{WorkedThrough, set_of}
 use Rattle.orc_program.proofs.Sums.{can_be_reported, has-summed}
-use Rattle.orc_program.proofs.trial_mode.answer_trial.Goals as goal
+use Rattle.orc_program.proofs.trial_mode.Setup.answer_trial.Goals as goal
 
 pub summary_text-requires-clause-reportable : goal.summary_text-requires-clause-reportable
 summary_text-requires-clause-reportable g c =
-    let s = c.args.settings in
+    let s = c.args.self.now.settings in
     let f = c.in_ok-finished.finished in
     can_be_reported c.in_ok-made.made s.posters s.takers s.rows (set_bounds s.posters s.takers s.rows (set_of s)) f f.set c.in_ok-finished.ensures.replies
 
-pub returns-clause-summed : goal.returns-clause-summed
-returns-clause-summed g c =
-    let s = c.args.settings in
+pub returns : goal.returns
+returns g c =
+    let s = c.args.self.now.settings in
     let f = c.in_ok-finished.finished in
     let worked = subst (λ (lines : List Line). WorkedThrough lines s f) c.in_ok-made.ensures.lines c.in_ok-finished.ensures in
     let summary : c.in_ok-text.text ≡ summary_of (done_jobs (generated_lines s) f.replies.takes.items) =
     c.in_ok-text.ensures ∙ ap (λ (lines : List Line). summary_of (done_jobs lines f.replies.takes.items)) c.in_ok-made.ensures.lines in
-    (refl, has-summed s f c.keep.new.self c.in_ok-text.text c.requires.ranges.some_posters c.keep.ensures worked summary)
+    (refl, has-summed s f c.of_run.result c.in_ok-text.text c.requires.some_posters c.of_run.ensures worked summary)

@@ -5,7 +5,7 @@ use Rattle.orc_run.specs.Runs.{WorkedThrough}
 use Rattle.orc_run.specs.Sets.{IsInRange}
 use Rattle.orc_run.specs.declared.set.SetChoice.{SetChoice}
 use Rattle.orc_program.specs.Headline.{choice_of}
-use Rattle.orc_program.proofs.working.run_as_asked.Goals as goal
+use Rattle.orc_program.proofs.working.Setup.run.Goals as goal
 
 -- the buckets of the settings are in range
 in_range : (which : SetKind) (buckets : ℕ) → 1 ≤ buckets → buckets ≤ 256 → IsInRange (choice_of which buckets)
@@ -15,9 +15,9 @@ in_range kind.Split buckets some few = tt
 pub run_lines-requires-clause-set : goal.run_lines-requires-clause-set
 run_lines-requires-clause-set g c = λ lives outlive.
     subst (λ (set : SetChoice). IsInRange set) (sym c.set_of.ensures)
-    (in_range c.args.settings.set c.args.settings.buckets c.requires.ranges.some_buckets c.requires.ranges.few_buckets)
+    (in_range c.args.self.now.settings.set c.args.self.now.settings.buckets c.requires.ranges.some_buckets c.requires.ranges.few_buckets)
 
 pub returns : goal.returns
 returns g c =
-    subst (λ (set : SetChoice). IfOk c.run_lines.result (λ f. WorkedThrough c.args.lines.now c.args.settings.posters c.args.settings.takers
-    c.args.settings.rows set f)) c.set_of.ensures c.run_lines.ensures
+    subst (λ (set : SetChoice). IfOk c.run_lines.result (λ f. WorkedThrough c.args.lines.now c.args.self.now.settings.posters c.args.self.now.settings.takers
+    c.args.self.now.settings.rows set f)) c.set_of.ensures c.run_lines.ensures

@@ -1,9 +1,9 @@
 use Rattle.std.proofs.Common.{rules, ◌≡◌, refl}
 use Rattle.orc_stages_text.specs.StagesText.{stages_report}
-use Rattle.orc_program.proofs.stages_mode.send_through.Goals as goal
+use Rattle.orc_program.proofs.stages_mode.Setup.send_through.Goals as goal
 
-pub returns-clause-told : goal.returns-clause-told
-returns-clause-told g c =
+pub returns : goal.returns
+returns g c =
     let f = c.in_ok-finished.finished in
     let told : c.in_ok-text.text ≡ stages_report f.done.posts.items f.done.moves.items f.done.outs.items = search rules in
-    (refl, record { finished = f; kept = c.keep_stages.ensures; run = c.in_ok-finished.ensures; told = told })
+    (refl, record { finished = f; kept = c.of_stages.ensures; run = c.in_ok-finished.ensures; told = told })

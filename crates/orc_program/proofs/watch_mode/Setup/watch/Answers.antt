@@ -1,0 +1,11 @@
+use Rattle.std.proofs.Common.{rules, ◌≡◌, None, Some, if◌then◌else◌, refl}
+use Rattle.orc_program.specs.Ended.{cell_numbers}
+use Rattle.orc_program.proofs.watch_mode.Setup.watch.Goals as goal
+use Rattle.orc_watch.specs.WatchText.{watch_report}
+
+pub returns : goal.returns
+returns g c =
+    let f = c.in_ok-finished.finished in
+    let told : c.in_ok-text.text
+    ≡ watch_report f.replies.items f.now_left f.now_right (if c.args.self.now.settings.rest then Some (cell_numbers f) else None) = search rules in
+    (refl, record { finished = f; kept = c.of_watch.ensures; run = c.in_ok-finished.ensures; told = told })
