@@ -72,21 +72,12 @@ lines-one_more made all n m id x is e =
 
 -- ---- they are good
 
-IsUtf8-space : IsUtf8 (codes " ")
-IsUtf8-space = search rules
-
-IsUtf8-letter : IsUtf8 (codes "x")
-IsUtf8-letter = search rules
-
-IsUtf8-word : IsUtf8 (codes "ab")
-IsUtf8-word = search rules
-
 joined-utf8 : (ps : List (List ℕ)) → All IsUtf8 ps → IsUtf8 (join_with_byte 32 ps)
 joined-utf8 [] h = IsUtf8-nil
 joined-utf8 (p ∷ []) h = All-head IsUtf8 p [] h
 joined-utf8 (p ∷ q ∷ ps) h =
     IsUtf8-append p (32 ∷ join_with_byte 32 (q ∷ ps)) (All-head IsUtf8 p (q ∷ ps) h)
-    (IsUtf8-append (32 ∷ []) (join_with_byte 32 (q ∷ ps)) IsUtf8-space (joined-utf8 (q ∷ ps) (All-tail IsUtf8 p (q ∷ ps) h)))
+    (IsUtf8-append (32 ∷ []) (join_with_byte 32 (q ∷ ps)) (search rules) (joined-utf8 (q ∷ ps) (All-tail IsUtf8 p (q ∷ ps) h)))
 
 abbrev IsShort : List ℕ → Type 0
 IsShort p = length p ≤ 3
@@ -123,8 +114,8 @@ pieces-short ds = all-mapped IsSmall IsShort decimal (λ k h. length-decimal-le 
 
 text-utf8 : (op : Job) (n x : ℕ) → IsUtf8 (text_of op n x)
 text-utf8 job.Bytes zero x = IsUtf8-nil
-text-utf8 job.Bytes (suc n) x = IsUtf8-append (120 ∷ []) (replicate n 120) IsUtf8-letter (text-utf8 job.Bytes n x)
-text-utf8 job.Words n x = joined-utf8 _ (all-replicated IsUtf8 n (codes "ab") IsUtf8-word)
+text-utf8 job.Bytes (suc n) x = IsUtf8-append (120 ∷ []) (replicate n 120) (search rules) (text-utf8 job.Bytes n x)
+text-utf8 job.Words n x = joined-utf8 _ (all-replicated IsUtf8 n (codes "ab") (search rules))
 text-utf8 job.Sum n x = joined-utf8 _ (pieces-utf8 (draws n x))
 
 text-short : (op : Job) (n x : ℕ) → length (text_of op n x) ≤ 4 * n

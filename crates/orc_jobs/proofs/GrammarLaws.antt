@@ -2,7 +2,7 @@
 use Rattle.std.proofs.Common.{◌≡◌, ◌≢◌, ◌∙◌, ◌<◌, ◌^◌, ◌⊎◌, All, List, [], ◌∷◌, ℕ, codes, refl, arith, ap, sym, get_or, inl, inr, Bool, true, false, IsUtf8, rules, ◌==◌, if◌then◌else◌}
 use Rattle.std.proofs.lemmas.List.Elements.{All-cons, All-nil}
 use Rattle.std.specs.Fmt.{decimal}
-use Rattle.orc_jobs.proofs.Fields.{IsUtf8-decimal, first-byte, first-field}
+use Rattle.orc_jobs.proofs.Fields.{IsUtf8-decimal, first-field, two-texts}
 use Rattle.orc_jobs.proofs.FileLaws.{AreDetermined, one-cause, one-reading, one-refusal}
 use Rattle.std.proofs.lemmas.Fmt.{decimal_injective}
 use Rattle.orc_jobs.specs.JobGrammar.{Applies, HasCause, IsFileOf, IsLine, Refuses, TakesText, rank_of, record_of, word_of}
@@ -19,28 +19,10 @@ use Rattle.orc_jobs.specs.declared.records.FileRefused.TheVariants as fault
 
 -- ---- lines and causes
 
-post-not-drop : codes "post" ≡ codes "drop" → ⊥
-post-not-drop e = let first : 112 ≡ 100 = ap (λ t. get_or t 0 0) e in omega (arith, first)
-
 IsUtf8-word_of : (op : Job) → IsUtf8 (word_of op)
 IsUtf8-word_of job.Bytes = search rules
 IsUtf8-word_of job.Words = search rules
 IsUtf8-word_of job.Sum = search rules
-
-rush-not-drop : codes "rush" ≡ codes "drop" → ⊥
-rush-not-drop e = let first : 114 ≡ 100 = ap (λ t. get_or t 0 0) e in omega (arith, first)
-
-post-not-rush : codes "post" ≡ codes "rush" → ⊥
-post-not-rush e = let first : 112 ≡ 114 = ap (λ t. get_or t 0 0) e in omega (arith, first)
-
-IsUtf8-rush : IsUtf8 (codes "rush")
-IsUtf8-rush = search rules
-
-IsUtf8-post : IsUtf8 (codes "post")
-IsUtf8-post = search rules
-
-IsUtf8-drop : IsUtf8 (codes "drop")
-IsUtf8-drop = search rules
 
 -- the record of a job, with this verb
 job_record : List ℕ → ℕ → Job → List ℕ → List (List ℕ)
@@ -60,16 +42,16 @@ IsUtf8-job verb id op text v h =
 
 IsUtf8-record_of : (l : Line) → IsLine l → All IsUtf8 (record_of l)
 unfolding job_record
-IsUtf8-record_of (line.Post id op text) h = IsUtf8-job (codes "post") id op text IsUtf8-post h
-IsUtf8-record_of (line.Rush id op text) h = IsUtf8-job (codes "rush") id op text IsUtf8-rush h
+IsUtf8-record_of (line.Post id op text) h = IsUtf8-job (codes "post") id op text (search rules) h
+IsUtf8-record_of (line.Rush id op text) h = IsUtf8-job (codes "rush") id op text (search rules) h
 IsUtf8-record_of (line.Drop id) h =
     let two = All-cons IsUtf8 (decimal id) [] (IsUtf8-decimal id h) (All-nil IsUtf8) in
-    All-cons IsUtf8 (codes "drop") (decimal id ∷ []) IsUtf8-drop two
+    All-cons IsUtf8 (codes "drop") (decimal id ∷ []) (search rules) two
 
 -- a line that sums has a text of numbers
 sums-numbers : (id : ℕ) (op : Job) (text : List ℕ) → IsJob id op text → word_of op ≡ codes "sum" → IsNumberList text
-sums-numbers id job.Bytes text h e = let bad : 98 ≡ 115 = first-byte e in absurd (omega (arith, bad))
-sums-numbers id job.Words text h e = let bad : 119 ≡ 115 = first-byte e in absurd (omega (arith, bad))
+sums-numbers id job.Bytes text h e = absurd (two-texts e refl)
+sums-numbers id job.Words text h e = absurd (two-texts e refl)
 sums-numbers id job.Sum text h e = h.2
 
 -- no cause applies to the record of a job whose verb is one
@@ -87,8 +69,8 @@ job-not-applies verb id op text v no_drop known h cause.Sum bad = bad.2 (sums-nu
 -- no cause applies to the record of a line
 not-applies : (l : Line) → IsLine l → (why : Cause) → ¬ Applies why (record_of l)
 unfolding job_record
-not-applies (line.Post id op text) h why bad = job-not-applies (codes "post") id op text IsUtf8-post post-not-drop (λ no. no.0 refl) h why bad
-not-applies (line.Rush id op text) h why bad = job-not-applies (codes "rush") id op text IsUtf8-rush rush-not-drop (λ no. no.1 refl) h why bad
+not-applies (line.Post id op text) h why bad = job-not-applies (codes "post") id op text (search rules) (λ e. two-texts e refl) (λ no. no.0 refl) h why bad
+not-applies (line.Rush id op text) h why bad = job-not-applies (codes "rush") id op text (search rules) (λ e. two-texts e refl) (λ no. no.1 refl) h why bad
 not-applies (line.Drop id) h cause.Fields (inl bad) = bad.1 refl
 not-applies (line.Drop id) h cause.Fields (inr bad) = bad.0 refl
 not-applies (line.Drop id) h cause.Utf8 bad = bad (IsUtf8-record_of (line.Drop id) h)
@@ -113,13 +95,13 @@ cause_at-rank_of cause.Sum = refl
 
 same-op : (a b : Job) → word_of a ≡ word_of b → a ≡ b
 same-op job.Bytes job.Bytes e = refl
-same-op job.Bytes job.Words e = let bad : 98 ≡ 119 = first-byte e in absurd (omega (arith, bad))
-same-op job.Bytes job.Sum e = let bad : 98 ≡ 115 = first-byte e in absurd (omega (arith, bad))
-same-op job.Words job.Bytes e = let bad : 119 ≡ 98 = first-byte e in absurd (omega (arith, bad))
+same-op job.Bytes job.Words e = absurd (two-texts e refl)
+same-op job.Bytes job.Sum e = absurd (two-texts e refl)
+same-op job.Words job.Bytes e = absurd (two-texts e refl)
 same-op job.Words job.Words e = refl
-same-op job.Words job.Sum e = let bad : 119 ≡ 115 = first-byte e in absurd (omega (arith, bad))
-same-op job.Sum job.Bytes e = let bad : 115 ≡ 98 = first-byte e in absurd (omega (arith, bad))
-same-op job.Sum job.Words e = let bad : 115 ≡ 119 = first-byte e in absurd (omega (arith, bad))
+same-op job.Words job.Sum e = absurd (two-texts e refl)
+same-op job.Sum job.Bytes e = absurd (two-texts e refl)
+same-op job.Sum job.Words e = absurd (two-texts e refl)
 same-op job.Sum job.Sum e = refl
 
 -- a job is known by its record
@@ -141,12 +123,12 @@ pub same-line : (a b : Line) → IsLine a → IsLine b → record_of a ≡ recor
 unfolding job_record
 same-line (line.Post i o s) (line.Post j p t) h k e = same-job (codes "post") false i o s j p t h k e
 same-line (line.Rush i o s) (line.Rush j p t) h k e = same-job (codes "rush") true i o s j p t h k e
-same-line (line.Post i o s) (line.Rush j p t) h k e = absurd (post-not-rush (first-field e))
-same-line (line.Rush i o s) (line.Post j p t) h k e = absurd (post-not-rush (sym (first-field e)))
-same-line (line.Rush i o s) (line.Drop j) h k e = absurd (rush-not-drop (first-field e))
-same-line (line.Drop i) (line.Rush j p t) h k e = absurd (rush-not-drop (sym (first-field e)))
-same-line (line.Post i o s) (line.Drop j) h k e = absurd (post-not-drop (first-field e))
-same-line (line.Drop i) (line.Post j p t) h k e = absurd (post-not-drop (sym (first-field e)))
+same-line (line.Post i o s) (line.Rush j p t) h k e = absurd (two-texts (first-field e) refl)
+same-line (line.Rush i o s) (line.Post j p t) h k e = absurd (two-texts (sym (first-field e)) refl)
+same-line (line.Rush i o s) (line.Drop j) h k e = absurd (two-texts (first-field e) refl)
+same-line (line.Drop i) (line.Rush j p t) h k e = absurd (two-texts (sym (first-field e)) refl)
+same-line (line.Post i o s) (line.Drop j) h k e = absurd (two-texts (first-field e) refl)
+same-line (line.Drop i) (line.Post j p t) h k e = absurd (two-texts (sym (first-field e)) refl)
 same-line (line.Drop i) (line.Drop j) h k e =
     let ids : decimal i ≡ decimal j = ap (λ r. get_or r 1 []) e in
     ap (λ x. line.Drop x) (decimal_injective i j (omega (arith, h)) (omega (arith, k)) ids)

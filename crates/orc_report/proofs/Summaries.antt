@@ -39,15 +39,10 @@ same-is job.Sum job.Words e = cc e
 same-is job.Sum job.Sum e = refl
 
 same-turned : (a b : Job) → same_op a b ≡ same_op b a
-same-turned job.Bytes job.Bytes = refl
-same-turned job.Bytes job.Words = refl
-same-turned job.Bytes job.Sum = refl
-same-turned job.Words job.Bytes = refl
-same-turned job.Words job.Words = refl
-same-turned job.Words job.Sum = refl
-same-turned job.Sum job.Bytes = refl
-same-turned job.Sum job.Words = refl
-same-turned job.Sum job.Sum = refl
+same-turned a b = elim (cases_Bool (same_op a b)) [
+  | inl e ↦ rw (same-is a b e) refl
+  | inr e ↦ elim (cases_Bool (same_op b a)) [ inl f ↦ rw (same-is b a f) refl | inr f ↦ e ∙ sym f ]
+]
 
 abbrev others : Job → List Job → List Job
 others x ops = filter (λ y. not (same_op x y)) ops

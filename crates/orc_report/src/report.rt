@@ -40,21 +40,6 @@ pub fn report_text(
     requires reportable { AreReportable lines.now replies.now.posts.items replies.now.takes.items }
     ensures { IfOk result (λ t. t ≡ report_of lines.now replies.now.posts.items replies.now.takes.items (option_copied rest.entry)) }
 {
-    let text = write_report(alloc, lines, replies, rest)?;
-    Ok(Text::from_string(text))
-}
-
-// The same as a string.
-fn write_report(
-    alloc: Global,
-    lines: &Lines,
-    replies: &Replies,
-    rest: Option<&RestNumbers>,
-) -> Result<String, AllocError>
-    requires good { AreGood lines.now }
-    requires reportable { AreReportable lines.now replies.now.posts.items replies.now.takes.items }
-    ensures { IfOk result (λ t. string_bytes t ≡ report_of lines.now replies.now.posts.items replies.now.takes.items (option_copied rest.entry)) }
-{
     let takes = replies.takes.items();
     let mut text = String::from_str(alloc, "board\n")?;
     push_queue(alloc, &mut text, lines, false, takes)?;
@@ -65,7 +50,7 @@ fn write_report(
     if let Some(numbers) = rest {
         push_rest(&mut text, lines, numbers)?;
     }
-    Ok(text)
+    Ok(Text::from_string(text))
 }
 
 // The lines of the rush queue, where some line is a Rush.

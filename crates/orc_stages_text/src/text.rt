@@ -18,29 +18,11 @@ use std::alloc::{AllocError, Global};
 pub fn stages_text(alloc: Global, done: &StagesDone) -> Result<Text, NoMemory>
     ensures { IfOk result (λ t. t ≡ stages_report done.now.posts.items done.now.moves.items done.now.outs.items) }
 {
-    let text = write_text(
-        alloc,
-        done.posts.items(),
-        done.moves.items(),
-        done.outs.items(),
-    )?;
-    Ok(Text::from_string(text))
-}
-
-// The same as a string.
-fn write_text(
-    alloc: Global,
-    posts: &[PostReply],
-    moves: &[StageReply],
-    outs: &[u64],
-) -> Result<String, AllocError>
-    ensures { IfOk result (λ t. string_bytes t ≡ stages_report posts.now moves.now outs.now) }
-{
     let mut text = String::from_str(alloc, "stages\n")?;
-    push_posts(&mut text, posts)?;
-    push_moves(&mut text, moves)?;
-    push_outs(&mut text, outs)?;
-    Ok(text)
+    push_posts(&mut text, done.posts.items())?;
+    push_moves(&mut text, done.moves.items())?;
+    push_outs(&mut text, done.outs.items())?;
+    Ok(Text::from_string(text))
 }
 
 // The lines of the posters' replies.

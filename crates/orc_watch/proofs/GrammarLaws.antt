@@ -2,7 +2,7 @@
 use Rattle.std.proofs.Common.{◌≡◌, ◌∙◌, ◌<◌, ◌^◌, All, List, [], ◌∷◌, ℕ, codes, refl, arith, ap, ap₂, sym, get_or, inl, inr, IsUtf8, rules, ◌==◌, if◌then◌else◌}
 use Rattle.std.proofs.lemmas.List.Elements.{All-cons, All-nil}
 use Rattle.std.specs.Fmt.{decimal}
-use Rattle.orc_jobs.proofs.Fields.{IsUtf8-decimal, first-byte, first-field}
+use Rattle.orc_jobs.proofs.Fields.{IsUtf8-decimal, first-field, two-texts}
 use Rattle.orc_jobs.proofs.FileLaws.{AreDetermined, one-cause}
 use Rattle.std.proofs.lemmas.Fmt.{decimal_injective}
 use Rattle.orc_watch.specs.WatchGrammar.{Applies, HasCause, IsLine, rank_of, record_of}
@@ -13,59 +13,29 @@ use Rattle.orc_watch.specs.declared.line.WatchLine.TheVariants as line
 
 -- ---- lines and causes
 
-left-not-right : codes "left" ≡ codes "right" → ⊥
-left-not-right e = let bad : 108 ≡ 114 = first-byte e in absurd (omega (arith, bad))
-
-left-not-both : codes "left" ≡ codes "both" → ⊥
-left-not-both e = let bad : 108 ≡ 98 = first-byte e in absurd (omega (arith, bad))
-
-left-not-see : codes "left" ≡ codes "see" → ⊥
-left-not-see e = let bad : 108 ≡ 115 = first-byte e in absurd (omega (arith, bad))
-
-right-not-both : codes "right" ≡ codes "both" → ⊥
-right-not-both e = let bad : 114 ≡ 98 = first-byte e in absurd (omega (arith, bad))
-
-right-not-see : codes "right" ≡ codes "see" → ⊥
-right-not-see e = let bad : 114 ≡ 115 = first-byte e in absurd (omega (arith, bad))
-
-both-not-see : codes "both" ≡ codes "see" → ⊥
-both-not-see e = let bad : 98 ≡ 115 = first-byte e in absurd (omega (arith, bad))
-
-IsUtf8-left : IsUtf8 (codes "left")
-IsUtf8-left = search rules
-
-IsUtf8-right : IsUtf8 (codes "right")
-IsUtf8-right = search rules
-
-IsUtf8-both : IsUtf8 (codes "both")
-IsUtf8-both = search rules
-
-IsUtf8-see : IsUtf8 (codes "see")
-IsUtf8-see = search rules
-
 one-value : (verb : List ℕ) (n : ℕ) → IsUtf8 verb → n < 2 ^ 32 → All IsUtf8 (verb ∷ decimal n ∷ [])
 one-value verb n v h = All-cons IsUtf8 verb (decimal n ∷ []) v (All-cons IsUtf8 (decimal n) [] (IsUtf8-decimal n h) (All-nil IsUtf8))
 
 IsUtf8-record_of : (l : WatchLine) → IsLine l → All IsUtf8 (record_of l)
-IsUtf8-record_of (line.Left n) h = one-value (codes "left") n IsUtf8-left h
-IsUtf8-record_of (line.Right n) h = one-value (codes "right") n IsUtf8-right h
+IsUtf8-record_of (line.Left n) h = one-value (codes "left") n (search rules) h
+IsUtf8-record_of (line.Right n) h = one-value (codes "right") n (search rules) h
 IsUtf8-record_of (line.Both m n) h =
-    All-cons IsUtf8 (codes "both") (decimal m ∷ decimal n ∷ []) IsUtf8-both (one-value (decimal m) n (IsUtf8-decimal m h.0) h.1)
-IsUtf8-record_of line.See h = All-cons IsUtf8 (codes "see") [] IsUtf8-see (All-nil IsUtf8)
+    All-cons IsUtf8 (codes "both") (decimal m ∷ decimal n ∷ []) (search rules) (one-value (decimal m) n (IsUtf8-decimal m h.0) h.1)
+IsUtf8-record_of line.See h = All-cons IsUtf8 (codes "see") [] (search rules) (All-nil IsUtf8)
 
 -- no cause applies to the record of a line
 not-applies : (l : WatchLine) → IsLine l → (why : WatchCause) → ¬ Applies why (record_of l)
-not-applies (line.Left n) h cause.Fields (inl bad) = left-not-see bad.0
-not-applies (line.Left n) h cause.Fields (inr (inl bad)) = left-not-both bad.0
+not-applies (line.Left n) h cause.Fields (inl bad) = two-texts bad.0 refl
+not-applies (line.Left n) h cause.Fields (inr (inl bad)) = two-texts bad.0 refl
 not-applies (line.Left n) h cause.Fields (inr (inr bad)) = bad.2 refl
-not-applies (line.Right n) h cause.Fields (inl bad) = right-not-see bad.0
-not-applies (line.Right n) h cause.Fields (inr (inl bad)) = right-not-both bad.0
+not-applies (line.Right n) h cause.Fields (inl bad) = two-texts bad.0 refl
+not-applies (line.Right n) h cause.Fields (inr (inl bad)) = two-texts bad.0 refl
 not-applies (line.Right n) h cause.Fields (inr (inr bad)) = bad.2 refl
-not-applies (line.Both m n) h cause.Fields (inl bad) = both-not-see bad.0
+not-applies (line.Both m n) h cause.Fields (inl bad) = two-texts bad.0 refl
 not-applies (line.Both m n) h cause.Fields (inr (inl bad)) = bad.1 refl
 not-applies (line.Both m n) h cause.Fields (inr (inr bad)) = bad.1 refl
 not-applies line.See h cause.Fields (inl bad) = bad.1 refl
-not-applies line.See h cause.Fields (inr (inl bad)) = both-not-see (sym bad.0)
+not-applies line.See h cause.Fields (inr (inl bad)) = two-texts (sym bad.0) refl
 not-applies line.See h cause.Fields (inr (inr bad)) = bad.0 refl
 not-applies (line.Left n) h cause.Utf8 bad = bad (IsUtf8-record_of (line.Left n) h)
 not-applies (line.Right n) h cause.Utf8 bad = bad (IsUtf8-record_of (line.Right n) h)
@@ -76,13 +46,13 @@ not-applies (line.Right n) h cause.Verb bad = bad.1 refl
 not-applies (line.Both m n) h cause.Verb bad = bad.2 refl
 not-applies line.See h cause.Verb bad = bad.3 refl
 not-applies (line.Left n) h cause.Value (inl bad) = bad.1 (n, h, refl)
-not-applies (line.Left n) h cause.Value (inr bad) = left-not-both bad.0
+not-applies (line.Left n) h cause.Value (inr bad) = two-texts bad.0 refl
 not-applies (line.Right n) h cause.Value (inl bad) = bad.1 (n, h, refl)
-not-applies (line.Right n) h cause.Value (inr bad) = right-not-both bad.0
+not-applies (line.Right n) h cause.Value (inr bad) = two-texts bad.0 refl
 not-applies (line.Both m n) h cause.Value (inl bad) = bad.1 (m, h.0, refl)
 not-applies (line.Both m n) h cause.Value (inr bad) = bad.1 (n, h.1, refl)
 not-applies line.See h cause.Value (inl bad) = bad.0 refl
-not-applies line.See h cause.Value (inr bad) = both-not-see (sym bad.0)
+not-applies line.See h cause.Value (inr bad) = two-texts (sym bad.0) refl
 
 -- the cause of a rank
 abbrev cause_at : ℕ → WatchCause
@@ -104,18 +74,18 @@ same-line (line.Right m) (line.Right n) h k e = ap (λ x. line.Right x) (same-nu
 same-line (line.Both m i) (line.Both n j) h k e =
     ap₂ (λ x y. line.Both x y) (same-number m n h.0 k.0 (ap (λ r. get_or r 1 []) e)) (same-number i j h.1 k.1 (ap (λ r. get_or r 2 []) e))
 same-line line.See line.See h k e = refl
-same-line (line.Left m) (line.Right n) h k e = absurd (left-not-right (first-field e))
-same-line (line.Left m) (line.Both n j) h k e = absurd (left-not-both (first-field e))
-same-line (line.Left m) line.See h k e = absurd (left-not-see (first-field e))
-same-line (line.Right m) (line.Left n) h k e = absurd (left-not-right (sym (first-field e)))
-same-line (line.Right m) (line.Both n j) h k e = absurd (right-not-both (first-field e))
-same-line (line.Right m) line.See h k e = absurd (right-not-see (first-field e))
-same-line (line.Both m i) (line.Left n) h k e = absurd (left-not-both (sym (first-field e)))
-same-line (line.Both m i) (line.Right n) h k e = absurd (right-not-both (sym (first-field e)))
-same-line (line.Both m i) line.See h k e = absurd (both-not-see (first-field e))
-same-line line.See (line.Left n) h k e = absurd (left-not-see (sym (first-field e)))
-same-line line.See (line.Right n) h k e = absurd (right-not-see (sym (first-field e)))
-same-line line.See (line.Both n j) h k e = absurd (both-not-see (sym (first-field e)))
+same-line (line.Left m) (line.Right n) h k e = absurd (two-texts (first-field e) refl)
+same-line (line.Left m) (line.Both n j) h k e = absurd (two-texts (first-field e) refl)
+same-line (line.Left m) line.See h k e = absurd (two-texts (first-field e) refl)
+same-line (line.Right m) (line.Left n) h k e = absurd (two-texts (sym (first-field e)) refl)
+same-line (line.Right m) (line.Both n j) h k e = absurd (two-texts (first-field e) refl)
+same-line (line.Right m) line.See h k e = absurd (two-texts (first-field e) refl)
+same-line (line.Both m i) (line.Left n) h k e = absurd (two-texts (sym (first-field e)) refl)
+same-line (line.Both m i) (line.Right n) h k e = absurd (two-texts (sym (first-field e)) refl)
+same-line (line.Both m i) line.See h k e = absurd (two-texts (first-field e) refl)
+same-line line.See (line.Left n) h k e = absurd (two-texts (sym (first-field e)) refl)
+same-line line.See (line.Right n) h k e = absurd (two-texts (sym (first-field e)) refl)
+same-line line.See (line.Both n j) h k e = absurd (two-texts (sym (first-field e)) refl)
 
 pub laws : AreDetermined record_of IsLine HasCause
 laws = record {

@@ -32,27 +32,13 @@ pub fn watch_text(
 ) -> Result<Text, NoMemory>
     ensures { IfOk result (λ t. t ≡ watch_report replies.now.items now_left now_right (option_copied rest.entry)) }
 {
-    let text = write_text(alloc, replies.items(), now_left, now_right, rest)?;
-    Ok(Text::from_string(text))
-}
-
-// The same as a string.
-fn write_text(
-    alloc: Global,
-    replies: &[WatchReply],
-    now_left: u64,
-    now_right: u64,
-    rest: Option<&CellNumbers>,
-) -> Result<String, AllocError>
-    ensures { IfOk result (λ t. string_bytes t ≡ watch_report replies.now now_left now_right (option_copied rest.entry)) }
-{
     let mut text = String::from_str(alloc, "watch\n")?;
-    push_replies(&mut text, replies)?;
+    push_replies(&mut text, replies.items())?;
     push_now(&mut text, now_left, now_right)?;
     if let Some(numbers) = rest {
         push_rest(&mut text, numbers)?;
     }
-    Ok(text)
+    Ok(Text::from_string(text))
 }
 
 // The lines of the replies.

@@ -1,6 +1,6 @@
 use Rattle.std.proofs.Common.{false, true}
 use Rattle.orc_report.proofs.ReportedReplies.{lines_below, positions_below}
-use Rattle.orc_report.proofs.report.write_report.Goals as goal
+use Rattle.orc_report.proofs.report.report_text.Goals as goal
 
 pub push_queue-requires-clause-positions : goal.push_queue-requires-clause-positions
 push_queue-requires-clause-positions c = rw c.items-takes.ensures (positions_below false _ _ (c.requires.reportable.queues false))
