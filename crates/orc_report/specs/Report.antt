@@ -25,17 +25,17 @@ abbrev pub take_word : TakeWord → List ℕ
 take_word (take.Done value) = codes "done " ++ decimal value
 take_word take.Void = codes "void"
 
--- what became of a record
-abbrev pub post_word : PostWord → List ℕ
-post_word (post.Posted at) = codes "posted " ++ decimal at
-post_word (post.Rushed at) = codes "rushed " ++ decimal at
-post_word post.Busy = codes "busy"
-post_word post.NoNode = codes "nonode"
-post_word post.Positions = codes "positions"
-post_word post.Spent = codes "spent"
-post_word post.Dropped = codes "dropped"
-post_word post.Unknown = codes "unknown"
-post_word post.Skipped = codes "skipped"
+-- what became of a record, where this word says that it was put at a position of the queue
+abbrev pub post_word : List ℕ → PostWord → List ℕ
+post_word put (post.Posted at) = put ++ codes " " ++ decimal at
+post_word put (post.Rushed at) = codes "rushed " ++ decimal at
+post_word put post.Busy = codes "busy"
+post_word put post.NoNode = codes "nonode"
+post_word put post.Positions = codes "positions"
+post_word put post.Spent = codes "spent"
+post_word put post.Dropped = codes "dropped"
+post_word put post.Unknown = codes "unknown"
+post_word put post.Skipped = codes "skipped"
 
 -- the board's line of a position: the record that was posted there, and what became of it
 abbrev pub board_row : ℕ → ℕ → ℕ → TakeWord → List ℕ
@@ -46,8 +46,8 @@ abbrev pub board_line : List Line → TakeReply → List ℕ
 board_line lines r = board_row r.at r.line (id_at lines r.line) r.what
 
 -- the line of a poster's reply
-abbrev pub post_line : PostReply → List ℕ
-post_line r = codes "poster " ++ decimal r.poster ++ codes " line " ++ decimal r.line ++ codes " " ++ post_word r.what ++ codes "\n"
+abbrev pub post_line : List ℕ → PostReply → List ℕ
+post_line put r = codes "poster " ++ decimal r.poster ++ codes " line " ++ decimal r.line ++ codes " " ++ post_word put r.what ++ codes "\n"
 
 -- the word before the position of a take with rush, or without
 abbrev pub side_word : Bool → List ℕ
@@ -96,4 +96,4 @@ abbrev pub report_of : List Line → List PostReply → List TakeReply → Optio
 report_of lines posts takes rest =
     codes "board\n" ++ queue_lines false lines takes
     ++ if_rush lines (codes "rush\n" ++ queue_lines true lines takes)
-    ++ codes "replies\n" ++ flat_map post_line posts ++ flat_map take_line takes ++ rest_lines lines rest
+    ++ codes "replies\n" ++ flat_map (post_line (codes "posted")) posts ++ flat_map take_line takes ++ rest_lines lines rest

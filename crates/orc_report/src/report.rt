@@ -6,10 +6,11 @@ ghost use Rattle.std.specs.String.{string_bytes};
 ghost use Rattle.orc_jobs.specs.Line.{id_of};
 ghost use Rattle.orc_jobs.specs.GoodLines.{AreGood};
 ghost use Rattle.orc_board.specs.Reportable.{AreReportable, takes_with as of_queue};
-ghost use Rattle.orc_report.specs.Report.{by_position, board_line, board_row, post_line, take_line, report_of, rest_line, rest_lines};
+ghost use Rattle.orc_report.specs.Report.{by_position, board_line, board_row, take_line, report_of, rest_line, rest_lines};
 ghost use Rattle.orc_report.specs.Report.{has_rush as tells_rush, if_rush, is_rush as rushes, queue_lines, side_word};
 
-use orc_board::{PostReply, PostWord, Replies, TakeReply, TakeWord};
+use crate::push_posts;
+use orc_board::{Replies, TakeReply, TakeWord};
 use orc_fault::NoMemory;
 use orc_jobs::{Line, Lines, Text};
 use std::alloc::{AllocError, Global};
@@ -45,7 +46,7 @@ pub fn report_text(
     push_queue(alloc, &mut text, lines, false, takes)?;
     push_rush_queue(alloc, &mut text, lines, takes)?;
     text.push_str("replies\n")?;
-    push_posts(&mut text, replies.posts.items())?;
+    push_posts(&mut text, "posted", replies.posts.items())?;
     push_takes(&mut text, takes)?;
     if let Some(numbers) = rest {
         push_rest(&mut text, lines, numbers)?;
@@ -144,16 +145,6 @@ fn push_board(text: &mut String, lines: &Lines, board: &[TakeReply]) -> Result<(
     Ok(())
 }
 
-// The lines of the posters' replies.
-fn push_posts(text: &mut String, posts: &[PostReply]) -> Result<(), AllocError>
-    ensures { OnOk result (string_bytes text.new ≡ string_bytes text.old ++ flat_map post_line posts.now) }
-{
-    for reply in posts {
-        push_post(text, reply)?;
-    }
-    Ok(())
-}
-
 // The lines of the takers' replies.
 fn push_takes(text: &mut String, takes: &[TakeReply]) -> Result<(), AllocError>
     ensures { OnOk result (string_bytes text.new ≡ string_bytes text.old ++ flat_map take_line takes.now) }
@@ -186,25 +177,6 @@ fn push_board_row(
     match what {
         TakeWord::Done(value) => writeln!(text, "{at} line {place} id {id} done {value}"),
         TakeWord::Void => writeln!(text, "{at} line {place} id {id} void"),
-    }
-}
-
-// One poster's reply.
-fn push_post(text: &mut String, reply: &PostReply) -> Result<(), AllocError>
-    ensures { OnOk result (string_bytes text.new ≡ string_bytes text.old ++ post_line reply.now) }
-{
-    let poster = reply.poster;
-    let line = reply.line;
-    match reply.what {
-        PostWord::Posted(at) => writeln!(text, "poster {poster} line {line} posted {at}"),
-        PostWord::Rushed(at) => writeln!(text, "poster {poster} line {line} rushed {at}"),
-        PostWord::Busy => writeln!(text, "poster {poster} line {line} busy"),
-        PostWord::NoNode => writeln!(text, "poster {poster} line {line} nonode"),
-        PostWord::Positions => writeln!(text, "poster {poster} line {line} positions"),
-        PostWord::Spent => writeln!(text, "poster {poster} line {line} spent"),
-        PostWord::Dropped => writeln!(text, "poster {poster} line {line} dropped"),
-        PostWord::Unknown => writeln!(text, "poster {poster} line {line} unknown"),
-        PostWord::Skipped => writeln!(text, "poster {poster} line {line} skipped"),
     }
 }
 

@@ -3,25 +3,8 @@ use Rattle.std.specs.Prelude.{◌++◌, ◌∷◌, List, [], ℕ, suc, codes, Op
 use Rattle.std.specs.List.{flat_map}
 use Rattle.std.specs.Fmt.{decimal}
 use Rattle.orc_board.specs.declared.replies.PostReply.{PostReply}
-use Rattle.orc_board.specs.declared.replies.PostWord.{PostWord}
-use Rattle.orc_board.specs.declared.replies.PostWord.TheVariants as word
+use Rattle.orc_report.specs.Report.{post_line}
 use Rattle.orc_stages.specs.declared.replies.StageReply.{StageReply}
-
--- what came of a record; in a run it was put at a position, found no node, or was skipped
-abbrev pub outcome_word : PostWord → List ℕ
-outcome_word (word.Posted at) = codes "put " ++ decimal at
-outcome_word (word.Rushed at) = codes "rushed " ++ decimal at
-outcome_word word.Busy = codes "busy"
-outcome_word word.NoNode = codes "nonode"
-outcome_word word.Positions = codes "positions"
-outcome_word word.Spent = codes "spent"
-outcome_word word.Dropped = codes "dropped"
-outcome_word word.Unknown = codes "unknown"
-outcome_word word.Skipped = codes "skipped"
-
--- the line of a poster's reply
-abbrev pub stage_post_line : PostReply → List ℕ
-stage_post_line r = codes "poster " ++ decimal r.poster ++ codes " line " ++ decimal r.line ++ codes " " ++ outcome_word r.what ++ codes "\n"
 
 -- a job's value at a stage, or that it found no node in the next queue
 abbrev pub stage_value : Option ℕ → List ℕ
@@ -43,4 +26,4 @@ out_lines at (line ∷ lines) = out_line at line ++ out_lines (suc at) lines
 
 -- the text of these replies, and of what came out
 abbrev pub stages_report : List PostReply → List StageReply → List ℕ → List ℕ
-stages_report posts moves outs = codes "stages\n" ++ flat_map stage_post_line posts ++ flat_map move_line moves ++ out_lines 0 outs
+stages_report posts moves outs = codes "stages\n" ++ flat_map (post_line (codes "put")) posts ++ flat_map move_line moves ++ out_lines 0 outs

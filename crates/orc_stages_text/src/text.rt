@@ -2,11 +2,11 @@
 ghost use Rattle.std.specs.Prelude.{◌≡◌, ◌≤◌, ◌++◌, ◌^◌, IfOk, OnOk, length};
 ghost use Rattle.std.specs.List.{flat_map};
 ghost use Rattle.std.specs.String.{string_bytes};
-ghost use Rattle.orc_stages_text.specs.StagesText.{move_line, out_line, out_lines, stage_post_line, stages_report};
+ghost use Rattle.orc_stages_text.specs.StagesText.{move_line, out_line, out_lines, stages_report};
 
-use orc_board::{PostReply, PostWord};
 use orc_fault::NoMemory;
 use orc_jobs::Text;
+use orc_report::push_posts;
 use orc_stages::{StageReply, StagesDone};
 use std::alloc::{AllocError, Global};
 
@@ -19,20 +19,10 @@ pub fn stages_text(alloc: Global, done: &StagesDone) -> Result<Text, NoMemory>
     ensures { IfOk result (λ t. t ≡ stages_report done.now.posts.items done.now.moves.items done.now.outs.items) }
 {
     let mut text = String::from_str(alloc, "stages\n")?;
-    push_posts(&mut text, done.posts.items())?;
+    push_posts(&mut text, "put", done.posts.items())?;
     push_moves(&mut text, done.moves.items())?;
     push_outs(&mut text, done.outs.items())?;
     Ok(Text::from_string(text))
-}
-
-// The lines of the posters' replies.
-fn push_posts(text: &mut String, posts: &[PostReply]) -> Result<(), AllocError>
-    ensures { OnOk result (string_bytes text.new ≡ string_bytes text.old ++ flat_map stage_post_line posts.now) }
-{
-    for reply in posts {
-        push_post(text, reply)?;
-    }
-    Ok(())
 }
 
 // The lines of the stages' replies.
@@ -53,25 +43,6 @@ fn push_outs(text: &mut String, outs: &[u64]) -> Result<(), AllocError>
         push_out(text, at, *line)?;
     }
     Ok(())
-}
-
-// One poster's reply.
-fn push_post(text: &mut String, reply: &PostReply) -> Result<(), AllocError>
-    ensures { OnOk result (string_bytes text.new ≡ string_bytes text.old ++ stage_post_line reply.now) }
-{
-    let poster = reply.poster;
-    let line = reply.line;
-    match reply.what {
-        PostWord::Posted(at) => writeln!(text, "poster {poster} line {line} put {at}"),
-        PostWord::Rushed(at) => writeln!(text, "poster {poster} line {line} rushed {at}"),
-        PostWord::Busy => writeln!(text, "poster {poster} line {line} busy"),
-        PostWord::NoNode => writeln!(text, "poster {poster} line {line} nonode"),
-        PostWord::Positions => writeln!(text, "poster {poster} line {line} positions"),
-        PostWord::Spent => writeln!(text, "poster {poster} line {line} spent"),
-        PostWord::Dropped => writeln!(text, "poster {poster} line {line} dropped"),
-        PostWord::Unknown => writeln!(text, "poster {poster} line {line} unknown"),
-        PostWord::Skipped => writeln!(text, "poster {poster} line {line} skipped"),
-    }
 }
 
 // One stage's reply.
