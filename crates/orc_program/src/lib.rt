@@ -22,6 +22,6 @@ mod writing;
 pub use ended::Ended;
 pub use laws::{inputs_are_read_whole, inputs_have_one_answer};
 pub use orc_options::{CommandWords, Mode, SetKind, Settings};
-pub use streams::{StdSink, StdSource};
+pub use streams::{StdSink, StdSource, StdStream};
 pub use top_call::orc_main;
 pub use writing::refuse_words;

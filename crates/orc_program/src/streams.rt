@@ -6,24 +6,30 @@ use orc_fault::Failed;
 use orc_feed::{Sink, Source};
 use std::io::{Read, Write};
 
-/// A reader as a source.
+/// A reader or a writer of std, with a count of its faults.
 #[derive(Drop)]
-pub struct StdSource<R: Read + Drop> {
-    inner: R,
+pub struct StdStream<T> {
+    inner: T,
     faults: u64,
 }
 
-impl<R: Read + Drop> StdSource<R> {
+/// A reader as a source.
+pub type StdSource<R> = StdStream<R>;
+
+/// A writer as a sink.
+pub type StdSink<W> = StdStream<W>;
+
+impl<T: Drop> StdStream<T> {
     /// No fault yet.
-    pub fn new(inner: R) -> StdSource<R>
+    pub fn new(inner: T) -> StdStream<T>
         ensures inner { result.inner ≡ inner }
         ensures faults { result.faults ≡ 0 }
     {
-        StdSource { inner, faults: 0 }
+        StdStream { inner, faults: 0 }
     }
 }
 
-impl<R: Read + Drop> Source for StdSource<R> {
+impl<R: Read + Drop> Source for StdStream<R> {
     ghost left = { λ s. R.remaining s.inner };
 
     ghost faults = { λ s. s.faults };
@@ -40,24 +46,7 @@ impl<R: Read + Drop> Source for StdSource<R> {
     }
 }
 
-/// A writer as a sink.
-#[derive(Drop)]
-pub struct StdSink<W: Write + Drop> {
-    inner: W,
-    faults: u64,
-}
-
-impl<W: Write + Drop> StdSink<W> {
-    /// No fault yet.
-    pub fn new(inner: W) -> StdSink<W>
-        ensures inner { result.inner ≡ inner }
-        ensures faults { result.faults ≡ 0 }
-    {
-        StdSink { inner, faults: 0 }
-    }
-}
-
-impl<W: Write + Drop> Sink for StdSink<W> {
+impl<W: Write + Drop> Sink for StdStream<W> {
     ghost written = { λ s. W.contents s.inner };
 
     ghost faults = { λ s. s.faults };

@@ -19,15 +19,4 @@ returns-clause-says c =
     let rest = c.says_yes.ensures ∙ ap yes_in (c.get_str-3.ensures ∙ first_value-rows f (codes "rest")) in
     let seed = c.number_of-6.ensures.says ∙ ap (number_in ranges.seed) (one_text-rows f (codes "seed")) in
     let lines = c.number_of-7.ensures.says ∙ ap (number_in ranges.lines) (one_text-rows f (codes "lines")) in
-    λ i. record {
-      mode = mode i;
-      posters = posters i;
-      takers = takers i;
-      stages = stages i;
-      rows = rows i;
-      set = set i;
-      buckets = buckets i;
-      rest = rest i;
-      seed = seed i;
-      lines = lines i;
-    }
+    cc (mode, posters, takers, stages, rows, set, buckets, rest, seed, lines)
