@@ -1,13 +1,8 @@
--- The cause as a licence.
+-- The cause as a licence. Turns ran out, so which rows lack or are worn is no part of it.
 use Rattle.orc_list.proofs.Licences.{again_licence}
 use Rattle.orc_set.proofs.set.SetSharedSet.contains.Goals as goal
 
 pub returns-clause-licence : goal.returns-clause-licence
 returns-clause-licence g c =
-    let d = c.args.self.now.list.links in
-    let agent = (g.L.Links.seat d c.args.p.now).agent in
-    let j = g.L.Links.journal c.args.p.now in
-    let m = g.L.Links.journal c.contains.new.p in
     let e = c.contains.ensures in
-    again_licence (g.L.Links.numbers d) g.L.Links.agent_of (g.L.Links.events d) agent c.args.turns j m e.later (g.L.Links.lacking d agent m)
-    (λ spent. g.L.Links.worn d agent spent m) c.contains.result e.again
+    again_licence _ _ _ _ _ _ _ e.later (λ from to. ⊥) (λ spent from to. ⊥) c.contains.result e.again
