@@ -22,6 +22,7 @@ use Rattle.orc_machine_board.specs.Rules.{bounds_in, run_of}
 use Rattle.orc_machine_board.specs.Views.{MachineView}
 use Rattle.orc_machine_board.specs.declared.machine.MachineShape.{MachineShape}
 use Rattle.orc_projection.specs.PresentIds.{PresentIds}
+use Rattle.orc_domain.proofs.LeftParts.{same_by}
 use Rattle.orc_domain.proofs.Protecting.{same_self, same_then}
 use Rattle.orc_domain.proofs.Searching.{idle_none}
 use Rattle.orc_domain.proofs.Seats.{only, sets, step_events}
@@ -154,20 +155,12 @@ module _ {D N : Type 0} {d : discipline.Ghosts D N} {k : MachineShape N} (s : St
   pub tries : (t : Stage d k) (r : Reading) (n : ℕ) → Steps (SetRetired r.row r.number) s n t → names s.view.record_is.fresh r.row ≡ false
       → Becomes (bounds_in k) (record s.view.record_is { due = None }) s.view t.view
   tries t r n m other =
-      let fresh : t.view.record_is.fresh ≡ s.view.record_is.fresh = ap (λ (e : Agent). e.fresh) m.record_is
-      ∙ kept_fresh _ s.view.record_is.fresh r.row other in
+      let kept = kept_fresh _ s.view.record_is.fresh r.row other in
+      let fresh : t.view.record_is.fresh ≡ s.view.record_is.fresh = ap (λ (e : Agent). e.fresh) m.record_is ∙ kept in
       record {
         only = only (asks (SetRetired r.row r.number)) None s t n m (ap (λ (e : Agent). e.slots) m.record_is) fresh;
-        same = record {
-          enrolled = ap (λ (e : Agent). e.enrolled) m.record_is;
-          slots = ap (λ (e : Agent). e.slots) m.record_is;
-          fresh = fresh;
-          due = ap (λ (e : Agent). e.due) m.record_is;
-          inc = ap (λ (e : Agent). e.inc) m.record_is;
-          dec = ap (λ (e : Agent). e.dec) m.record_is;
-          doom = ap (λ (e : Agent). e.doom) m.record_is;
-          scan = ap (λ (e : Agent). e.scan) m.record_is;
-        };
+        same = same_by (record s.view.record_is { due = None }) _ t.view.record_is m.record_is
+            (record { enrolled = refl; slots = refl; fresh = kept; due = refl; inc = refl; dec = refl; doom = refl; scan = refl });
         leaves = leaves_by (asks (SetRetired r.row r.number)) None s t n m tt;
       }
 
@@ -181,27 +174,30 @@ module _ {D N : Type 0} {d : discipline.Ghosts D N} {k : MachineShape N} (s t : 
     leaves = leaves_by (asks op) None s t n m in_order;
   }
 
+  -- the step left the record e, and the try that follows leaves f
+  tried_after : (e f : Agent) (u : Stage d k) → t.view.record_is ≡ e → e.slots ≡ s.view.record_is.slots → e.fresh ≡ s.view.record_is.fresh
+      → step_events (asks op) None s t n m ≡ [] → TakesInCleared (op ∷ []) → SameParts f (record e { due = None })
+      → Becomes (bounds_in k) (record t.view.record_is { due = None }) t.view u.view → Becomes (bounds_in k) f s.view u.view
+  tried_after e f u is slots fresh silent in_order same z =
+      becomes_then (bounds_in k) t.view.record_is (record t.view.record_is { due = None }) f s.view t.view u.view
+      (stepped silent (ap (λ (x : Agent). x.slots) is ∙ slots) (ap (λ (x : Agent). x.fresh) is ∙ fresh) in_order) z
+      (subst (λ (x : Agent). SameParts f (record x { due = None })) (sym is) same)
+
 -- the increment, and the try that may follow
 module _ {D N : Type 0} {d : discipline.Ghosts D N} {k : MachineShape N} (s t : Stage d k) (r n : ℕ) (c : IsCountable s.view.record_is)
     (inc : s.view.record_is.inc ≡ Some r) (m : Steps (Inc r) s n t) where
   pub counts_up : (u : Stage d k) → Becomes (bounds_in k) (record t.view.record_is { due = None }) t.view u.view
       → Becomes (bounds_in k) (record s.view.record_is { inc = None }) s.view u.view
-  counts_up u z = becomes_then (bounds_in k) t.view.record_is (record t.view.record_is { due = None }) (record s.view.record_is { inc = None })
-      s.view t.view u.view
-      (stepped s t (Inc r) n m refl (ap (λ (e : Agent). e.slots) m.record_is) (ap (λ (e : Agent). e.fresh) m.record_is) tt) z
-      (subst (λ (e : Agent). SameParts (record s.view.record_is { inc = None }) (record e { due = None })) (sym m.record_is)
-      (record { enrolled = refl; slots = refl; fresh = refl; due = sym c.due; inc = refl; dec = refl; doom = refl; scan = refl }))
+  counts_up u z = tried_after s t (Inc r) n m _ (record s.view.record_is { inc = None }) u m.record_is refl refl refl tt
+      (record { enrolled = refl; slots = refl; fresh = refl; due = sym c.due; inc = refl; dec = refl; doom = refl; scan = refl }) z
 
 -- the decrement under a hold, and the try that may follow
 module _ {D N : Type 0} {d : discipline.Ghosts D N} {k : MachineShape N} (s t : Stage d k) (r n : ℕ) (c : IsCountable s.view.record_is)
     (m : Steps (DecHeld r) s n t) where
   pub counts_down_held : (u : Stage d k) → Becomes (bounds_in k) (record t.view.record_is { due = None }) t.view u.view
       → Becomes (bounds_in k) (record s.view.record_is { dec = None }) s.view u.view
-  counts_down_held u z = becomes_then (bounds_in k) t.view.record_is (record t.view.record_is { due = None }) (record s.view.record_is { dec = None })
-      s.view t.view u.view
-      (stepped s t (DecHeld r) n m refl (ap (λ (e : Agent). e.slots) m.record_is) (ap (λ (e : Agent). e.fresh) m.record_is) tt) z
-      (subst (λ (e : Agent). SameParts (record s.view.record_is { dec = None }) (record e { due = None })) (sym m.record_is)
-      (record { enrolled = refl; slots = refl; fresh = refl; due = sym c.due; inc = refl; dec = refl; doom = refl; scan = refl }))
+  counts_down_held u z = tried_after s t (DecHeld r) n m _ (record s.view.record_is { dec = None }) u m.record_is refl refl refl tt
+      (record { enrolled = refl; slots = refl; fresh = refl; due = sym c.due; inc = refl; dec = refl; doom = refl; scan = refl }) z
 
 held_other : (o : Option ℕ) (r : ℕ) → names o r ≡ false → holds_fresh o (Held r) ≡ false
 held_other None r h = refl

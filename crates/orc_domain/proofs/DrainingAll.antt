@@ -170,23 +170,10 @@ module _ {D N : Type 0} {d : discipline.Ghosts D N} {m : machine.Ghosts Reclaimi
                       passes6 : All (λ p. IsPassOf domain p) (w6 ∷ ts)
                       passes6 = All-from_recursion (λ p. IsPassOf domain p) (w6 ∷ ts) (is6, others6)
 
-                      all_after : AreAll domain (w6 ∷ ts)
-                      all_after = record {
-                        many = long6;
-                        belong = passes6;
-                        order = λ i p l. let e = number_at seat 0 (w6 ∷ ts) numbered6 i p l in omega (arith, e);
-                      }
-
-                      idle_after : AreIdle domain (w6 ∷ ts)
-                      idle_after = All-from_recursion (λ p. IsIdle (seat p)) (w6 ∷ ts) (idle_all seat (w ∷ ws) (w6 ∷ ts) same6 idle_first)
-
                       one_after : SawOneList (w6 ∷ ts)
                       one_after = All-from_recursion (λ p. journal_of p ≡ f) (w6 ∷ ts)
                           (pairwise_all (HearsAll seat by journal_of f) (λ p. IsIdle (seat p)) (λ q. journal_of q ≡ f)
                           (λ p q h _. h.seen) (w4 ∷ zs) (w6 ∷ ts) hear (idle_all seat (w2 ∷ ys) (w4 ∷ zs) same4 idle2))
-
-                      own_after : SawAll (w6 ∷ ts)
-                      own_after i p l = ap (steps_of (seat (slice_index_or (w6 ∷ ts) i p)).agent) (sym (one_after i p l))
 
                       reached : IsReachedState (run_of (domain_bounds domain) (journal_of w2))
                       reached = record {
@@ -233,38 +220,30 @@ module _ {D N : Type 0} {d : discipline.Ghosts D N} {m : machine.Ghosts Reclaimi
                       heard_each [] (q ∷ qs) h = absurd h
                       heard_each (v ∷ vs) [] h = absurd h
 
-                      heard_after : All (λ p. IsPrefix (journal_of p) (whole_journal (w6 ∷ ts))) ps
-                      heard_after = subst (All (λ p. IsPrefix (journal_of p) f)) (sym is)
-                          (All-from_recursion (λ p. IsPrefix (journal_of p) f) (w ∷ ws) (heard_each (w ∷ ws) (w2 ∷ ys) heard))
-
                       first_more : IsPrefix (journal_of w) f
                       first_more = goes_on (journal_of w) (journal_of w2) f heard.0.hears.more further
-
-                      later_after : IsPrefix (whole_journal ps) (whole_journal (w6 ∷ ts))
-                      later_after = subst (λ z. IsPrefix (whole_journal z) f) (sym is) first_more
 
                       -- what is true of each list that a pass had seen is true of the one that all saw
                       one_of : (P : List (Step N) → Type 0) → All (λ p. P (journal_of p)) (w ∷ ws) → P (journal_of w2)
                       one_of P h = one_of_all seat by journal_of P (w ∷ ws) (journal_of w2) l2.longest (recursion_from_All (λ p. P (journal_of p)) (w ∷ ws) h)
 
-                      longest_after : IsNoLonger domain ps (w6 ∷ ts)
-                      longest_after most h = subst (λ (z : List (Event N)). length z ≤ most) (sym nothing_after)
-                          (one_of (λ z. length (project (domain_bounds domain) z) ≤ most) (subst (λ z. All (λ p. length (seat p).seen ≤ most) z) is h))
-
-                      quiet_after : AddsNoEvents domain ps (w6 ∷ ts)
-                      quiet_after j h = nothing_after ∙ ap (project (domain_bounds domain))
-                          (one_of (λ z. z ≡ j) (subst (λ z. All (λ p. journal_of p ≡ j) z) is h))
-
                       pub drained : Drained domain ps (w6 ∷ ts)
                       drained = record {
-                        all = all_after;
-                        idle = idle_after;
+                        all = record {
+                          many = long6;
+                          belong = passes6;
+                          order = λ i p l. let e = number_at seat 0 (w6 ∷ ts) numbered6 i p l in omega (arith, e);
+                        };
+                        idle = All-from_recursion (λ p. IsIdle (seat p)) (w6 ∷ ts) (idle_all seat (w ∷ ws) (w6 ∷ ts) same6 idle_first);
                         settled = settled_after;
                         one_list = one_after;
-                        own = own_after;
+                        own = λ i p l. ap (steps_of (seat (slice_index_or (w6 ∷ ts) i p)).agent) (sym (one_after i p l));
                         rest = rest_after;
-                        longest = longest_after;
-                        quiet = quiet_after;
-                        later = later_after;
-                        heard = heard_after;
+                        longest = λ most h. subst (λ (z : List (Event N)). length z ≤ most) (sym nothing_after)
+                            (one_of (λ z. length (project (domain_bounds domain) z) ≤ most) (subst (λ z. All (λ p. length (seat p).seen ≤ most) z) is h));
+                        quiet = λ j h. nothing_after ∙ ap (project (domain_bounds domain))
+                            (one_of (λ z. z ≡ j) (subst (λ z. All (λ p. journal_of p ≡ j) z) is h));
+                        later = subst (λ z. IsPrefix (whole_journal z) f) (sym is) first_more;
+                        heard = subst (All (λ p. IsPrefix (journal_of p) f)) (sym is)
+                            (All-from_recursion (λ p. IsPrefix (journal_of p) f) (w ∷ ws) (heard_each (w ∷ ws) (w2 ∷ ys) heard));
                       }

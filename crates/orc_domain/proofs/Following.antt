@@ -40,7 +40,7 @@ use Rattle.orc_projection.specs.Projection.{act_of, events_of, present_ids, proj
 use Rattle.orc_projection.specs.Taken.{LinksOut}
 use Rattle.orc_domain.proofs.Loading.{found_out, ids_same, load_may, look_event, looks_at}
 use Rattle.orc_domain.proofs.LeftParts.{same_by}
-use Rattle.orc_domain.proofs.Protecting.{either_way, held_ready, promoted_fresh, promoted_full, reload_may, target_named, true_false, word_row}
+use Rattle.orc_domain.proofs.Protecting.{either_way, held_ready, promoted_fresh, promoted_full, reload_may, same_then, target_named, true_false, word_row}
 use Rattle.orc_domain.proofs.Seats.{before_keep, ids_keep, ready_calm, sets}
 use Rattle.orc_domain.proofs.Setting.{clear_may, set_twice}
 use Rattle.orc_machine_rest.proofs.TakenIn.{done_then}
@@ -345,16 +345,12 @@ module _ {D N : Type 0} {d : discipline.Ghosts D N} {k : MachineShape N} {s t : 
           }
 
           pub freed_same : SameParts (record s.view.record_is { slots = slice_set s.view.record_is.slots slot Empty }) z.view.record_is
-          freed_same = let f = un.same in let h = reloaded_same in record {
-            enrolled = f.enrolled ∙ h.enrolled;
-            slots = f.slots ∙ (ap (λ v. slice_set v slot Empty) h.slots ∙ set_twice s.view.record_is.slots slot held_by Empty);
-            fresh = f.fresh ∙ h.fresh;
-            due = f.due ∙ h.due;
-            inc = f.inc ∙ h.inc;
-            dec = f.dec ∙ h.dec;
-            doom = f.doom ∙ h.doom;
-            scan = f.scan ∙ h.scan;
-          }
+          freed_same =
+              let h = reloaded_same in
+              let slots = ap (λ v. slice_set v slot Empty) h.slots ∙ set_twice s.view.record_is.slots slot held_by Empty in
+              same_then (record s.view.record_is { slots = slice_set s.view.record_is.slots slot Empty })
+              (record y.view.record_is { slots = slice_set y.view.record_is.slots slot Empty }) z.view.record_is
+              (record { enrolled = h.enrolled; slots = slots; fresh = h.fresh; due = h.due; inc = h.inc; dec = h.dec; doom = h.doom; scan = h.scan }) un.same
 
           done5 : HasDone s.view.agent (LinkLoad w None ∷ m.op ∷ LinkLoad w (Some slot) ∷ Clear slot ∷ TakeIn slot ∷ []) s.view.journal z.view.journal
           done5 = done_then s.view.agent s.view.journal y.view.journal z.view.journal (LinkLoad w None ∷ m.op ∷ LinkLoad w (Some slot) ∷ [])

@@ -34,6 +34,7 @@ use Rattle.orc_machine_board.specs.declared.machine.MachineShape.{MachineShape}
 use Rattle.orc_projection.proofs.Mirrored.{ids-append}
 use Rattle.orc_projection.specs.PresentIds.{PresentIds, no_ids}
 use Rattle.orc_projection.specs.Projection.{present_ids}
+use Rattle.orc_domain.proofs.LeftParts.{same_by}
 use Rattle.orc_domain.proofs.Protecting.{empty_slot, held_ready, publish_may, still_ready}
 use Rattle.orc_domain.proofs.Seats.{calm_forced, ids_keep, only, ready_calm, sets}
 use Rattle.orc_machine_rest.proofs.TakenIn.{done_later}
@@ -217,16 +218,11 @@ module _ {D N : Type 0} {d : discipline.Ghosts D N} {k : MachineShape N} where
           }
 
           ready4 : IsBetweenCalls w.view.record_is
-          ready4 = held_ready v.view.record_is w.view.record_is slot r free.above ready3 record {
-            enrolled = ap (λ (e : Agent). e.enrolled) m3.record_is;
-            slots = holds3;
-            fresh = ap (λ (e : Agent). e.fresh) m3.record_is;
-            due = ap (λ (e : Agent). e.due) m3.record_is;
-            inc = ap (λ (e : Agent). e.inc) m3.record_is;
-            dec = ap (λ (e : Agent). e.dec) m3.record_is;
-            doom = ap (λ (e : Agent). e.doom) m3.record_is;
-            scan = ap (λ (e : Agent). e.scan) m3.record_is;
-          }
+          ready4 =
+              let slots = ap (λ (z : Bool). slice_set v.view.record_is.slots slot (cond z (Held r) (Published r))) fresh3 in
+              held_ready v.view.record_is w.view.record_is slot r free.above ready3
+              (same_by (record v.view.record_is { slots = slice_set v.view.record_is.slots slot (Held r) }) _ w.view.record_is m3.record_is
+              (record { enrolled = refl; slots = slots; fresh = refl; due = refl; inc = refl; dec = refl; doom = refl; scan = refl }))
 
           -- no link was made to the node
           gives_between : Between w

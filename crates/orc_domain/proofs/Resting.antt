@@ -64,14 +64,11 @@ module _ {D N : Type 0} {d : discipline.Ghosts D N} {m : machine.Ghosts Reclaimi
 
     module _ (ps : List (OrcPass D N (MachineShape N) Request (Step N) Agent Agent d m)) (w : OrcPass D N (MachineShape N) Request (Step N) Agent Agent d m)
         (ws : List (OrcPass D N (MachineShape N) Request (Step N) Agent Agent d m)) (is : ps ≡ w ∷ ws) (all : AreAll domain ps) where
-      same_all : AreAll domain (w ∷ ws)
-      same_all = subst (AreAll domain) is all
-
       pub first_of : IsPassOf domain w
-      first_of = same_all.belong 0 w (omega arith)
+      first_of = (subst (AreAll domain) is all).belong 0 w (omega arith)
 
       pub others_of : AllByRecursion (λ p. IsPassOf domain p) ws
-      others_of = (recursion_from_All (λ p. IsPassOf domain p) (w ∷ ws) same_all.belong).1
+      others_of = (recursion_from_All (λ p. IsPassOf domain p) (w ∷ ws) (subst (AreAll domain) is all).belong).1
 
       -- the first has taken in all others
       module _ (q : MachineBoardPass D N (MachineShape N) Request (Step N) Agent Agent d m) (x : Belongs domain.board q)

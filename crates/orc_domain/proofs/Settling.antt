@@ -14,13 +14,23 @@ use Rattle.orc_heap.specs.declared.discipline.Discipline as discipline
 use Rattle.orc_machine_board.specs.Licences.{ids_of}
 use Rattle.orc_machine_board.specs.Passes.{backlog_in}
 use Rattle.orc_machine_board.specs.Rules.{bounds_in}
+use Rattle.orc_machine_board.specs.Views.{Belongs, shows}
+use Rattle.orc_machine_board.specs.declared.board.MachineBoardPass.{MachineBoardPass}
 use Rattle.orc_machine_board.specs.declared.machine.MachineShape.{MachineShape}
+use Rattle.orc_machine_board.specs.declared.machine.Reclaiming.{Reclaiming}
+use Rattle.orc_machine_board.specs.declared.machine.Request.{Request}
 use Rattle.orc_projection.specs.PresentIds.{PresentIds}
+use Rattle.orc_domain.proofs.Ending.{between_of, pass_of, stage_of}
 use Rattle.orc_domain.proofs.Giving.{no_fresh}
 use Rattle.orc_domain.proofs.Retiring.{not_some}
 use Rattle.orc_domain.proofs.Stages.{Between, Stage, seat}
-use Rattle.orc_domain.specs.Seats.{IsBetweenCalls, slot_by}
+use Rattle.orc_domain.specs.Passes.{IsPassOf, domain_bounds, seat_of}
+use Rattle.orc_domain.specs.Seats.{IsBetweenCalls, seat_by, slot_by}
+use Rattle.orc_domain.specs.declared.domain.OrcDomain.{OrcDomain}
+use Rattle.orc_domain.specs.declared.domain.OrcPass.{OrcPass}
 use Rattle.orc_rest.specs.Records.{IsBetweenRounds, IsDone}
+use Rattle.orc_shared_words.specs.declared.machine.Machine as machine
+use Rattle.orc_sound.specs.declared.steps.Step.{Step}
 
 -- slots in which nothing is shown are empty, where none is only published
 all_empty : (p : PresentIds) (slots : List SlotUse) (n : ℕ) → map (slot_by p) slots ≡ replicate n None
@@ -98,3 +108,16 @@ module _ {D N : Type 0} {d : discipline.Ghosts D N} {k : MachineShape N} (s : St
       fresh = none ∙ sym idle.fresh;
       puts = record { part = quiet.events; is = quiet.is; agent = agent; own_is = quiet.own };
     }
+
+-- a pass of a domain that was idle, once its board has settled or drained with it
+module _ {D N : Type 0} {d : discipline.Ghosts D N} {m : machine.Ghosts Reclaiming N (MachineShape N) Request (Step N) Agent Agent} {domain : OrcDomain D N}
+    {p : OrcPass D N (MachineShape N) Request (Step N) Agent Agent d m} {q : MachineBoardPass D N (MachineShape N) Request (Step N) Agent Agent d m}
+    (h : IsPassOf domain p) (idle : IsIdle (seat_of domain p)) (x : Belongs domain.board q) (between : IsBetweenRounds (shows q).record_is)
+    (agent : (shows q).agent ≡ (shows p.pass).agent)
+    (quiet : NoEvents (domain_bounds domain) (shows p.pass).agent (shows p.pass).journal (shows q).journal)
+  where
+    pub settled_pass : IsPassOf domain (record { pass = q; next = p.next })
+    settled_pass = pass_of x (settled_between (stage_of h.board) (between_of h) idle (stage_of x) between agent quiet) h.inside
+
+    pub settled_only : Only [] (seat_of domain p) (seat_by (domain_bounds domain) (shows q))
+    settled_only = settles_nothing (stage_of h.board) (between_of h) idle (stage_of x) between agent quiet

@@ -7,6 +7,7 @@ use Rattle.orc_core.specs.declared.ops.Op.TheVariants.{CounterLoad}
 use Rattle.orc_fault.specs.declared.Spent.{Spent}
 use Rattle.orc_heap.specs.Allowed.{events_by}
 use Rattle.orc_heap.specs.Moves.{gives_in}
+use Rattle.orc_history.specs.Parts.{InPart}
 use Rattle.orc_machine_board.specs.Rules.{run_of}
 use Rattle.orc_projection.specs.Projection.{StoresUnmarked, project}
 use Rattle.orc_sound.specs.Journals.{IsLawfulJournal}
@@ -53,3 +54,7 @@ module _ {N : Type 0} where
     pub op : step.op ≡ CounterLoad why.row Check
     pub read : why.sequence ≡ sequence_of (word_in (run_of b (take place j)) (Counter why.row))
     pub high : link_limit b ≤ why.sequence
+
+  -- in the part of the journal that a call of the agent made, it read the sequence of the row so
+  abbrev pub ReadsWorn : Bounds → ℕ → (before after : List (Step N)) → Spent → Type 0
+  ReadsWorn b agent before after why = InPart (λ (s : Step N). s.agent) agent before after (IsWornIn b agent why after)

@@ -6,7 +6,7 @@ ghost use Rattle.orc_any_domain.specs.Domains.{AreAllIdle, heap_numbers};
 ghost use Rattle.orc_heap.specs.Seeds.{SeedAllowed, opening_events};
 ghost use Rattle.orc_machine_board.specs.Rules.{run_of};
 ghost use Rattle.orc_machine_rest.specs.Ends.{CountsOf};
-ghost use Rattle.orc_domain.specs.Ends.{AddsNoEvents, AreAll, AreIdle, SawAll, whole_journal};
+ghost use Rattle.orc_domain.specs.Ends.{AddsNoEvents, AreAll, SawAll, whole_journal};
 ghost use Rattle.orc_domain.specs.Passes.{domain_bounds, domain_opening, seat_of};
 ghost use Rattle.orc_domain.specs.Rest.{IsRestOf, rest_domain, rest_journal};
 ghost use Rattle.orc_rest.specs.Rest.{IsAtRest};
@@ -22,8 +22,7 @@ use std::alloc::Global;
 
 // Lets all passes drain.
 fn drain_passes<D: Discipline>(domain: &OrcDomain<D>, passes: &mut Vec<OrcPass<D>>)
-    requires all { AreAll domain.now passes.old.items }
-    requires idle { AreIdle domain.now passes.old.items }
+    requires { AreAllIdle ⟦<OrcDomain<D> as Links>⟧ domain.now passes.old.items }
     ensures all { AreAll domain.now passes.new.items }
     ensures own { SawAll passes.new.items }
     ensures rest { IsAtRest (run_of (domain_bounds domain.now) (whole_journal passes.new.items)) }

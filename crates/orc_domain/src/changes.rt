@@ -1,24 +1,26 @@
 //! The parts of which the calls that change links are made.
 
-ghost use Rattle.std.specs.Prelude.{◌≡◌, ◌<◌, IfErr, IfOk, None, Some, false, true, ℕ};
+ghost use Rattle.std.specs.Prelude.{◌≡◌, ◌<◌, ◌∷◌, [], IfErr, IfOk, None, Some, false, true, ℕ};
+ghost use mathlib.Core.List.{IsPrefix};
 ghost use Rattle.orc_core.specs.Allowed.{may_change, may_target};
 ghost use Rattle.orc_core.specs.RecordParts.{checked_below, names};
+ghost use Rattle.orc_plain_domain.specs.Calls.{MayAimLink, aim_at};
 ghost use Rattle.orc_plain_domain.specs.Rows.{row_link};
-ghost use Rattle.orc_heap.specs.Calls.{IsWorn, MayMove, RefusesSwing, Swings};
+ghost use Rattle.orc_heap.specs.Calls.{IsWorn, MayMove, RefusesAim, RefusesSwing, Swings};
+ghost use Rattle.orc_heap.specs.OwnEvents.{Only};
 ghost use Rattle.orc_heap.specs.Seats.{HoldsPlace, HoldsWant, IsNotFresh};
 ghost use Rattle.orc_heap.specs.Slots.{Holds};
-ghost use Rattle.orc_history.specs.Parts.{InPart};
 ghost use Rattle.orc_machine_board.specs.Licences.{AimAllowed};
 ghost use Rattle.orc_machine_board.specs.Views.{Belongs, shows};
-ghost use Rattle.orc_domain.specs.Causes.{IsWornIn};
+ghost use Rattle.orc_domain.specs.Causes.{ReadsWorn};
 ghost use Rattle.orc_domain.specs.Changes.{Stores};
 ghost use Rattle.orc_machine_rest.specs.OwnSteps.{LeavesNothing};
-ghost use Rattle.orc_domain.specs.Passes.{IsFreshUntouched, domain_bounds, domain_numbers};
+ghost use Rattle.orc_domain.specs.Passes.{IsFreshUntouched, IsPassOf, domain_bounds, domain_numbers, journal_of, next_row, seat_of};
 ghost use Rattle.orc_domain.specs.Searches.{Idles};
 ghost use Rattle.orc_domain.specs.Seats.{IsBetweenCalls, seat_by};
 ghost use Rattle.orc_words.specs.Bounds.{link_limit};
 
-use crate::domain::OrcDomain;
+use crate::domain::{OrcDomain, OrcPass};
 use orc_core::{CounterUse, SEQUENCE};
 use orc_fault::Spent;
 use orc_heap::{At, Discipline, Held, Want};
@@ -38,8 +40,7 @@ impl<D: Discipline> OrcDomain<D> {
         ensures low { IfOk result (λ _. checked_below (shows p.new).record_is.checked h.now.row (link_limit (domain_bounds self.now)) ≡ true) }
         ensures spent { IfErr result (λ e. IsWorn (seat_by (domain_bounds self.now) (shows p.old)).slots h.now e
             (seat_by (domain_bounds self.now) (shows p.new)).seen) }
-        ensures worn { IfErr result (λ e. InPart (λ s. s.agent) (shows p.old).agent (shows p.old).journal (shows p.new).journal
-            (IsWornIn (domain_bounds self.now) (shows p.old).agent e (shows p.new).journal)) }
+        ensures worn { IfErr result (ReadsWorn (domain_bounds self.now) (shows p.old).agent (shows p.old).journal (shows p.new).journal) }
     {
         let row = h.row();
         let counter = self.board.counter_load(p, row, CounterUse::Check);
@@ -68,8 +69,7 @@ impl<D: Discipline> OrcDomain<D> {
             ≡ true) }
         ensures spent { IfErr result (λ e. RefusesSwing (seat_by (domain_bounds self.now) (shows p.old)).slots from.now to.now e
             (seat_by (domain_bounds self.now) (shows p.new)).seen) }
-        ensures worn { IfErr result (λ e. InPart (λ s. s.agent) (shows p.old).agent (shows p.old).journal (shows p.new).journal
-            (IsWornIn (domain_bounds self.now) (shows p.old).agent e (shows p.new).journal)) }
+        ensures worn { IfErr result (ReadsWorn (domain_bounds self.now) (shows p.old).agent (shows p.old).journal (shows p.new).journal) }
     {
         let Want::Node(h, _) = to else {
             return Ok(());
@@ -140,5 +140,35 @@ impl<D: Discipline> OrcDomain<D> {
         let old = self.board.link_store(p, row, number, link);
         let (up, down) = to_count(named(old / 2), to);
         self.complete(p, up, down);
+    }
+
+    // Sets the link of this number of the fresh node, and counts the target.
+    pub(crate) fn aim_link(
+        &self,
+        p: &mut OrcPass<D>,
+        fresh: &Held,
+        number: u32,
+        to: Option<&Held>,
+    ) -> Result<(), Spent>
+        requires pass { IsPassOf self.now p.old }
+        requires number { number < (domain_bounds self.now).links }
+        requires may { MayAimLink (D.may (domain_numbers self.now)) (domain_numbers self.now) (seat_of self.now p.old) number fresh.now to }
+        ensures pass { IsPassOf self.now p.new }
+        ensures later { IsPrefix (journal_of p.old) (journal_of p.new) }
+        ensures aimed { IfOk result (λ _. Only (aim_at (seat_of self.now p.old) number fresh.now to.entry ∷ []) (seat_of self.now p.old)
+            (seat_of self.now p.new)) }
+        ensures none { IfErr result (λ e. Only [] (seat_of self.now p.old) (seat_of self.now p.new)) }
+        ensures spent { IfErr result (λ e. RefusesAim (seat_of self.now p.old).slots to.entry e (seat_of self.now p.new).seen) }
+        ensures worn { IfErr result (ReadsWorn (domain_bounds self.now) (seat_of self.now p.old).agent (journal_of p.old) (journal_of p.new)) }
+        ensures taken_in { LeavesNothing (seat_of self.now p.old).agent (journal_of p.old) (journal_of p.new) }
+        ensures next { next_row p.new ≡ next_row p.old }
+    {
+        let Some(h) = to else {
+            self.store(&mut p.pass, fresh.row(), number, None);
+            return Ok(());
+        };
+        self.check(&mut p.pass, h)?;
+        self.store(&mut p.pass, fresh.row(), number, Some(h.row()));
+        Ok(())
     }
 }

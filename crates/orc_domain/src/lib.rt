@@ -1,7 +1,6 @@
 //! A domain of links whose rows are reclaimed: each row is counted, retired, scanned for, freed and given again.
 #![tactic(auto)]
 
-mod aims;
 mod as_domain;
 mod at_rest;
 mod changes;

@@ -9,7 +9,7 @@ ghost use Rattle.orc_heap.specs.OwnEvents.{Only};
 ghost use Rattle.orc_heap.specs.Seats.{HoldsFresh, HoldsPlace, HoldsTarget, HoldsWant, IsIdle, IsNotFresh, IsOutside, place_in};
 ghost use Rattle.orc_heap.specs.Slots.{Holds, IsFree, id_in};
 ghost use Rattle.orc_history.specs.Parts.{InPart, IsAlone};
-ghost use Rattle.orc_domain.specs.Causes.{IsLacking, IsWornIn};
+ghost use Rattle.orc_domain.specs.Causes.{IsLacking, IsWornIn, ReadsWorn};
 ghost use Rattle.orc_machine_rest.specs.OwnSteps.{AtMostMore, HasTakenIn, LeavesNothing, most_rounds, steps_a_round};
 ghost use Rattle.orc_domain.specs.OwnSteps.{TakesInFree};
 ghost use Rattle.orc_domain.specs.Passes.{IsPassOf, domain_bounds, domain_numbers, journal_of, next_row, seat_of};
@@ -31,7 +31,7 @@ impl<D: Discipline> Links for OrcDomain<D> {
     ghost use Rattle.orc_domain.specs.Laws.Adding.{one_more};
     ghost use Rattle.orc_domain.specs.Laws.Lacking.{lacking_all};
     ghost use Rattle.orc_domain.specs.Laws.Lasting.{lacking_later, worn_later};
-    ghost use Rattle.orc_domain.specs.Laws.Passes.{all_allowed, all_below, all_obey, all_of_agents, begins_so, begun, fresh_untouched, held_known};
+    ghost use Rattle.orc_domain.specs.Laws.Passes.{all_below, all_of_agents, begins_so, held_known};
     ghost use Rattle.orc_domain.specs.Passes.{domain_opening};
 
     type Rule = D;
@@ -244,8 +244,7 @@ impl<D: Discipline> Links for OrcDomain<D> {
         ensures aimed { IfOk result (λ _. Only (aim_of (seat_of self.now p.old) fresh.now to.entry ∷ []) (seat_of self.now p.old) (seat_of self.now p.new)) }
         ensures none { IfErr result (λ e. Only [] (seat_of self.now p.old) (seat_of self.now p.new)) }
         ensures spent { IfErr result (λ e. RefusesAim (seat_of self.now p.old).slots to.entry e (seat_of self.now p.new).seen) }
-        ensures worn { IfErr result (λ e. InPart (λ s. s.agent) (seat_of self.now p.old).agent (journal_of p.old) (journal_of p.new)
-            (IsWornIn (domain_bounds self.now) (seat_of self.now p.old).agent e (journal_of p.new))) }
+        ensures worn { IfErr result (ReadsWorn (domain_bounds self.now) (seat_of self.now p.old).agent (journal_of p.old) (journal_of p.new)) }
         ensures taken_in { LeavesNothing (seat_of self.now p.old).agent (journal_of p.old) (journal_of p.new) }
         ensures next { next_row p.new ≡ next_row p.old }
     {
@@ -268,8 +267,7 @@ impl<D: Discipline> Links for OrcDomain<D> {
         ensures aimed { IfOk result (λ _. Only (aim_side_of (seat_of self.now p.old) fresh.now to.entry ∷ []) (seat_of self.now p.old) (seat_of self.now p.new)) }
         ensures none { IfErr result (λ e. Only [] (seat_of self.now p.old) (seat_of self.now p.new)) }
         ensures spent { IfErr result (λ e. RefusesAim (seat_of self.now p.old).slots to.entry e (seat_of self.now p.new).seen) }
-        ensures worn { IfErr result (λ e. InPart (λ s. s.agent) (seat_of self.now p.old).agent (journal_of p.old) (journal_of p.new)
-            (IsWornIn (domain_bounds self.now) (seat_of self.now p.old).agent e (journal_of p.new))) }
+        ensures worn { IfErr result (ReadsWorn (domain_bounds self.now) (seat_of self.now p.old).agent (journal_of p.old) (journal_of p.new)) }
         ensures taken_in { LeavesNothing (seat_of self.now p.old).agent (journal_of p.old) (journal_of p.new) }
         ensures next { next_row p.new ≡ next_row p.old }
     {
@@ -302,8 +300,7 @@ impl<D: Discipline> Links for OrcDomain<D> {
         ensures swung { IfOk result (λ done. Swings place.now from.now to.now note (seat_of self.now p.old) done (seat_of self.now p.new)) }
         ensures none { IfErr result (λ e. Only [] (seat_of self.now p.old) (seat_of self.now p.new)) }
         ensures spent { IfErr result (λ e. RefusesSwing (seat_of self.now p.old).slots from.now to.now e (seat_of self.now p.new).seen) }
-        ensures worn { IfErr result (λ e. InPart (λ s. s.agent) (seat_of self.now p.old).agent (journal_of p.old) (journal_of p.new)
-            (IsWornIn (domain_bounds self.now) (seat_of self.now p.old).agent e (journal_of p.new))) }
+        ensures worn { IfErr result (ReadsWorn (domain_bounds self.now) (seat_of self.now p.old).agent (journal_of p.old) (journal_of p.new)) }
         ensures taken_in { LeavesNothing (seat_of self.now p.old).agent (journal_of p.old) (journal_of p.new) }
         ensures next { next_row p.new ≡ next_row p.old }
     {
@@ -365,17 +362,17 @@ impl<D: Discipline> Links for OrcDomain<D> {
 
     ghost opens = { λ d p h. begins_so d p h };
 
-    ghost begins = { λ d p h. begun d p h };
+    ghost begins = { λ d p h. h.board.keeps.began };
 
-    ghost allowed = { λ d p h. all_allowed d p h };
+    ghost allowed = { λ d p h. h.board.keeps.now.each };
 
-    ghost obeys = { λ d p h. all_obey d p h };
+    ghost obeys = { λ d p h. h.board.keeps.now.kept };
 
     ghost agents_below = { λ d p h. all_below d p h };
 
     ghost steps_below = { λ d p h. all_of_agents d p h };
 
-    ghost fresh_is = { λ d p id h e. fresh_untouched d p h id e };
+    ghost fresh_is = { λ d p id h e. h.untouched id e };
 
     ghost held_is = { λ d p hold h e. held_known d p h hold e };
 

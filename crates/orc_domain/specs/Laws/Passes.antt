@@ -1,13 +1,11 @@
 -- Laws of the passes of a domain.
 use Rattle.std.specs.List.{AllByRecursion}
-use Rattle.std.specs.Prelude.{List, Some, [], ℕ, ◌<◌, ◌∷◌, ◌≡◌}
+use Rattle.std.specs.Prelude.{List, [], ℕ, ◌<◌, ◌∷◌}
 use mathlib.Core.List.{IsPrefix}
 use Rattle.orc_core.specs.declared.records.Agent.{Agent}
 use Rattle.orc_heap.specs.Acts.{IsKnown}
-use Rattle.orc_heap.specs.Allowed.{AllAllowed}
 use Rattle.orc_heap.specs.Journals.{run_heap}
 use Rattle.orc_heap.specs.OwnEvents.{IsBelow}
-use Rattle.orc_heap.specs.Seats.{IsUntouched}
 use Rattle.orc_heap.specs.Slots.{Hold, Holds, id_in}
 use Rattle.orc_heap.specs.declared.discipline.Discipline as discipline
 use Rattle.orc_machine_board.specs.Laws.Steps.{in_range}
@@ -36,24 +34,11 @@ module _ {D N : Type 0} {d : discipline.Ghosts D N} {m : machine.Ghosts Reclaimi
         let now = h.board.keeps.now in
         opens_so (domain_bounds domain) k.seed p.pass.pass.seat.me.0.seen (in_range k.shape) now.lawful.0 now.opened
 
-    pub begun : d.holds (domain_numbers domain) []
-    begun = h.board.keeps.began
-
-    pub all_allowed : AllAllowed (d.may (domain_numbers domain)) [] (seat_of domain p).seen
-    all_allowed = h.board.keeps.now.each
-
-    pub all_obey : d.holds (domain_numbers domain) (seat_of domain p).seen
-    all_obey = h.board.keeps.now.kept
-
     pub all_below : ((seat_of domain p).agent < (domain_bounds domain).agents) × IsBelow (domain_bounds domain).agents (seat_of domain p).seen
     all_below = (h.board.keeps.number, below_all (domain_bounds domain) p.pass.pass.seat.me.0.seen h.board.keeps.now.below)
 
     pub all_of_agents : AllByRecursion (λ (s : Step N). s.agent < (domain_bounds domain).agents) (journal_of p)
     all_of_agents = each_below (domain_bounds domain).agents (journal_of p) h.board.keeps.now.below
-
-    pub fresh_untouched : (id : ℕ) → (seat_of domain p).fresh ≡ Some id
-        → IsUntouched (seat_of domain p).agent (run_heap (domain_numbers domain) (seat_of domain p).seen) id
-    fresh_untouched = h.untouched
 
     pub held_known : (hold : Hold) → Holds (seat_of domain p).slots hold
         → IsKnown (seat_of domain p).agent (run_heap (domain_numbers domain) (seat_of domain p).seen) (id_in (seat_of domain p).slots hold)

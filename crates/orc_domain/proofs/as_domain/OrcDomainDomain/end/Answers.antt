@@ -1,19 +1,8 @@
--- The passes are all passes of their domain, and idle.
 use Rattle.orc_domain.proofs.Quiet.{rests_quietly}
 use Rattle.orc_domain.proofs.Resting.{some_passes}
 use Rattle.orc_domain.specs.Ends.{AreAll}
 use Rattle.orc_domain.specs.Passes.{domain_bounds}
 use Rattle.orc_domain.proofs.as_domain.OrcDomainDomain.end.Goals as goal
-
-pub drain_passes-requires-clause-all : goal.drain_passes-requires-clause-all
-drain_passes-requires-clause-all g c = record {
-  many = c.requires.many;
-  belong = λ i p low. (c.requires.each i p low).0;
-  order = c.requires.order;
-}
-
-pub drain_passes-requires-clause-idle : goal.drain_passes-requires-clause-idle
-drain_passes-requires-clause-idle g c = λ i p low. (c.requires.each i p low).1
 
 pub returns : goal.returns
 returns g c =

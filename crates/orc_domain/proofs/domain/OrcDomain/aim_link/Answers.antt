@@ -23,19 +23,19 @@ use Rattle.orc_domain.proofs.domain.OrcDomain.aim_link.Goals as goal
 pub store-requires-clause-fresh : goal.store-requires-clause-fresh
 store-requires-clause-fresh g c =
     let s = stage_of c.requires.pass.board in
-    subst (λ r. names s.view.record_is.fresh r ≡ true) (sym c.row.ensures) (fresh_row s c.args.fresh.now c.requires.fresh)
+    subst (λ r. names s.view.record_is.fresh r ≡ true) (sym c.row.ensures) (fresh_row s c.args.fresh.now c.requires.may.fresh)
 
 pub store-requires-clause-licensed : goal.store-requires-clause-licensed
 store-requires-clause-licensed g c =
     let s = stage_of c.requires.pass.board in
-    let r = c.requires in
+    let r = c.requires.may in
     subst (λ (z : ℕ × Option (Bor Hold)). AimAllowed (g.D.Discipline.may (heap_numbers c.args.self.now.board.words.shape)) (domain_bounds c.args.self.now) s.view z.0 c.args.number (target_link z.1).to)
     (λ i. (sym c.row.ensures i, c.in_default.is i)) (aim_allowed s c.args.number c.args.fresh.now c.args.to r.fresh.held r.target r.allowed)
 
 pub returns-in_default-clause-aimed : goal.returns-in_default-clause-aimed
 returns-in_default-clause-aimed g c =
-    let r = c.requires in
-    let s = stage_of r.pass.board in
+    let r = c.requires.may in
+    let s = stage_of c.requires.pass.board in
     let u = stage_of c.store.ensures.belongs in
     aims s c.args.number c.args.fresh.now c.args.to r.fresh.held r.target u
     (subst (λ (z : ℕ × Option (Bor Hold)). Stores (domain_bounds c.args.self.now) z.0 c.args.number (target_link z.1).to s.view u.view)
@@ -49,10 +49,10 @@ returns-in_err-check-clause-pass g c =
 
 -- it isn't: what the caller names holds still
 fresh : (g : Over) (c : After-check g) → HoldsFresh (seat (stage_of c.check.ensures.belongs)) c.args.fresh.now
-fresh g c = fresh_on (stage_of c.requires.pass.board) (stage_of c.check.ensures.belongs) c.check.ensures.checks c.args.fresh.now c.requires.fresh
+fresh g c = fresh_on (stage_of c.requires.pass.board) (stage_of c.check.ensures.belongs) c.check.ensures.checks c.args.fresh.now c.requires.may.fresh
 
 target : (g : Over) (c : After-check g) → HoldsTarget (seat (stage_of c.check.ensures.belongs)) c.args.to
-target g c = target_on (stage_of c.requires.pass.board) (stage_of c.check.ensures.belongs) c.check.ensures.checks c.args.to c.requires.target
+target g c = target_on (stage_of c.requires.pass.board) (stage_of c.check.ensures.belongs) c.check.ensures.checks c.args.to c.requires.may.target
 
 pub store-requires-2-clause-untouched : goal.store-requires-2-clause-untouched
 store-requires-2-clause-untouched g c =
@@ -83,7 +83,7 @@ store-requires-2-clause-licensed g c =
     subst (λ (z : ℕ × Option ℕ). AimAllowed (g.D.Discipline.may (heap_numbers c.args.self.now.board.words.shape)) (domain_bounds c.args.self.now) t.view z.0 c.args.number z.1)
     (λ i. (sym c.row-2.ensures i, (ap (λ (o : Option (Bor Hold)). (target_link o).to) c.in-Some.is ∙ ap Some (sym c.row-3.ensures)) i))
     (aim_allowed t c.args.number c.args.fresh.now c.args.to (fresh g at).held (target g at)
-    (aim_on (stage_of c.requires.pass.board) t c.check.ensures.checks c.args.number c.args.fresh.now c.args.to c.requires.allowed))
+    (aim_on (stage_of c.requires.pass.board) t c.check.ensures.checks c.args.number c.args.fresh.now c.args.to c.requires.may.allowed))
 
 pub returns-clause-aimed : goal.returns-clause-aimed
 returns-clause-aimed g c =

@@ -25,32 +25,25 @@ counter_load-counter-requires-clause-allowed g c =
     subst (λ r. MayDo (domain_bounds c.args.self.now) (shows c.args.p.now) (CounterLoad r Check)) (sym c.row-row.ensures)
     (check_can (stage_of c.requires.belongs) c.args.h.now c.requires.held (ready_calm (shows c.args.p.now).record_is c.requires.ready))
 
-pub returns-then-sequence-link_limit-clause-checks : goal.returns-then-sequence-link_limit-clause-checks
-returns-then-sequence-link_limit-clause-checks g c =
-    checks (stage_of c.requires.belongs) c.args.h.now c.requires.held (stage_of c.counter_load-counter.ensures.belongs) c.counter_load-counter.result
-    (loaded g (goal.at.returns-then-sequence-link_limit-clause-checks g c).After-counter_load-counter)
-
 pub returns-clause-checks : goal.returns-clause-checks
 returns-clause-checks g c =
     checks (stage_of c.requires.belongs) c.args.h.now c.requires.held (stage_of c.counter_load-counter.ensures.belongs) c.counter_load-counter.result
     (loaded g (goal.at.returns-clause-checks g c).After-counter_load-counter)
 
-pub returns-then-sequence-link_limit-clause-spent : goal.returns-then-sequence-link_limit-clause-spent
-returns-then-sequence-link_limit-clause-spent g c =
+pub returns-then-sequence-link_limit : goal.returns-then-sequence-link_limit
+returns-then-sequence-link_limit g c =
+    let s = stage_of c.requires.belongs in
+    let t = stage_of c.counter_load-counter.ensures.belongs in
     let n = c.counter_load-counter.result in
+    let load = loaded g (goal.at.returns-then-sequence-link_limit g c).After-counter_load-counter in
     let is = c.if-sequence-link_limit.true in
     let one = c.link_limit.ensures in
     let two = c.shape.ensures in
     let high : link_limit (domain_bounds c.args.self.now) ≤ sequence_of n = grind arith in
-    is_worn (stage_of c.requires.belongs) c.args.h.now c.requires.held (stage_of c.counter_load-counter.ensures.belongs) n
-    (loaded g (goal.at.returns-then-sequence-link_limit-clause-spent g c).After-counter_load-counter) _ (λ i. record { row = c.row-row.ensures i; sequence = sequence_of n }) high
-
-pub returns-then-sequence-link_limit-clause-worn : goal.returns-then-sequence-link_limit-clause-worn
-returns-then-sequence-link_limit-clause-worn g c =
-    let n = c.counter_load-counter.result in
-    let is = c.if-sequence-link_limit.true in
-    let one = c.link_limit.ensures in
-    let two = c.shape.ensures in
-    let high : link_limit (domain_bounds c.args.self.now) ≤ sequence_of n = grind arith in
-    is_worn_in (stage_of c.requires.belongs) c.args.h.now c.requires.held (stage_of c.counter_load-counter.ensures.belongs) n
-    (loaded g (goal.at.returns-then-sequence-link_limit-clause-worn g c).After-counter_load-counter) _ (λ i. record { row = c.row-row.ensures i; sequence = sequence_of n }) high
+    record {
+      belongs = c.counter_load-counter.ensures.belongs;
+      checks = checks s c.args.h.now c.requires.held t n load;
+      low = tt;
+      spent = is_worn s c.args.h.now c.requires.held t n load _ (λ i. record { row = c.row-row.ensures i; sequence = sequence_of n }) high;
+      worn = is_worn_in s c.args.h.now c.requires.held t n load _ (λ i. record { row = c.row-row.ensures i; sequence = sequence_of n }) high;
+    }

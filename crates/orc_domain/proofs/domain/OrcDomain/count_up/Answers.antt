@@ -19,6 +19,5 @@ returns-clause-becomes g c =
 
 pub try_due-requires-clause-pending : goal.try_due-requires-clause-pending
 try_due-requires-clause-pending g c =
-    let m = c.inc-word.ensures.made in
-    ap (λ (e : Agent). e.due) m.record_is
-    ∙ ((λ i. due_after c.args.row (word_add (sym m.answer i) INCREMENT) (c.requires.countable.due i)) ∙ sym c.due_by.ensures)
+    ap (λ (e : Agent). e.due) c.inc-word.ensures.made.record_is
+    ∙ ((λ i. due_after c.args.row (word_add (sym c.inc-word.ensures.made.answer i) INCREMENT) (c.requires.countable.due i)) ∙ sym c.due_by.ensures)

@@ -57,32 +57,18 @@ ended g c =
     c.learn_all-in-Some.new.first c.learn_all-in-Some.new.others c.learn_all-in-Some.ensures.steps
     c.learn_all-in-Some.ensures.first c.learn_all-in-Some.ensures.others
 
-pub returns-in-Some-clause-all : goal.returns-in-Some-clause-all
-returns-in-Some-clause-all g c = (ended g (goal.at.returns-in-Some-clause-all g c).After-learn_all-in-Some).all
-
-pub returns-in-Some-clause-idle : goal.returns-in-Some-clause-idle
-returns-in-Some-clause-idle g c = (ended g (goal.at.returns-in-Some-clause-idle g c).After-learn_all-in-Some).idle
-
-pub returns-in-Some-clause-settled : goal.returns-in-Some-clause-settled
-returns-in-Some-clause-settled g c = (ended g (goal.at.returns-in-Some-clause-settled g c).After-learn_all-in-Some).settled
-
-pub returns-in-Some-clause-one_list : goal.returns-in-Some-clause-one_list
-returns-in-Some-clause-one_list g c = (ended g (goal.at.returns-in-Some-clause-one_list g c).After-learn_all-in-Some).one_list
-
-pub returns-in-Some-clause-own : goal.returns-in-Some-clause-own
-returns-in-Some-clause-own g c = (ended g (goal.at.returns-in-Some-clause-own g c).After-learn_all-in-Some).own
-
-pub returns-in-Some-clause-rest : goal.returns-in-Some-clause-rest
-returns-in-Some-clause-rest g c = (ended g (goal.at.returns-in-Some-clause-rest g c).After-learn_all-in-Some).rest
-
-pub returns-in-Some-clause-later : goal.returns-in-Some-clause-later
-returns-in-Some-clause-later g c = (ended g (goal.at.returns-in-Some-clause-later g c).After-learn_all-in-Some).later
-
-pub returns-in-Some-clause-heard : goal.returns-in-Some-clause-heard
-returns-in-Some-clause-heard g c = (ended g (goal.at.returns-in-Some-clause-heard g c).After-learn_all-in-Some).heard
-
-pub returns-in-Some-clause-longest : goal.returns-in-Some-clause-longest
-returns-in-Some-clause-longest g c = (ended g (goal.at.returns-in-Some-clause-longest g c).After-learn_all-in-Some).longest
-
-pub returns-in-Some-clause-quiet : goal.returns-in-Some-clause-quiet
-returns-in-Some-clause-quiet g c = (ended g (goal.at.returns-in-Some-clause-quiet g c).After-learn_all-in-Some).quiet
+pub returns-in-Some : goal.returns-in-Some
+returns-in-Some g c =
+    let e = ended g (goal.at.returns-in-Some g c).After-learn_all-in-Some in
+    record {
+      all = e.all;
+      idle = e.idle;
+      settled = e.settled;
+      one_list = e.one_list;
+      own = e.own;
+      rest = e.rest;
+      later = e.later;
+      heard = e.heard;
+      longest = e.longest;
+      quiet = e.quiet;
+    }
