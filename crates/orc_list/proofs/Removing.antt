@@ -7,7 +7,7 @@ use Rattle.std.specs.List.{Contains}
 use Rattle.orc_heap.proofs.Calls.{Puts-trans, part_allowed}
 use Rattle.orc_heap.proofs.Moved.{moves_in-append}
 use Rattle.orc_heap.proofs.OwnParts.{from_own-begun, from_own-others, own_is_all, own_left, own_right, quiet_not_alone}
-use Rattle.orc_heap.proofs.Pieces.{new_is, own_moves_left, puts_released}
+use Rattle.orc_heap.proofs.Pieces.{new_is, puts_released}
 use Rattle.orc_heap.proofs.Runs.{run_heap-snoc}
 use Rattle.orc_heap.proofs.SingleActs.{some_same}
 use Rattle.orc_heap.specs.Allowed.{AllAllowed, HasLink, events_by}
@@ -32,7 +32,7 @@ use Rattle.orc_ordered_chains.specs.Chains.{IsRun, link_over}
 use Rattle.orc_chain_rule.specs.ChainDiscipline.{ChainHolds, ChainMay, FollowsOn, HasKey, IsOnNoChain}
 use Rattle.orc_chain_rule.specs.Laws.Kept.{chain_keeps}
 use Rattle.orc_ordered_chains.proofs.Acts.{move_moves}
-use Rattle.orc_chain_rule.specs.Laws.Kinds.{key_linked, key_one}
+use Rattle.orc_chain_rule.specs.Laws.Kinds.{key_one}
 use Rattle.orc_ordered_search.specs.Searches.{AllGone, FindsPresent, Quiet, left_place, node_of, run_head}
 use Rattle.orc_list.specs.Inserts.{SeesAbsent}
 use Rattle.orc_list.specs.Searches.{list_reading}
@@ -40,7 +40,7 @@ use Rattle.orc_list.specs.Stops.{MarkStops}
 use Rattle.orc_list.specs.Turns.{LeavesOff, StopsBefore, TakesOff}
 use Rattle.orc_ordered_search.specs.Turns.{HasManyLinks, Marks, TakesNode, Tires, made_from}
 use Rattle.orc_ordered_search.proofs.Removing.{marked_at, marked_link, removes_missed, run_from}
-use Rattle.orc_ordered_search.proofs.Making.{made_after, made_on, missed}
+use Rattle.orc_ordered_search.proofs.Making.{made_after, made_on}
 use Rattle.orc_ordered_search.proofs.Seen.{sees_left, sees_run_left}
 use Rattle.orc_ordered_search.proofs.Since.{made_is}
 use Rattle.orc_ordered_search.proofs.Stepping.{run_snoc}

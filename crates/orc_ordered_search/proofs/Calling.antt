@@ -1,11 +1,12 @@
 -- From what an answer rests on to the turn of a call.
-use Rattle.std.proofs.Common.{Bool, ap, arith, false, inl, inr, sym, true, ℕ, ◌∙◌, ◌≡◌}
+use Rattle.std.proofs.Common.{Bool, None, Option, Some, ap, arith, false, inl, inr, refl, subst, sym, true, ℕ, ◌∙◌, ◌≡◌}
+use Rattle.std.specs.Prelude.{if◌then◌else◌}
 use Rattle.orc_heap.specs.Seats.{Seat}
 use Rattle.orc_history.specs.declared.set.SetEntry.{SetEntry}
 use Rattle.orc_history.specs.declared.set.SetEntry.TheVariants.{Asked, Removed}
 use Rattle.orc_ordered_search.specs.Entries.{IsAbsence, entry_by}
 use Rattle.orc_ordered_search.specs.Reading.{Reading}
-use Rattle.orc_ordered_search.specs.Turns.{Enters, EntersFew, made_from}
+use Rattle.orc_ordered_search.specs.Turns.{AnswersTurn, Enters, EntersFew, made_from}
 use Rattle.orc_ordered_search.specs.Ways.{IsFew}
 use Rattle.orc_ordered_search.specs.declared.call.Call.{Call}
 use Rattle.orc_ordered_search.specs.declared.call.Call.TheVariants.{Ask, Remove}
@@ -29,3 +30,13 @@ pub entry_is : (call other : Call) (by agent key : ℕ) (answer : Bool) → call
     → entry_by other by key answer ≡ entry_by call agent key answer
 entry_is call other by agent key answer is same =
     ap (λ (i : ℕ). entry_by other i key answer) same ∙ ap (λ (c : Call). entry_by c agent key answer) (sym is)
+
+-- an answer, if it was entered
+pub enters_turn : {N : Type 0} (r : Reading N) (entry : Bool → SetEntry) (s u : Seat N) (done value : Bool) (answer : Option Bool)
+    → answer ≡ (if done then Some value else None) → Enters r (entry value) s done u → AnswersTurn r entry s answer u
+enters_turn r entry s u true value answer is e = subst (λ (o : Option Bool). AnswersTurn r entry s o u) (sym is) e
+enters_turn r entry s u false value answer is e = subst (λ (o : Option Bool). AnswersTurn r entry s o u) (sym is) e
+
+pub answers_true : (done value : Bool) (answer : Option Bool) → answer ≡ (if done then Some value else None) → answer ≡ Some true → (done ≡ true) × (value ≡ true)
+answers_true true value answer is told = let e : ◌≡◌ {A = Option Bool} (Some value) (Some true) = sym is ∙ told in (refl, cc)
+answers_true false value answer is told = let e : ◌≡◌ {A = Option Bool} None (Some true) = sym is ∙ told in cc

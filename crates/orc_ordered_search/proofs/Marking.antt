@@ -208,6 +208,14 @@ worn_since {S} worn agent_of a b j k m stays same one two (Err e) w =
     let there : Within (length k) (length m) (worn a e m) = subst (λ (x : ℕ). Within (length k) (length m) (worn x e m)) same here in
     within_wider (worn a e) j k m m (stays e) one ([], append-nil m) there
 
+-- where the worn row is the answer
+pub err_worn : {S : Type 0} (worn : Spent → List S → ℕ → ℕ → Type 0) (j k m : List S)
+    → ((why : Spent) (xs more : List S) (from to : ℕ) → worn why xs from to → worn why (xs ++ more) from to) → IsPrefix k m → (result : Result Bool Spent)
+    (why : Spent) → result ≡ Err why → IfErr result (λ e. Within (length j) (length k) (worn e k)) → Within (length j) (length m) (worn why m)
+err_worn {S} worn j k m stays grows result why is w =
+    let there : Within (length j) (length k) (worn why k) = subst (λ (r : Result Bool Spent). IfErr r (λ e. Within (length j) (length k) (worn e k))) is w in
+    within_wider (worn why) j j k m (stays why) ([], append-nil j) grows there
+
 pub worn_part : {S : Type 0} (agent_of : S → ℕ) (agent : ℕ) (before after : List S) (worn : Spent → List S → ℕ → ℕ → Type 0) → IsPrefix before after
     → (result : Result Bool Spent)
     → IfErr result (λ e. InPart agent_of agent before after (worn e after))

@@ -1,6 +1,6 @@
 //! Calls that answer whether a key is present, and may take it out.
 
-ghost use Rattle.std.specs.Prelude.{◌≡◌, ◌≢◌, ◌<◌, ℕ, Some, true};
+ghost use Rattle.std.specs.Prelude.{◌≡◌, ◌≢◌, ◌<◌, if◌then◌else◌, None, Some, true};
 ghost use mathlib.Core.List.{IsPrefix};
 ghost use Rattle.orc_heap.specs.Seats.{Seat};
 ghost use Rattle.orc_heap.specs.declared.events.Place.{Place};
@@ -8,16 +8,15 @@ ghost use Rattle.orc_history.specs.declared.set.SetEntry.{SetEntry};
 ghost use Rattle.orc_ordered_search.specs.Causes.{HasWorn};
 ghost use Rattle.orc_ordered_search.specs.Entries.{entry_by};
 ghost use Rattle.orc_ordered_search.specs.Reading.{reading_by};
-ghost use Rattle.orc_ordered_search.specs.Searches.{FindsPresent};
 ghost use Rattle.orc_ordered_search.specs.Steps.{Finds};
-ghost use Rattle.orc_ordered_search.specs.Turns.{AnswersTurn, Enters, LoadsOnce, TakesFound, made_from};
+ghost use Rattle.orc_ordered_search.specs.Turns.{AnswersTurn, LoadsOnce, TakesFound, made_from};
 ghost use Rattle.orc_ordered_search.specs.Ways.{IsFew};
 
 use crate::answer::{enter_absent, enter_present};
 use crate::remove::take_out;
 use crate::set_rank::SetRank;
 use crate::walk::Searched;
-use orc_heap::{Held, Links};
+use orc_heap::Links;
 use orc_history::SetEntry;
 
 /// A call that answers whether a key is present.
@@ -39,47 +38,11 @@ fn entry_of(call: Call, agent: u32, key: u64, yes: bool) -> SetEntry
     }
 }
 
-// Where the key is present: answers so, or takes it out first, unless its node's link moved meanwhile. Lets all nodes go.
-fn answer_present<K: SetRank, L: Links<Rule = K::Rule>>(
-    links: &L,
-    p: &mut L::Pass,
-    root: u32,
-    key: u64,
-    call: Call,
-    left: Option<Held>,
-    first: Option<Held>,
-    node: Held,
-    next: Option<Held>,
-) -> bool
-    requires pass { L.belongs links.now p.old }
-    requires root { (root < (L.numbers links.now).roots) × (root ≡ (reading_by (L.numbers links.now) K.manner).order.root (K.key_rank key)) }
-    requires present { (start : Place) × (passed : ℕ) × (s : Seat K.Rule.Note)
-        × FindsPresent (reading_by (L.numbers links.now) K.manner) start (K.key_rank key) passed left first node next s (L.seat links.now p.old) }
-    ensures pass { L.belongs links.now p.new }
-    ensures later { IsPrefix (L.journal p.old) (L.journal p.new) }
-    ensures answered { (start : Place) (passed : ℕ) (s : Seat K.Rule.Note)
-        → FindsPresent (reading_by (L.numbers links.now) K.manner) start (K.key_rank key) passed left first node next s (L.seat links.now p.old)
-        → Enters (reading_by (L.numbers links.now) K.manner) (entry_by call s.agent key true) s result (L.seat links.now p.new) }
-    ensures few { (start : Place) (passed : ℕ) (s : Seat K.Rule.Note)
-        → FindsPresent (reading_by (L.numbers links.now) K.manner) start (K.key_rank key) passed left first node next s (L.seat links.now p.old)
-        → IsFew 4 (made_from s (L.seat links.now p.new)) }
-    ensures load { call ≡ Call.Ask → LoadsOnce (L.seat links.now p.old) (L.seat links.now p.new) }
-    ensures taken { (start : Place) (passed : ℕ) (s : Seat K.Rule.Note)
-        → FindsPresent (reading_by (L.numbers links.now) K.manner) start (K.key_rank key) passed left first node next s (L.seat links.now p.old)
-        → call ≡ Call.Remove → result ≡ true
-        → TakesFound (reading_by (L.numbers links.now) K.manner) (K.noted (SetEntry.Removed (L.seat links.now p.old).agent key true)) K.unlinking start
-        (K.key_rank key)
-        (HasWorn (L.worn links.now (L.seat links.now p.old).agent) (L.journal p.old) (L.journal p.new)) s (L.seat links.now p.old) (L.seat links.now p.new) }
+// This answer, if it was entered.
+fn answer_if(entered: bool, yes: bool) -> Option<bool>
+    ensures { result ≡ (if entered then Some yes else None) }
 {
-    let agent = links.agent(p);
-    match call {
-        Call::Ask => {
-            let yes = true;
-            let entry = SetEntry::Asked { agent, key, yes };
-            enter_present::<K, L>(links, p, key, left, first, node, next, entry)
-        }
-        Call::Remove => take_out::<K, L>(links, p, root, key, left, first, node, next),
-    }
+    if entered { Some(yes) } else { None }
 }
 
 /// Answers by what a search found, unless a link moved meanwhile. Lets all nodes go.
@@ -121,11 +84,8 @@ pub fn answer_found<K: SetRank, L: Links<Rule = K::Rule>>(
             passed: _,
         } => {
             let entry = entry_of(call, agent, key, false);
-            if enter_absent::<K, L>(links, p, root, key, left, first, right, entry) {
-                Some(false)
-            } else {
-                None
-            }
+            let entered = enter_absent::<K, L>(links, p, root, key, left, first, right, entry);
+            answer_if(entered, false)
         }
         Searched::Present {
             left,
@@ -133,12 +93,17 @@ pub fn answer_found<K: SetRank, L: Links<Rule = K::Rule>>(
             node,
             next,
             passed: _,
-        } => {
-            if answer_present::<K, L>(links, p, root, key, call, left, first, node, next) {
-                Some(true)
-            } else {
-                None
+        } => match call {
+            Call::Ask => {
+                let yes = true;
+                let entry = SetEntry::Asked { agent, key, yes };
+                let entered = enter_present::<K, L>(links, p, key, left, first, node, next, entry);
+                answer_if(entered, yes)
             }
-        }
+            Call::Remove => {
+                let removed = take_out::<K, L>(links, p, root, key, left, first, node, next);
+                answer_if(removed, true)
+            }
+        },
     }
 }

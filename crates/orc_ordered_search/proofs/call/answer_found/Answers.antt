@@ -1,16 +1,19 @@
 -- By what the search found.
-use Rattle.std.proofs.Common.{ap, arith, false, subst, true, ℕ, ◌∙◌}
+use Rattle.std.proofs.Common.{ap, arith, false, inr, subst, true, ℕ, ◌∙◌}
 use Rattle.orc_heap.specs.Seats.{Seat}
 use Rattle.orc_heap.specs.declared.events.Place.{Place}
 use Rattle.orc_history.specs.declared.set.SetEntry.{SetEntry}
+use Rattle.orc_history.specs.declared.set.SetEntry.TheVariants.{Asked, Removed}
 use Rattle.orc_ordered_search.specs.Entries.{entry_by}
-use Rattle.orc_ordered_search.specs.Reading.{reading_by}
+use Rattle.orc_ordered_search.specs.Reading.{ordering_of, reading_by}
 use Rattle.orc_ordered_search.specs.Searches.{FindsAbsent, FindsPresent}
 use Rattle.orc_ordered_search.specs.Steps.{Finds}
 use Rattle.orc_ordered_search.specs.Turns.{Enters}
+use Rattle.orc_ordered_search.specs.declared.call.Call.TheVariants.{Ask, Remove}
 use Rattle.orc_ordered_search.specs.declared.walk.Searched.{Searched}
-use Rattle.orc_ordered_search.proofs.Calling.{absence_of, enters_few}
+use Rattle.orc_ordered_search.proofs.Calling.{absence_of, answers_true, enters_any, enters_few, enters_turn, entry_is}
 use Rattle.orc_ordered_search.proofs.Making.{found_over}
+use Rattle.orc_ordered_search.proofs.Removing.{takes_enters, takes_few, takes_found}
 use Rattle.orc_ordered_search.proofs.Since.{few_made}
 use Rattle.orc_ordered_search.proofs.call.answer_found.Given.{Over}
 use Rattle.orc_ordered_search.proofs.call.answer_found.Goals.{In-Absent, In-Present}
@@ -52,67 +55,102 @@ returns-in-Over-clause-few g c = λ start s f.
     let moved = subst (λ (x : Searched). Finds r start (g.K.SetRank.key_rank c.args.key) s x t) c.in-Over.is f in
     few_made 4 4 s t moved.0.own moved.0.quiet.puts moved.1 (omega arith)
 
-pub enter_absent-requires-clause-entry : goal.enter_absent-requires-clause-entry
-enter_absent-requires-clause-entry g c =
+pub enter_absent-entered-requires-clause-entry : goal.enter_absent-entered-requires-clause-entry
+enter_absent-entered-requires-clause-entry g c =
     absence_of c.args.call (g.L.Links.seat c.args.links.now c.args.p.now).agent c.agent-agent.result c.args.key c.entry_of-entry.result
     c.entry_of-entry.ensures c.agent-agent.ensures
 
-pub enter_absent-requires-clause-absent : goal.enter_absent-requires-clause-absent
-enter_absent-requires-clause-absent g c =
+pub enter_absent-entered-requires-clause-absent : goal.enter_absent-entered-requires-clause-absent
+enter_absent-entered-requires-clause-absent g c =
     let (start, s, f) = c.requires.found in
-    (start, c.in-Absent.passed, s, absent g (goal.at.enter_absent-requires-clause-absent g c).In-Absent start s f)
+    (start, c.in-Absent.passed, s, absent g (goal.at.enter_absent-entered-requires-clause-absent g c).In-Absent start s f)
 
-pub answer_present-requires-clause-present : goal.answer_present-requires-clause-present
-answer_present-requires-clause-present g c =
-    let (start, s, f) = c.requires.found in
-    (start, c.in-Present.passed, s, present g (goal.at.answer_present-requires-clause-present g c).In-Present start s f)
-
-pub returns-then-enter_absent-clause-answered : goal.returns-then-enter_absent-clause-answered
-returns-then-enter_absent-clause-answered g c = λ start s f.
-    let d = c.args.links.now in
+pub returns-in-Absent-clause-answered : goal.returns-in-Absent-clause-answered
+returns-in-Absent-clause-answered g c = λ start s f.
     let r = reading_by _ g.K.Rank.manner in
-    let found = absent g (goal.at.returns-then-enter_absent-clause-answered g c).In-Absent start s f in
-    let done = c.if-enter_absent.ensures.entered start c.in-Absent.passed s found in
-    subst (λ (e : SetEntry). Enters r e s true (g.L.Links.seat d c.enter_absent.new.p)) (c.entry_of-entry.ensures
-    ∙ ap (λ (i : ℕ). entry_by c.args.call i c.args.key false) (c.agent-agent.ensures ∙ found.behind.quiet.puts.agent)) done.0
+    let u = g.L.Links.seat c.args.links.now c.enter_absent-entered.new.p in
+    let done = c.enter_absent-entered.result in
+    let found = absent g (goal.at.returns-in-Absent-clause-answered g c).In-Absent start s f in
+    let entry = c.entry_of-entry.ensures ∙ ap (λ (i : ℕ). entry_by c.args.call i c.args.key false) (c.agent-agent.ensures ∙ found.behind.quiet.puts.agent) in
+    enters_turn r (λ yes. entry_by c.args.call s.agent c.args.key yes) s u done false _ c.answer_if.ensures
+    (subst (λ (e : SetEntry). Enters r e s done u) entry
+    (enters_any r _ s u done (c.enter_absent-entered.ensures.entered start c.in-Absent.passed s found)))
 
-pub returns-then-enter_absent-clause-few : goal.returns-then-enter_absent-clause-few
-returns-then-enter_absent-clause-few g c = λ start s f.
-    enters_few (reading_by _ g.K.Rank.manner) c.entry_of-entry.result s _ true
-    (c.if-enter_absent.ensures.entered start c.in-Absent.passed s (absent g (goal.at.returns-then-enter_absent-clause-few g c).In-Absent start s f))
+pub returns-in-Absent-clause-few : goal.returns-in-Absent-clause-few
+returns-in-Absent-clause-few g c = λ start s f.
+    enters_few (reading_by _ g.K.Rank.manner) c.entry_of-entry.result s _ c.enter_absent-entered.result
+    (c.enter_absent-entered.ensures.entered start c.in-Absent.passed s (absent g (goal.at.returns-in-Absent-clause-few g c).In-Absent start s f))
 
-pub returns-else-enter_absent-clause-answered : goal.returns-else-enter_absent-clause-answered
-returns-else-enter_absent-clause-answered g c = λ start s f.
-    (c.if-enter_absent.ensures.entered start c.in-Absent.passed s
-    (absent g (goal.at.returns-else-enter_absent-clause-answered g c).In-Absent start s f)).0
+pub returns-in-Absent-clause-taken : goal.returns-in-Absent-clause-taken
+returns-in-Absent-clause-taken g c = λ start s f call yes.
+    let told = (answers_true c.enter_absent-entered.result false _ c.answer_if.ensures yes).1 in
+    absurd cc
 
-pub returns-else-enter_absent-clause-few : goal.returns-else-enter_absent-clause-few
-returns-else-enter_absent-clause-few g c = λ start s f.
-    enters_few (reading_by _ g.K.Rank.manner) c.entry_of-entry.result s _ false
-    (c.if-enter_absent.ensures.entered start c.in-Absent.passed s (absent g (goal.at.returns-else-enter_absent-clause-few g c).In-Absent start s f))
+pub enter_present-entered-requires-clause-entry : goal.enter_present-entered-requires-clause-entry
+enter_present-entered-requires-clause-entry g c = inr (ap (λ (i : ℕ). Asked i c.args.key true) c.agent-agent.ensures)
 
-pub returns-then-answer_present-clause-answered : goal.returns-then-answer_present-clause-answered
-returns-then-answer_present-clause-answered g c = λ start s f.
-    c.if-answer_present.ensures.answered start c.in-Present.passed s
-    (present g (goal.at.returns-then-answer_present-clause-answered g c).In-Present start s f)
+pub enter_present-entered-requires-clause-present : goal.enter_present-entered-requires-clause-present
+enter_present-entered-requires-clause-present g c =
+    let (start, s, f) = c.requires.found in
+    (start, c.in-Present.passed, s, present g (goal.at.enter_present-entered-requires-clause-present g c).In-Present start s f)
 
-pub returns-then-answer_present-clause-few : goal.returns-then-answer_present-clause-few
-returns-then-answer_present-clause-few g c = λ start s f.
-    c.answer_present.ensures.few start c.in-Present.passed s (present g (goal.at.returns-then-answer_present-clause-few g c).In-Present start s f)
+pub returns-in-Ask-clause-answered : goal.returns-in-Ask-clause-answered
+returns-in-Ask-clause-answered g c = λ start s f.
+    let r = reading_by _ g.K.Rank.manner in
+    let u = g.L.Links.seat c.args.links.now c.enter_present-entered.new.p in
+    let done = c.enter_present-entered.result in
+    let found = present g (goal.at.returns-in-Ask-clause-answered g c).In-Present start s f in
+    enters_turn r (λ yes. entry_by c.args.call s.agent c.args.key yes) s u done true _ c.answer_if-in-Ask.ensures
+    (subst (λ (e : SetEntry). Enters r e s done u)
+    (entry_is c.args.call Ask c.agent-agent.result s.agent c.args.key true c.in-Ask.is (c.agent-agent.ensures ∙ found.behind.quiet.puts.agent))
+    (enters_any r _ s u done (c.enter_present-entered.ensures.entered start c.in-Present.passed s found)))
 
-pub returns-then-answer_present-clause-taken : goal.returns-then-answer_present-clause-taken
-returns-then-answer_present-clause-taken g c = λ start s f call yes.
-    c.answer_present.ensures.taken start c.in-Present.passed s
-    (present g (goal.at.returns-then-answer_present-clause-taken g c).In-Present start s f) call c.if-answer_present.true
+pub returns-in-Ask-clause-few : goal.returns-in-Ask-clause-few
+returns-in-Ask-clause-few g c = λ start s f.
+    enters_few (reading_by _ g.K.Rank.manner) (Asked c.agent-agent.result c.args.key true) s _ c.enter_present-entered.result
+    (c.enter_present-entered.ensures.entered start c.in-Present.passed s (present g (goal.at.returns-in-Ask-clause-few g c).In-Present start s f))
 
-pub returns-else-answer_present-clause-answered : goal.returns-else-answer_present-clause-answered
-returns-else-answer_present-clause-answered g c = λ start s f.
-    c.if-answer_present.ensures.answered start c.in-Present.passed s
-    (present g (goal.at.returns-else-answer_present-clause-answered g c).In-Present start s f)
+pub returns-in-Ask-clause-taken : goal.returns-in-Ask-clause-taken
+returns-in-Ask-clause-taken g c = λ start s f call yes. let is = c.in-Ask.is in cc
 
-pub returns-else-answer_present-clause-few : goal.returns-else-answer_present-clause-few
-returns-else-answer_present-clause-few g c = λ start s f.
-    c.answer_present.ensures.few start c.in-Present.passed s (present g (goal.at.returns-else-answer_present-clause-few g c).In-Present start s f)
+pub take_out-removed-requires-clause-present : goal.take_out-removed-requires-clause-present
+take_out-removed-requires-clause-present g c =
+    let (start, s, f) = c.requires.found in
+    (start, c.in-Present.passed, s, present g (goal.at.take_out-removed-requires-clause-present g c).In-Present start s f)
+
+pub returns-in-Remove-clause-answered : goal.returns-in-Remove-clause-answered
+returns-in-Remove-clause-answered g c = λ start s f.
+    let x = ordering_of (g.met.K.Rank.ordered _) in
+    let a = c.args in
+    let t = g.L.Links.seat _ a.p.now in
+    let u = g.L.Links.seat a.links.now c.take_out-removed.new.p in
+    let done = c.take_out-removed.result in
+    let entry = Removed t.agent a.key true in
+    let found = present g (goal.at.returns-in-Remove-clause-answered g c).In-Present start s f in
+    let enters = takes_enters x found (g.K.SetRank.noted entry) g.K.SetRank.unlinking entry _ done u (g.met.K.SetRank.enters _ entry)
+    (g.met.K.SetRank.enters_none _) (c.take_out-removed.ensures.removed start c.in-Present.passed s found) in
+    enters_turn x.reading (λ yes. entry_by a.call s.agent a.key yes) s u done true _ c.answer_if-in-Remove.ensures
+    (subst (λ (e : SetEntry). Enters x.reading e s done u)
+    (entry_is a.call Remove t.agent s.agent a.key true c.in-Remove.is found.behind.quiet.puts.agent) enters)
+
+pub returns-in-Remove-clause-few : goal.returns-in-Remove-clause-few
+returns-in-Remove-clause-few g c = λ start s f.
+    let a = c.args in
+    let found = present g (goal.at.returns-in-Remove-clause-few g c).In-Present start s f in
+    takes_few (ordering_of (g.met.K.Rank.ordered _)) found (g.K.SetRank.noted (Removed (g.L.Links.seat a.links.now a.p.now).agent a.key true))
+    g.K.SetRank.unlinking _ c.take_out-removed.result _ (c.take_out-removed.ensures.removed start c.in-Present.passed s found)
+
+pub returns-in-Remove-clause-taken : goal.returns-in-Remove-clause-taken
+returns-in-Remove-clause-taken g c = λ start s f call yes.
+    let a = c.args in
+    let done = c.take_out-removed.result in
+    let found = present g (goal.at.returns-in-Remove-clause-taken g c).In-Present start s f in
+    takes_found (ordering_of (g.met.K.Rank.ordered _)) found (g.K.SetRank.noted (Removed (g.L.Links.seat a.links.now a.p.now).agent a.key true))
+    g.K.SetRank.unlinking _ done _ (c.take_out-removed.ensures.removed start c.in-Present.passed s found)
+    (answers_true done true _ c.answer_if-in-Remove.ensures yes).0
+
+pub returns-in-Remove-clause-load : goal.returns-in-Remove-clause-load
+returns-in-Remove-clause-load g c = λ asks other. let is = c.in-Remove.is in cc
 
 pub returns-in-Over-clause-load : goal.returns-in-Over-clause-load
 returns-in-Over-clause-load g c = λ asks other. absurd (other c.in-Over.is)

@@ -61,8 +61,6 @@ pub returns-in-Some : goal.returns-in-Some
 returns-in-Some g c =
     let x = ordering_of (g.met.K.Rank.ordered _) in
     let at = (goal.at.returns-in-Some g c).After-note-note in
-    let may = allows g at in
-    let all = g.met.L.Links.allowed _ _ c.requires.pass in
     let e = c.add_node-linked.ensures in
     let told = sym c.turn_of.ensures in
     record {
@@ -70,12 +68,12 @@ returns-in-Some g c =
       later = e.later;
       inserted = λ a. subst (λ (y : InsertTurn). Inserts x.reading c.args.key g.K.SetRank.key_kind (λ yes. Added a.begun.agent c.args.key yes) 1 a.slots
           c.args.node a.begun y (Some c.in-Some.node) (g.L.Links.seat c.args.links.now c.add_node-linked.new.p)) told
-          (hand_inserts x a c.requires.root.1 may all c.in-Some.node c.in-Some.is (λ yes. Added a.begun.agent c.args.key yes) c.add_node-linked.result _ e.added
+          (hand_inserts x a c.requires.root.1 (allows g at) (g.met.L.Links.allowed _ _ c.requires.pass) c.in-Some.node c.in-Some.is (λ yes. Added a.begun.agent c.args.key yes) c.add_node-linked.result _ e.added
           (enters g at a.begun.agent a.finds.behind.quiet.puts.agent));
-      few = λ a. let k = in_hand x a c.requires.root.1 may all c.in-Some.node c.in-Some.is in
+      few = λ a. let k = in_hand x a c.requires.root.1 (allows g at) (g.met.L.Links.allowed _ _ c.requires.pass) c.in-Some.node c.in-Some.is in
           node_few k _ c.add_node-linked.result _ (e.added k) (e.few k);
       added = λ a many is. let (linked, same) = turn_true c.args.passed c.add_node-linked.result many (told ∙ is) in
-          let k = in_hand x a c.requires.root.1 may all c.in-Some.node c.in-Some.is in
+          let k = in_hand x a c.requires.root.1 (allows g at) (g.met.L.Links.allowed _ _ c.requires.pass) c.in-Some.node c.in-Some.is in
           node_found k _ _ many _ (note_is g at) same (e.linked k linked);
       absent = λ a is. absurd (turn_node c.args.passed c.add_node-linked.result (told ∙ is));
       lacking = λ is. absurd (turn_node c.args.passed c.add_node-linked.result (told ∙ is));
@@ -93,8 +91,6 @@ pub returns-in-Ok : goal.returns-in-Ok
 returns-in-Ok g c =
     let x = ordering_of (g.met.K.Rank.ordered _) in
     let at = (goal.at.returns-in-Ok g c).After-note-note in
-    let may = allows g at in
-    let all = g.met.L.Links.allowed _ _ c.requires.pass in
     let given = new g (goal.at.returns-in-Ok g c).In-Ok in
     let all_u = g.met.L.Links.allowed _ _ c.in-Ok.ensures.pass in
     let f = c.add_node-linked-in-Ok.ensures in
@@ -104,12 +100,12 @@ returns-in-Ok g c =
       later = goes_on _ _ _ c.in-Ok.ensures.later f.later;
       inserted = λ a. subst (λ (y : InsertTurn). Inserts x.reading c.args.key g.K.SetRank.key_kind (λ yes. Added a.begun.agent c.args.key yes) 1 a.slots
           c.args.node a.begun y (Some c.in-Ok.node) (g.L.Links.seat c.args.links.now c.add_node-linked-in-Ok.new.p)) told
-          (given_inserts x a c.requires.root.1 may all _ c.in_default.is all_u c.in-Ok.node given (λ yes. Added a.begun.agent c.args.key yes)
+          (given_inserts x a c.requires.root.1 (allows g at) (g.met.L.Links.allowed _ _ c.requires.pass) _ c.in_default.is all_u c.in-Ok.node given (λ yes. Added a.begun.agent c.args.key yes)
           c.add_node-linked-in-Ok.result _ f.added (enters g at a.begun.agent a.finds.behind.quiet.puts.agent));
-      few = λ a. let k = node_given x a c.requires.root.1 may all _ c.in_default.is all_u c.in-Ok.node given in
+      few = λ a. let k = node_given x a c.requires.root.1 (allows g at) (g.met.L.Links.allowed _ _ c.requires.pass) _ c.in_default.is all_u c.in-Ok.node given in
           node_few k _ c.add_node-linked-in-Ok.result _ (f.added k) (f.few k);
       added = λ a many is. let (linked, same) = turn_true c.args.passed c.add_node-linked-in-Ok.result many (told ∙ is) in
-          let k = node_given x a c.requires.root.1 may all _ c.in_default.is all_u c.in-Ok.node given in
+          let k = node_given x a c.requires.root.1 (allows g at) (g.met.L.Links.allowed _ _ c.requires.pass) _ c.in_default.is all_u c.in-Ok.node given in
           node_found k _ _ many _ (note_is g at) same (f.linked k linked);
       absent = λ a is. absurd (turn_node c.args.passed c.add_node-linked-in-Ok.result (told ∙ is));
       lacking = λ is. absurd (turn_node c.args.passed c.add_node-linked-in-Ok.result (told ∙ is));
@@ -136,23 +132,21 @@ pub returns-in-Err : goal.returns-in-Err
 returns-in-Err g c =
     let x = ordering_of (g.met.K.Rank.ordered _) in
     let at = (goal.at.returns-in-Err g c).After-note-note in
-    let may = allows g at in
-    let all = g.met.L.Links.allowed _ _ c.requires.pass in
     let all_u = g.met.L.Links.allowed _ _ c.in-Err.ensures.pass in
     let e = c.in-Err.ensures in
     let f = c.let_all_go.ensures in
     record {
       pass = f.pass;
       later = goes_on _ _ _ e.later f.later;
-      inserted = λ a. lacking_inserts x a c.requires.root.1 may all _ c.in_default.is all_u e.none (λ yes. Added a.begun.agent c.args.key yes) _
+      inserted = λ a. lacking_inserts x a c.requires.root.1 (allows g at) (g.met.L.Links.allowed _ _ c.requires.pass) _ c.in_default.is all_u e.none (λ yes. Added a.begun.agent c.args.key yes) _
           (f.gone a.begun.slots);
       few = λ a ids covers. omega (
         arith,
-        (lacking_sees x a c.requires.root.1 may all _ c.in_default.is all_u e.none _ (f.gone a.begun.slots)
+        (lacking_sees x a c.requires.root.1 (allows g at) (g.met.L.Links.allowed _ _ c.requires.pass) _ c.in_default.is all_u e.none _ (f.gone a.begun.slots)
             (g.met.L.Links.allowed _ _ f.pass)).1 ids covers,
       );
       added = λ a many is. cc;
-      absent = λ a is. (lacking_sees x a c.requires.root.1 may all _ c.in_default.is all_u e.none _ (f.gone a.begun.slots)
+      absent = λ a is. (lacking_sees x a c.requires.root.1 (allows g at) (g.met.L.Links.allowed _ _ c.requires.pass) _ c.in_default.is all_u e.none _ (f.gone a.begun.slots)
           (g.met.L.Links.allowed _ _ f.pass)).0;
       lacking = λ is.
           let d = c.args.links.now in

@@ -1,13 +1,10 @@
 -- The node is linked, and all other nodes are let go.
-use Rattle.std.proofs.Common.{Bool, Result, None, length, subst, [], append-nil}
-use Rattle.std.specs.Prelude.{IfErr}
-use Rattle.orc_fault.specs.declared.Spent.{Spent}
-use Rattle.orc_history.specs.Journals.{Within}
+use Rattle.std.proofs.Common.{None}
 use Rattle.orc_ordered_search.specs.Inserts.{NodeToAdd}
 use Rattle.orc_ordered_search.specs.Reading.{ordering_of}
 use Rattle.orc_ordered_search.specs.Searches.{InHand}
 use Rattle.orc_ordered_search.proofs.Adding.{links_few, links_gone, links_hand, links_on}
-use Rattle.orc_ordered_search.proofs.Marking.{within_wider}
+use Rattle.orc_ordered_search.proofs.Marking.{err_worn}
 use Rattle.orc_ordered_search.proofs.insert.add_node.Given.{Over}
 use Rattle.orc_ordered_search.proofs.insert.add_node.Goals.{After-link_node-linked}
 use Rattle.orc_ordered_search.proofs.insert.add_node.Goals as goal
@@ -53,11 +50,7 @@ returns-clause-linked g c = λ a is.
 pub returns-clause-worn : goal.returns-clause-worn
 returns-clause-worn g c = λ why is.
     let d = c.args.links.now in
-    let t = g.L.Links.seat d c.args.p.now in
-    let j = g.L.Links.journal c.args.p.now in
-    let k = g.L.Links.journal c.link_node-linked.new.p in
+    let agent = (g.L.Links.seat d c.args.p.now).agent in
     let e = c.link_node-linked.ensures in
-    let worn : Within (length j) (length k) (g.L.Links.worn d t.agent why k) = subst
-    (λ (r : Result Bool Spent). IfErr r (λ x. Within (length j) (length k) (g.L.Links.worn d t.agent x k))) is e.worn in
-    within_wider (g.L.Links.worn d t.agent why) j j k _ (λ xs more from to h. g.met.L.Links.worn_stays d t.agent why xs more from to h) ([], append-nil j)
-    c.let_all_go.ensures.later worn
+    err_worn (g.L.Links.worn d agent) _ _ _ (λ why xs more from to h. g.met.L.Links.worn_stays d agent why xs more from to h) c.let_all_go.ensures.later
+    c.link_node-linked.result why is e.worn

@@ -105,8 +105,7 @@ pub loop-p-smaller : goal.loop-p-smaller
 loop-p-smaller g c =
     let at = goal.at.loop-p-smaller g c in
     let (start, s, room, w) = c.requires.walks in
-    let i = c.loop-p.invariant in
-    let next = next_read g at.After-read-rank start s (passed g at.After-count_one-passed start s (i.walks start s room w)) in
+    let next = next_read g at.After-read-rank start s (passed g at.After-count_one-passed start s (c.loop-p.invariant.walks start s room w)) in
     omega (arith, next.1, c.is_before.ensures.yes c.loop-p-test.true)
 
 pub loop-p-preserved : goal.loop-p-preserved
