@@ -117,7 +117,7 @@ module _ {N : Type 0} (ord : Ordering N) (start : Place) (wanted value kind : â„
 
   adds_hand : InHand ord.reading slots left first right None t
   adds_hand =
-      leads_hand ord a.leads right None a.right_id 0
+      leads_hand ord (record { left_id = a.left_id; first_id = a.first_id; id = a.right_id; next_id = 0 }) a.leads right None
       (three_hands slots t.slots (hand left a.left_id) (hand first a.first_id) (hand right a.right_id) a.hands)
       (right_linked ord t right a.right_id wanted a.above) tt
 

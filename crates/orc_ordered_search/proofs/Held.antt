@@ -16,7 +16,7 @@ use Rattle.orc_heap.specs.declared.events.Place.{Place}
 use Rattle.orc_ordered_chains.specs.Chains.{FollowsOn, IsAbove, IsRun}
 use Rattle.orc_ordered_chains.proofs.Acts.{rank_linked}
 use Rattle.orc_ordered_search.specs.Reading.{Ordering}
-use Rattle.orc_ordered_search.specs.Searches.{AllGone, BeginsRun, FindsAbsent, FindsPresent, HasRoom, HoldsIfAny, InHand, IsLinkedIfAny, LeadsOver, LetsGo, NextFollows, Stops, left_place, node_of, slot_in}
+use Rattle.orc_ordered_search.specs.Searches.{AllGone, BeginsRun, FindsAbsent, FindsPresent, HandIds, HasRoom, HoldsIfAny, InHand, IsLinkedIfAny, LeadsOver, LetsGo, NextFollows, Stops, left_place, node_of, slot_in}
 use Rattle.orc_ordered_search.proofs.Quiets.{linked_on}
 
 -- what is linked isn't fresh
@@ -93,18 +93,15 @@ three_hands s t x y z k =
     hands_swap s t (x ∷ y ∷ []) o z [] c
 
 -- the left place, the run behind it, and what stands behind that
-pub leads_hand : {N : Type 0} (ord : Ordering N) {start : Place} {key left_id first_id : ℕ} {left first : Option Hold} {to : Option ℕ} {s t : Seat N}
-    {own part : List (Event N)} {slots : Slots} → LeadsOver ord.reading start key left first left_id first_id to s own t part
-    → (at next : Option Hold) (id next_id : ℕ) → Hands slots t.slots (hand left left_id ∷ hand first first_id ∷ hand at id ∷ hand next next_id ∷ [])
-    → IsLinkedIfAny ord.reading t at id → IsLinkedIfAny ord.reading t next next_id → InHand ord.reading slots left first at next t
-leads_hand ord {start} {key} {left_id} {first_id} {left} {first} {to} {s} {t} l at next id next_id hands at_linked linked = record {
-  left_id = left_id;
-  first_id = first_id;
-  id = id;
-  next_id = next_id;
+pub leads_hand : {N : Type 0} (ord : Ordering N) {start : Place} {key : ℕ} {left first : Option Hold} {to : Option ℕ} {s t : Seat N}
+    {own part : List (Event N)} {slots : Slots} (ids : HandIds) → LeadsOver ord.reading start key left first ids.left_id ids.first_id to s own t part
+    → (at next : Option Hold) → Hands slots t.slots (hand left ids.left_id ∷ hand first ids.first_id ∷ hand at ids.id ∷ hand next ids.next_id ∷ [])
+    → IsLinkedIfAny ord.reading t at ids.id → IsLinkedIfAny ord.reading t next ids.next_id → InHand ord.reading slots left first at next t
+leads_hand ord {start} {key} {left} {first} {to} {s} {t} ids l at next hands at_linked linked = record {
+  ids = ids;
   hands = hands;
-  left_linked = left_linked ord t start key left left_id l.below;
-  first_linked = first_linked ord t first first_id l.from l.over to l.begins l.run;
+  left_linked = left_linked ord t start key left ids.left_id l.below;
+  first_linked = first_linked ord t first ids.first_id l.from l.over to l.begins l.run;
   linked = at_linked;
   next_linked = linked;
 }
@@ -112,18 +109,18 @@ leads_hand ord {start} {key} {left_id} {first_id} {left} {first} {to} {s} {t} l 
 module _ {N : Type 0} (ord : Ordering N) (start : Place) (key passed : ℕ) (left first : Option Hold) (s t : Seat N) where
   pub absent_hand : (right : Option Hold) → FindsAbsent ord.reading start key passed left first right s t → InHand ord.reading s.slots left first right None t
   absent_hand right f =
-      leads_hand ord f.behind.leads right None f.right_id 0
+      leads_hand ord (record { left_id = f.left_id; first_id = f.first_id; id = f.right_id; next_id = 0 }) f.behind.leads right None
       (three_hands s.slots t.slots (hand left f.left_id) (hand first f.first_id) (hand right f.right_id) f.hands)
       (right_linked ord t right f.right_id key f.above) tt
 
   pub present_hand : (node : Hold) (next : Option Hold) → FindsPresent ord.reading start key passed left first node next s t → InHand ord.reading s.slots left first (Some node) next t
   present_hand node next f =
-      leads_hand ord f.behind.leads (Some node) next f.id f.next_id f.hands
+      leads_hand ord f.ids f.behind.leads (Some node) next f.hands
       (rank_linked ord.reading.order (heap_of ord.reading.numbers t) f.id key f.is_of.has_key) (next_linked ord t next f.id f.next_id f.follows)
 
   pub stop_hand : (at : Hold) → Stops ord.reading start key left first at s t → InHand ord.reading s.slots left first (Some at) None t
   stop_hand at w =
-      leads_hand ord w.behind.leads (Some at) None w.id 0
+      leads_hand ord (record { left_id = w.left_id; first_id = w.first_id; id = w.id; next_id = 0 }) w.behind.leads (Some at) None
       (three_hands s.slots t.slots (hand left w.left_id) (hand first w.first_id) (hand (Some at) w.id) w.hands)
       (rank_linked ord.reading.order (heap_of ord.reading.numbers t) w.id w.key w.has_key) tt
 
@@ -132,10 +129,7 @@ pub in_hand_on : {N : Type 0} (ord : Ordering N) (slots : Slots) (left first at 
     → AllAllowed ord.may [] u.seen → u.slots ≡ t.slots
     → InHand ord.reading slots left first at next t → InHand ord.reading slots left first at next u
 in_hand_on {N} ord slots left first at next t u ys p all same h = record {
-  left_id = h.left_id;
-  first_id = h.first_id;
-  id = h.id;
-  next_id = h.next_id;
+  ids = h.ids;
   hands = subst (λ (z : Slots). Hands slots z (hand left h.left_id ∷ hand first h.first_id ∷ hand at h.id ∷ hand next h.next_id ∷ [])) (sym same) h.hands;
   left_linked = linked_on ord t u ys p all left h.left_id h.left_linked;
   first_linked = linked_on ord t u ys p all first h.first_id h.first_linked;

@@ -388,10 +388,7 @@ looks_present {N} ord start wanted left first at key counted passed next s t w i
     let b = hands_swap s.slots t.slots (y ∷ []) x z (o ∷ []) a in
     record {
       own = w.own;
-      left_id = w.left_id;
-      first_id = w.first_id;
-      id = w.id;
-      next_id = w.next_id;
+      ids = w.ids;
       hands = hands_swap s.slots t.slots (y ∷ z ∷ []) x o [] b;
       behind = w.looking.behind;
       is_of = subst (λ (k : ℕ). IsOf ord.reading wanted w.id k t) is w.looking.is_of;

@@ -57,10 +57,7 @@ walk_looks {N} ord start wanted left first at key counted passed slot seen next 
         let hands = subst (λ (z : Slots). Hands s.slots z (hand None 0 ∷ hs)) (sym slots) (hands_with_none s.slots t.slots hs 0 w.hands) in
         record {
           own = w.own ++ event_of t (Look (Next w.id) (record { to = None; mark = seen.mark })) None ∷ [];
-          left_id = w.left_id;
-          first_id = w.first_id;
-          id = w.id;
-          next_id = 0;
+          ids = record { left_id = w.left_id; first_id = w.first_id; id = w.id; next_id = 0 };
           hands = hands;
           apart = (tt, w.apart);
           looking = looking_at ord start wanted left first at key counted passed seen.mark None s t u [] w p (omega arith) (tt, tt)
@@ -77,10 +74,7 @@ walk_looks {N} ord start wanted left first at key counted passed slot seen next 
         (subst (λ (i : ℕ). u.slots ≡ slice_set t.slots i (Some (record { row = h.row; id = next_id }))) (sym at_slot) slots) in
         record {
           own = w.own ++ event_of t (Look (Next w.id) one) None ∷ event_of t (Look (Next w.id) link) None ∷ [];
-          left_id = w.left_id;
-          first_id = w.first_id;
-          id = w.id;
-          next_id = next_id;
+          ids = record { left_id = w.left_id; first_id = w.first_id; id = w.id; next_id = next_id };
           hands = hands;
           apart = (λ e. omega (arith, e, at_slot, low), w.apart);
           looking = looking_at ord start wanted left first at key counted passed seen.mark (Some next_id) s t u (event_of t (Look (Next w.id) one) None ∷ []) w

@@ -61,6 +61,13 @@ abbrev pub slot_in : Option Hold → ℕ
 slot_in None = 8
 slot_in (Some h) = h.slot
 
+-- the nodes of a search: the left one, the first of the run, the one that it came to, and the next
+pub record HandIds : Type 0 where
+  pub left_id : ℕ
+  pub first_id : ℕ
+  pub id : ℕ
+  pub next_id : ℕ
+
 -- the first of the marked nodes, or else the right node
 abbrev pub first_or : Option Hold → Option Hold → Option Hold
 first_or None right = right
@@ -191,10 +198,8 @@ module _ {N : Type 0} where
   pub record LooksOn (r : Reading N) (start : Place) (wanted : ℕ) (left first : Option Hold) (at : Hold) (key : ℕ) (counted : Bool) (passed : ℕ) (mark : Bool) (next : Option Hold)
       (s t : Seat N) : Type 0 where
     pub own : List (Event N)
-    pub left_id : ℕ
-    pub first_id : ℕ
-    pub id : ℕ
-    pub next_id : ℕ
+    pub ids : HandIds
+    pub open ids use *
     pub hands : Hands s.slots t.slots (hand next next_id ∷ hand left left_id ∷ hand first first_id ∷ hand (Some at) id ∷ [])
     pub apart : IsApart 1 (hand next next_id ∷ hand left left_id ∷ hand first first_id ∷ hand (Some at) id ∷ [])
     pub looking : Looking r start wanted left first left_id first_id id key counted passed mark (node_of next next_id) s own t
@@ -245,10 +250,8 @@ module _ {N : Type 0} where
   pub record FindsPresent (r : Reading N) (start : Place) (wanted passed : ℕ) (left first : Option Hold) (node : Hold) (next : Option Hold) (s t : Seat N) : Type 0
     where
       pub own : List (Event N)
-      pub left_id : ℕ
-      pub first_id : ℕ
-      pub id : ℕ
-      pub next_id : ℕ
+      pub ids : HandIds
+      pub open ids use *
       pub hands : Hands s.slots t.slots (hand left left_id ∷ hand first first_id ∷ hand (Some node) id ∷ hand next next_id ∷ [])
       pub behind : Behind r start wanted left first left_id first_id (Some id) s own t
       pub is_of : IsOf r wanted id wanted t
@@ -295,10 +298,8 @@ module _ {N : Type 0} where
 
   -- beside what these slots held the pass has four once linked nodes in hand, as far as there are so many
   pub record InHand (r : Reading N) (slots : Slots) (left first at next : Option Hold) (t : Seat N) : Type 0 where
-    pub left_id : ℕ
-    pub first_id : ℕ
-    pub id : ℕ
-    pub next_id : ℕ
+    pub ids : HandIds
+    pub open ids use *
     pub hands : Hands slots t.slots (hand left left_id ∷ hand first first_id ∷ hand at id ∷ hand next next_id ∷ [])
     pub left_linked : IsLinkedIfAny r t left left_id
     pub first_linked : IsLinkedIfAny r t first first_id
