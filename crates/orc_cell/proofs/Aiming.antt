@@ -215,12 +215,14 @@ module _ (n : HeapNumbers) (place : Place) (s a b : Seat PairsNote) (h pair : Ho
             let k = kept_back own q l.piece l.staging in
             let value_is : value ≡ leads.value = value_read n b (id_in a.slots h) held.id leads.value value id_a part_at reads in
             record {
-              answered = k.answered;
-              fresh = k.fresh;
-              node = l.node;
-              there = pair_t own q l.piece l.staging l.node l.there;
+              kept = record {
+                answered = k.answered;
+                fresh = k.fresh;
+                node = l.node;
+                there = pair_t own q l.piece l.staging l.node l.there;
+                keeps = λ old there. l.keeps old (pair_s own q l.piece l.staging old there);
+              };
               leads = l.leads ∙ ap link_to id_b;
-              keeps = λ old there. l.keeps old (pair_s own q l.piece l.staging old there);
               has = subst (λ (v : ℕ). HasPart (heap_of n t) held.id v) (sym value_is) (part_t own q l.piece l.staging);
             }
 
@@ -252,15 +254,17 @@ staged_aimed n half s t part pair root value staged fresh k all untouched q =
     λ e. staged_not_fresh n s part root value staged untouched (fresh.fresh ∙ ap (λ (i : ℕ). Some i) (sym e)) in
     let l = aim_leaves n half (id_in s.slots pair) (id_in s.slots part) s t q k all u ne in
     record {
-      answered = record { piece = l.piece; slots = q.slots; staging = l.staging };
-      fresh = record {
-        held = subst (λ (z : Slots). Holds z pair) (sym q.slots) fresh.held;
-        fresh = q.fresh ∙ (fresh.fresh ∙ ap (λ z. Some (id_in z pair)) (sym q.slots));
+      kept = record {
+        answered = record { piece = l.piece; slots = q.slots; staging = l.staging };
+        fresh = record {
+          held = subst (λ (z : Slots). Holds z pair) (sym q.slots) fresh.held;
+          fresh = q.fresh ∙ (fresh.fresh ∙ ap (λ z. Some (id_in z pair)) (sym q.slots));
+        };
+        node = l.node;
+        there = subst (λ (z : Slots). slice_get (heap_of n t).nodes (id_in z pair) ≡ Some l.node) (sym q.slots) l.there;
+        keeps = l.keeps;
       };
-      node = l.node;
-      there = subst (λ (z : Slots). slice_get (heap_of n t).nodes (id_in z pair) ≡ Some l.node) (sym q.slots) l.there;
       leads = l.leads;
-      keeps = l.keeps;
       has = part_puts n s t _ q.puts all (id_in s.slots part) value staged.part;
     }
 

@@ -13,7 +13,7 @@ use Rattle.orc_heap.specs.Slots.{Hold, Holds, id_in}
 use Rattle.orc_heap.specs.declared.events.Event.{Event}
 use Rattle.orc_pairs_rule.specs.declared.pairs.PairsNote.{PairsNote}
 use Rattle.orc_pairs_rule.specs.PairsDiscipline.{PairsMay}
-use Rattle.orc_cell.specs.Publishes.{Aimed, AimsGiven, IsHalfReady, KeepsHalves, LeadsHalf, MakesReady, SideHeld, Staged, aim_act, given_for, given_of, half_link, other}
+use Rattle.orc_cell.specs.Publishes.{Aimed, AimsGiven, IsHalfReady, KeepsHalves, KeepsOtherHalf, LeadsHalf, MakesReady, SideHeld, Staged, aim_act, given_for, given_of, half_link, other}
 use Rattle.orc_cell.specs.Turns.{IsFinding}
 use Rattle.orc_cell.specs.declared.publish.Half.{Half}
 use Rattle.orc_cell.specs.declared.publish.Half.TheVariants.{Left, Right}
@@ -27,36 +27,27 @@ use Rattle.orc_cell.proofs.Staging.{answered_none, own_found}
 pub ready_aimed : (n : HeapNumbers) (half : Half) (s : Seat PairsNote) (h pair : Hold) (root value : ℕ) → Staged n root value h s → HoldsFresh s pair
     → LeadsHalf n half pair (id_in s.slots h) s → Aimed n half pair (id_in s.slots h) value s s
 ready_aimed n half s h pair root value staged fresh l = record {
-  answered = answered_none n 0 s;
-  fresh = fresh;
-  node = l.node;
-  there = l.there;
+  kept = record {
+    answered = answered_none n 0 s;
+    fresh = fresh;
+    node = l.node;
+    there = l.there;
+    keeps = λ old there. ap (half_link (other half)) (some_same (sym l.there ∙ there));
+  };
   leads = l.leads;
-  keeps = λ old there. ap (half_link (other half)) (some_same (sym l.there ∙ there));
   has = staged.part;
 }
 
--- the right half stays ready while the left one is aimed
-pub right_stays_ready : (n : HeapNumbers) (s a : Seat PairsNote) (pair : Hold) (id value : ℕ) (new : New) → Aimed n Left pair id value s a
-    → IsHalfReady n Right pair new s → IsHalfReady n Right pair new a
-right_stays_ready n s a pair id value (Given v h) x l = record {
+-- the other half stays ready
+pub other_stays_ready : (n : HeapNumbers) (half : Half) (s a : Seat PairsNote) (pair : Hold) (new : New) → KeepsOtherHalf n half pair s a
+    → IsHalfReady n (other half) pair new s → IsHalfReady n (other half) pair new a
+other_stays_ready n half s a pair (Given v h) x l = record {
   node = x.node;
   there = x.there;
   leads = x.keeps l.node l.there ∙ (l.leads ∙ ap (λ z. link_to (id_in z h)) (sym x.answered.slots));
 }
-right_stays_ready n s a pair id value (Zero h) x l = tt
-right_stays_ready n s a pair id value Kept x l = tt
-
--- and the left one while the right one is made ready
-pub left_stays_ready : (n : HeapNumbers) (s a : Seat PairsNote) (pair : Hold) (new side : New) → MakesReady n Right pair side s a
-    → IsHalfReady n Left pair new s → IsHalfReady n Left pair new a
-left_stays_ready n s a pair (Given v h) side x l = record {
-  node = x.node;
-  there = x.there;
-  leads = x.keeps l.node l.there ∙ (l.leads ∙ ap (λ z. link_to (id_in z h)) (sym x.answered.slots));
-}
-left_stays_ready n s a pair (Zero h) side x l = tt
-left_stays_ready n s a pair Kept side x l = tt
+other_stays_ready n half s a pair (Zero h) x l = tt
+other_stays_ready n half s a pair Kept x l = tt
 
 -- a half is made ready: it is aimed at its part
 pub given_aimed : (n : HeapNumbers) (half : Half) (s t : Seat PairsNote) (h pair : Hold) (root value : ℕ) (r : Result (Unit {0}) Spent)
@@ -66,13 +57,10 @@ pub given_aimed : (n : HeapNumbers) (half : Half) (s t : Seat PairsNote) (h pair
     → AimsGiven n half pair (Given value h) s r t
 given_aimed n half s t h pair root value (Ok done) staged fresh known all untouched ok err =
     let x = staged_aimed n half s t h pair root value staged fresh known all untouched ok in
+    let k = x.kept in
     record {
-      answered = x.answered;
-      fresh = x.fresh;
-      node = x.node;
-      there = x.there;
-      keeps = x.keeps;
-      ready = record { node = x.node; there = x.there; leads = x.leads ∙ ap (λ z. link_to (id_in z h)) (sym x.answered.slots) };
+      kept = k;
+      ready = record { node = k.node; there = k.there; leads = x.leads ∙ ap (λ z. link_to (id_in z h)) (sym k.answered.slots) };
     }
 given_aimed n half s t h pair root value (Err why) staged fresh known all untouched ok err = staged_refused n s t pair fresh all err
 
@@ -80,11 +68,13 @@ given_aimed n half s t h pair root value (Err why) staged fresh known all untouc
 pub none_given : (n : HeapNumbers) (half : Half) (s : Seat PairsNote) (pair : Hold) (new : New) → HoldsFresh s pair
     → IsUntouched s.agent (heap_of n s) (id_in s.slots pair) → IsHalfReady n half pair new s → MakesReady n half pair new s s
 none_given n half s pair new fresh u ready = record {
-  answered = answered_none n 0 s;
-  fresh = fresh;
-  node = u.node;
-  there = u.there;
-  keeps = λ old there. ap (half_link (other half)) (some_same (sym u.there ∙ there));
+  kept = record {
+    answered = answered_none n 0 s;
+    fresh = fresh;
+    node = u.node;
+    there = u.there;
+    keeps = λ old there. ap (half_link (other half)) (some_same (sym u.there ∙ there));
+  };
   ready = ready;
 }
 
@@ -120,16 +110,16 @@ keeps_none n left right pair s u = record {
 -- both halves were aimed, each that is given before
 pub aims_keep : (n : HeapNumbers) (left right : Option ℕ) (pair : Hold) (s a b : Seat PairsNote) (l r x y : ℕ) → Aimed n Left pair l x s a
     → Aimed n Right pair r y a b → (left ≢ None → a ≡ s) → (right ≢ None → b ≡ a) → KeepsHalves n left right pair s b
-aims_keep n left right pair s a b l r x y one two same_left same_right = record { node = two.node; there = two.there; stays = by_half }
+aims_keep n left right pair s a b l r x y one two same_left same_right = record { node = two.kept.node; there = two.kept.there; stays = by_half }
   where
     by_half : (half : Half) → given_for half left right ≢ None → (old : Node) → slice_get (heap_of n s).nodes (id_in s.slots pair) ≡ Some old
-        → half_link half two.node ≡ half_link half old
+        → half_link half two.kept.node ≡ half_link half old
     by_half Left some old there =
-        let at_s = subst (λ (z : Seat PairsNote). slice_get (heap_of n z).nodes (id_in z.slots pair) ≡ Some one.node) (same_left some) one.there in
-        two.keeps one.node one.there ∙ ap (λ (z : Node). z.link) (some_same (sym at_s ∙ there))
+        let at_s = subst (λ (z : Seat PairsNote). slice_get (heap_of n z).nodes (id_in z.slots pair) ≡ Some one.kept.node) (same_left some) one.kept.there in
+        two.kept.keeps one.kept.node one.kept.there ∙ ap (λ (z : Node). z.link) (some_same (sym at_s ∙ there))
     by_half Right some old there =
-        let at_a = subst (λ (z : Seat PairsNote). slice_get (heap_of n z).nodes (id_in z.slots pair) ≡ Some two.node) (same_right some) two.there in
-        ap (λ (z : Node). z.side) (some_same (sym at_a ∙ one.there)) ∙ one.keeps old there
+        let at_a = subst (λ (z : Seat PairsNote). slice_get (heap_of n z).nodes (id_in z.slots pair) ≡ Some two.kept.node) (same_right some) two.kept.there in
+        ap (λ (z : Node). z.side) (some_same (sym at_a ∙ one.kept.there)) ∙ one.kept.keeps old there
 
 -- so a half stays ready
 half_ready : (n : HeapNumbers) (half : Half) (root : ℕ) (new : New) (left right : Option ℕ) (pair : Hold) (s a : Seat PairsNote)

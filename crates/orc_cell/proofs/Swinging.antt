@@ -73,18 +73,18 @@ module _ (n : HeapNumbers) (s a b : Seat PairsNote) (pair : Hold) (l r x y : ℕ
   where
     pub own_pair : IsOwnPair (heap_of n b) b.agent (id_in b.slots pair) l r (record { left = x; right = y })
     own_pair =
-        let u = untouched (id_in b.slots pair) right.fresh.fresh in
-        let same : u.node ≡ right.node = some_same (sym u.there ∙ right.there) in
+        let u = untouched (id_in b.slots pair) right.kept.fresh.fresh in
+        let same : u.node ≡ right.kept.node = some_same (sym u.there ∙ right.kept.there) in
         record {
-          node = right.node;
-          there = right.there;
+          node = right.kept.node;
+          there = right.kept.there;
           mine = ap (λ (z : Node). z.giver) (sym same) ∙ u.mine;
           unnamed = ap (λ (z : Node). z.named) (sym same) ∙ u.unnamed;
           unlinked = ap (λ (z : Node). z.linked) (sym same) ∙ u.unlinked;
           pair = record {
-            link_is = right.keeps left.node left.there ∙ left.leads;
+            link_is = right.kept.keeps left.kept.node left.kept.there ∙ left.leads;
             side_is = right.leads;
-            left_part = part_puts n a b right.answered.piece.own right.answered.piece.puts known_b.all l x left.has;
+            left_part = part_puts n a b right.kept.answered.piece.own right.kept.answered.piece.puts known_b.all l x left.has;
             right_part = right.has;
           };
         }
@@ -96,10 +96,10 @@ module _ (n : HeapNumbers) (s a b : Seat PairsNote) (pair : Hold) (l r x y : ℕ
         publish_own n b.agent b.seen known_b.holds given_left given_right from (id_in b.slots pair) l r (record { left = x; right = y }) two own_pair follows
 
     both_aimed : Answered n 0 s [] b
-    both_aimed = Answered-trans n 0 0 s a b [] [] left.answered right.answered
+    both_aimed = Answered-trans n 0 0 s a b [] [] left.kept.answered right.kept.answered
 
     pub agents : b.agent ≡ s.agent
-    agents = right.answered.piece.puts.agent ∙ left.answered.piece.puts.agent
+    agents = right.kept.answered.piece.puts.agent ∙ left.kept.answered.piece.puts.agent
 
     module _ (t : Seat PairsNote) (from : Link) (given_left given_right : Option ℕ) (done : Bool)
         (w : SwingsPair from (id_in b.slots pair) given_left given_right x y b done t) (all_t : AllAllowed (PairsMay n) [] t.seen)
@@ -139,12 +139,12 @@ module _ (n : HeapNumbers) (s a b : Seat PairsNote) (pair : Hold) (l r x y : ℕ
             record {
               answered = whole;
               fresh = record {
-                held = subst (λ (z : Slots). Holds z pair) (sym w.slots) right.fresh.held;
-                fresh = fresh_t ∙ (right.fresh.fresh ∙ ap (λ z. Some (id_in z pair)) (sym w.slots));
+                held = subst (λ (z : Slots). Holds z pair) (sym w.slots) right.kept.fresh.held;
+                fresh = fresh_t ∙ (right.kept.fresh.fresh ∙ ap (λ z. Some (id_in z pair)) (sym w.slots));
               };
               halves = keeps_trans n given_left given_right pair s b t
                   (aims_keep n given_left given_right pair s a b l r x y left right same_left same_right)
-                  (keeps_found n given_left given_right pair b t _ m.puts known_b all_t (tt, tt) (untouched (id_in b.slots pair) right.fresh.fresh)
+                  (keeps_found n given_left given_right pair b t _ m.puts known_b all_t (tt, tt) (untouched (id_in b.slots pair) right.kept.fresh.fresh)
                   (ap (λ z. id_in z pair) w.slots));
               moved = λ at.
                   let count : others_moves s.agent whole.piece.puts.part
@@ -165,7 +165,7 @@ module _ (n : HeapNumbers) (s a b : Seat PairsNote) (pair : Hold) (l r x y : ℕ
         swung_turn same_left same_right = (λ is. was_published is, λ is. was_missed is same_left same_right)
 
 pub spent_right : (n : HeapNumbers) (s a b : Seat PairsNote) (pair : Hold) (l x : ℕ) → Aimed n Left pair l x s a → NotAimed n pair a b → PublishSpent n pair s b
-spent_right n s a b pair l x left right = record { answered = Answered-trans n 0 0 s a b [] [] left.answered right.answered; fresh = right.fresh }
+spent_right n s a b pair l x left right = record { answered = Answered-trans n 0 0 s a b [] [] left.kept.answered right.answered; fresh = right.fresh }
 
 -- a first pair
 
@@ -201,8 +201,8 @@ follows_pair : (n : HeapNumbers) (s a b : Seat PairsNote) (pair : Hold) (left ri
     → IsNewPart (heap_of n s) (Next old) left l x → IsNewPart (heap_of n a) (Side old) right r y
     → MayFollow (heap_of n b) (given_of left) (given_of right) (link_to old) l r (record { left = x; right = y })
 follows_pair n s a b pair left right old l r x y two (l0, r0, was, has) one second all_a all_b is_left is_right =
-    let to_a = one.answered.piece in
-    let to_b = second.answered.piece in
+    let to_a = one.kept.answered.piece in
+    let to_b = second.kept.answered.piece in
     let in_a = pair_puts n s a to_a.own to_a.puts all_a old l0 r0 was has in
     let in_b = pair_puts n a b to_b.own to_b.puts all_b old l0 r0 was in_a in
     let x_has = part_puts n a b to_b.own to_b.puts all_b l x one.has in
@@ -228,10 +228,10 @@ pub follows_from : (n : HeapNumbers) (s a b : Seat PairsNote) (pair : Hold) (fro
 follows_from n s a b pair (WantNull false) left right l r x y two f one second all_a all_b is_left is_right =
     follows_null (heap_of n b) left right l r x y is_left is_right
 follows_from n s a b pair (WantNode h false) left right l r x y two f one second all_a all_b is_left is_right =
-    let place = subst (λ (z : Slots). IsNewPart (heap_of n a) (Side (id_in z h.now)) right r y) one.answered.slots is_right in
+    let place = subst (λ (z : Slots). IsNewPart (heap_of n a) (Side (id_in z h.now)) right r y) one.kept.answered.slots is_right in
     let at_s = follows_pair n s a b pair left right (id_in s.slots h.now) l r x y two f.1 one second all_a all_b is_left place in
     subst (λ (z : Slots). MayFollow (heap_of n b) (given_of left) (given_of right) (link_to (id_in z h.now)) l r (record { left = x; right = y }))
-    (sym (second.answered.slots ∙ one.answered.slots)) at_s
+    (sym (second.kept.answered.slots ∙ one.kept.answered.slots)) at_s
 follows_from n s a b pair (WantNull true) left right l r x y two f one second all_a all_b is_left is_right = absurd f
 follows_from n s a b pair (WantNode h true) left right l r x y two f one second all_a all_b is_left is_right = absurd f
 

@@ -107,14 +107,18 @@ abbrev pub HasStaged : New → Type 0
 HasStaged Kept = ⊥
 HasStaged new = Unit {0}
 
--- one half of the new pair, which is fresh, leads to this part, and the other where it led
-pub record Aimed (n : HeapNumbers) (half : Half) (pair : Hold) (id value : ℕ) (s t : Seat PairsNote) : Type 0 where
+-- one half of the fresh pair may have been aimed, and the other leads where it led
+pub record KeepsOtherHalf (n : HeapNumbers) (half : Half) (pair : Hold) (s t : Seat PairsNote) : Type 0 where
   pub answered : Answered n 0 s [] t
   pub fresh : HoldsFresh t pair
   pub node : Node
   pub there : slice_get (heap_of n t).nodes (id_in t.slots pair) ≡ Some node
-  pub leads : half_link half node ≡ link_to id
   pub keeps : (old : Node) → slice_get (heap_of n s).nodes (id_in s.slots pair) ≡ Some old → half_link (other half) node ≡ half_link (other half) old
+
+-- it leads to this part
+pub record Aimed (n : HeapNumbers) (half : Half) (pair : Hold) (id value : ℕ) (s t : Seat PairsNote) : Type 0 where
+  pub kept : KeepsOtherHalf n half pair s t
+  pub leads : half_link half kept.node ≡ link_to id
   pub has : HasPart (heap_of n t) id value
 
 -- nothing was aimed
@@ -141,11 +145,7 @@ IsHalfReady n half pair Kept s = Unit {0}
 
 -- one half was aimed at the part, if that is given, and the other leads where it led
 pub record MakesReady (n : HeapNumbers) (half : Half) (pair : Hold) (new : New) (s t : Seat PairsNote) : Type 0 where
-  pub answered : Answered n 0 s [] t
-  pub fresh : HoldsFresh t pair
-  pub node : Node
-  pub there : slice_get (heap_of n t).nodes (id_in t.slots pair) ≡ Some node
-  pub keeps : (old : Node) → slice_get (heap_of n s).nodes (id_in s.slots pair) ≡ Some old → half_link (other half) node ≡ half_link (other half) old
+  pub kept : KeepsOtherHalf n half pair s t
   pub ready : IsHalfReady n half pair new t
 
 abbrev pub AimsGiven : HeapNumbers → Half → Hold → New → Seat PairsNote → Result (Unit {0}) Spent → Seat PairsNote → Type 0

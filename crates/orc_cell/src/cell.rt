@@ -14,7 +14,7 @@ ghost use Rattle.orc_cell.specs.CellCalls.{Enters, EntersNone, FindsWorn, GivesA
 ghost use Rattle.orc_cell.specs.Turns.{IsCellDomain};
 ghost use Rattle.orc_cell.specs.declared.refused.CellRefused.{CellRefused};
 
-use crate::new_parts::{stage, unstage};
+use crate::new_parts::{Staging, stage, unstage};
 use crate::read::read_turns;
 use crate::refused::CellRefused;
 use crate::with_pair::publish_parts;
@@ -142,7 +142,11 @@ impl<L: Links<Rule = Pairs>> Cell<L> {
         ensures gives { GivesAtMost L.Links self.now.links 1 p.old p.new }
     {
         let roots = staging_roots(self.links.agent(p));
-        match stage(&self.links, p, 1, roots.0, left) {
+        let at = Staging {
+            slot: 1,
+            root: roots.0,
+        };
+        match stage(&self.links, p, at, left) {
             Ok(part) => Some(part),
             Err(_) => None,
         }

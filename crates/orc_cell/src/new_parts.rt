@@ -21,6 +21,13 @@ use orc_fault::NoNode;
 use orc_heap::{At, Held, Links, Want};
 use orc_pairs_rule::{Pairs, PairsNote};
 
+/// Where a new part is staged: in a slot that holds it, by a root that names it.
+#[derive(Clone, Copy)]
+pub struct Staging {
+    pub slot: u32,
+    pub root: u32,
+}
+
 // Moves a staging root, which its own agent alone moves.
 fn move_root<L: Links<Rule = Pairs>>(
     links: &L,
@@ -58,29 +65,28 @@ fn move_root<L: Links<Rule = Pairs>>(
 pub(crate) fn stage<L: Links<Rule = Pairs>>(
     links: &L,
     p: &mut L::Pass,
-    slot: u32,
-    root: u32,
+    at: Staging,
     value: u64,
 ) -> Result<Held, NoNode>
     requires pass { L.belongs links.now p.old }
-    requires there { root < (L.numbers links.now).roots }
-    requires staging { IsStaging (L.seat links.now p.old).agent root }
-    requires empty { shown (heap_of (L.numbers links.now) (L.seat links.now p.old)) (Place.Root root) ≡ Some null }
-    requires slot { IsFree (L.seat links.now p.old).slots slot }
+    requires there { at.root < (L.numbers links.now).roots }
+    requires staging { IsStaging (L.seat links.now p.old).agent at.root }
+    requires empty { shown (heap_of (L.numbers links.now) (L.seat links.now p.old)) (Place.Root at.root) ≡ Some null }
+    requires slot { IsFree (L.seat links.now p.old).slots at.slot }
     requires no_fresh { (L.seat links.now p.old).fresh ≡ None }
     ensures pass { L.belongs links.now p.new }
     ensures later { IsPrefix (L.journal p.old) (L.journal p.new) }
-    ensures staged { IfOk result (λ h. Stages (L.numbers links.now) slot root value (L.seat links.now p.old) h (L.seat links.now p.new)) }
+    ensures staged { IfOk result (λ h. Stages (L.numbers links.now) at.slot at.root value (L.seat links.now p.old) h (L.seat links.now p.new)) }
     ensures none { IfErr result (λ e. Only [] (L.seat links.now p.old) (L.seat links.now p.new)) }
     ensures lacking { IfErr result (λ e. Within (length (L.journal p.old)) (length (L.journal p.new))
         (L.lacking links.now (L.seat links.now p.old).agent (L.journal p.new))) }
 {
-    match links.give(p, slot, value, 0) {
+    match links.give(p, at.slot, value, 0) {
         Ok(part) => {
             move_root(
                 links,
                 p,
-                root,
+                at.root,
                 &Want::Null(false),
                 &Want::Node(&part, false),
                 PairsNote::Stage,
@@ -118,34 +124,33 @@ pub(crate) fn unstage<L: Links<Rule = Pairs>>(links: &L, p: &mut L::Pass, root: 
 pub(crate) fn ready<L: Links<Rule = Pairs>>(
     links: &L,
     p: &mut L::Pass,
-    slot: u32,
-    root: u32,
+    at: Staging,
     given: Option<u64>,
     empty: bool,
 ) -> Result<New, NoNode>
     requires pass { L.belongs links.now p.old }
-    requires there { root < (L.numbers links.now).roots }
-    requires staging { IsStaging (L.seat links.now p.old).agent root }
-    requires null { shown (heap_of (L.numbers links.now) (L.seat links.now p.old)) (Place.Root root) ≡ Some null }
-    requires slot { IsFree (L.seat links.now p.old).slots slot }
+    requires there { at.root < (L.numbers links.now).roots }
+    requires staging { IsStaging (L.seat links.now p.old).agent at.root }
+    requires null { shown (heap_of (L.numbers links.now) (L.seat links.now p.old)) (Place.Root at.root) ≡ Some null }
+    requires slot { IsFree (L.seat links.now p.old).slots at.slot }
     requires no_fresh { (L.seat links.now p.old).fresh ≡ None }
     requires published { given ≡ None → empty ≡ false → IsPublished (heap_of (L.numbers links.now) (L.seat links.now p.old)) }
     ensures pass { L.belongs links.now p.new }
     ensures later { IsPrefix (L.journal p.old) (L.journal p.new) }
-    ensures ready { IfOk result (λ new. Readies (L.numbers links.now) slot root (L.seat links.now p.old) new (L.seat links.now p.new)) }
+    ensures ready { IfOk result (λ new. Readies (L.numbers links.now) at.slot at.root (L.seat links.now p.old) new (L.seat links.now p.new)) }
     ensures given { IfOk result (λ new. given_of new ≡ given) }
     ensures none { IfErr result (λ e. Only [] (L.seat links.now p.old) (L.seat links.now p.new)) }
     ensures lacking { IfErr result (λ e. Within (length (L.journal p.old)) (length (L.journal p.new))
         (L.lacking links.now (L.seat links.now p.old).agent (L.journal p.new))) }
 {
     match given {
-        Some(value) => match stage(links, p, slot, root, value) {
+        Some(value) => match stage(links, p, at, value) {
             Ok(part) => Ok(New::Given(value, part)),
             Err(none) => Err(none),
         },
         None => {
             if empty {
-                match stage(links, p, slot, root, 0) {
+                match stage(links, p, at, 0) {
                     Ok(part) => Ok(New::Zero(part)),
                     Err(none) => Err(none),
                 }

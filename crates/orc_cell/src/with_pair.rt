@@ -15,7 +15,7 @@ ghost use Rattle.orc_cell.specs.Turns.{FindsOnly, IsCellDomain};
 ghost use Rattle.orc_cell.specs.declared.publish.Half.{Half};
 ghost use Rattle.orc_cell.specs.declared.refused.CellRefused.{CellRefused};
 
-use crate::new_parts::{let_go, ready};
+use crate::new_parts::{Staging, let_go, ready};
 use crate::publish::{New, PublishTurn, publish_given};
 use crate::read::PAIR;
 use crate::refused::CellRefused;
@@ -79,7 +79,7 @@ fn publish_right<L: Links<Rule = Pairs>>(
     ensures answered { PublishAnswers (L.numbers links.now) 2 turns (given_of left.now) right.0 (L.seat links.now p.old) result (L.seat links.now p.new) }
     ensures refused { IfErr result (λ why. CausedWithin L.Links links.now p.old p.new why) }
 {
-    let part = match ready(links, p, 2, root, right.0, right.1) {
+    let part = match ready(links, p, Staging { slot: 2, root }, right.0, right.1) {
         Ok(part) => part,
         Err(_) => return Err(CellRefused::NoNode),
     };
@@ -113,7 +113,11 @@ pub(crate) fn publish_both<L: Links<Rule = Pairs>>(
     ensures answered { PublishAnswers (L.numbers links.now) 3 turns left.0 right.0 (L.seat links.now p.old) result (L.seat links.now p.new) }
     ensures refused { IfErr result (λ why. CausedWithin L.Links links.now p.old p.new why) }
 {
-    let part = match ready(links, p, 1, roots.0, left.0, left.1) {
+    let at = Staging {
+        slot: 1,
+        root: roots.0,
+    };
+    let part = match ready(links, p, at, left.0, left.1) {
         Ok(part) => part,
         Err(_) => return Err(CellRefused::NoNode),
     };

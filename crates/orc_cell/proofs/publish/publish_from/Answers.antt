@@ -4,8 +4,9 @@ use Rattle.orc_heap.specs.Seats.{link_in}
 use Rattle.orc_heap.specs.Slots.{Slots, id_in}
 use Rattle.orc_heap.specs.declared.events.Link.{Link}
 use Rattle.orc_cell.specs.Publishes.{PublishDone, PublishMissed, SwingsPair, given_of}
+use Rattle.orc_cell.specs.declared.publish.Half.TheVariants.{Left}
 use Rattle.orc_cell.proofs.Pieces.{pass_known}
-use Rattle.orc_cell.proofs.Readying.{right_stays_ready}
+use Rattle.orc_cell.proofs.Readying.{other_stays_ready}
 use Rattle.orc_cell.proofs.Swinging.{follows_from, follows_held, follows_kept, may_publish, right_kept, spent_right, swung_turn}
 use Rattle.orc_cell.proofs.publish.publish_from.Given.{Over}
 use Rattle.orc_cell.proofs.publish.publish_from.Goals.{After-swing_pair}
@@ -19,17 +20,17 @@ aim_part-requires-clause-follows g c = c.requires.follows.0
 
 pub aim_part-requires-2-clause-ready : goal.aim_part-requires-2-clause-ready
 aim_part-requires-2-clause-ready g c =
-    right_stays_ready _ _ _ c.args.pair.now _ _ c.args.right.now c.in-Ok.ensures.aimed.2 c.requires.ready.1
+    other_stays_ready _ Left _ _ c.args.pair.now c.args.right.now c.in-Ok.ensures.aimed.2.kept c.requires.ready.1
 
 pub aim_part-requires-2-clause-new : goal.aim_part-requires-2-clause-new
 aim_part-requires-2-clause-new g c =
     let e = c.in-Ok.ensures in
-    right_kept _ _ _ c.args.right.now [] e.aimed.2.answered (g.met.L.Links.allowed _ _ e.pass) c.requires.right
+    right_kept _ _ _ c.args.right.now [] e.aimed.2.kept.answered (g.met.L.Links.allowed _ _ e.pass) c.requires.right
 
 pub aim_part-requires-2-clause-follows : goal.aim_part-requires-2-clause-follows
 aim_part-requires-2-clause-follows g c =
     let e = c.in-Ok.ensures in
-    follows_kept _ _ _ c.args.from.now c.args.right.now [] e.aimed.2.answered (g.met.L.Links.allowed _ _ e.pass) c.requires.follows.1
+    follows_kept _ _ _ c.args.from.now c.args.right.now [] e.aimed.2.kept.answered (g.met.L.Links.allowed _ _ e.pass) c.requires.follows.1
 
 pub returns-in-Err-aim_part-clause-published : goal.returns-in-Err-aim_part-clause-published
 returns-in-Err-aim_part-clause-published g c =
@@ -39,9 +40,9 @@ pub swing_pair-requires-clause-from : goal.swing_pair-requires-clause-from
 swing_pair-requires-clause-from g c =
     let e = c.in-Ok.ensures in
     let f = c.in-Ok-aim_part.ensures in
-    let one = follows_kept _ _ _ c.args.from.now c.args.right.now [] e.aimed.2.answered (g.met.L.Links.allowed _ _ e.pass) c.requires.follows.1 in
+    let one = follows_kept _ _ _ c.args.from.now c.args.right.now [] e.aimed.2.kept.answered (g.met.L.Links.allowed _ _ e.pass) c.requires.follows.1 in
     follows_held _ _ c.args.from.now c.args.right.now
-    (follows_kept _ _ _ c.args.from.now c.args.right.now [] f.aimed.2.answered (g.met.L.Links.allowed _ _ f.pass) one)
+    (follows_kept _ _ _ c.args.from.now c.args.right.now [] f.aimed.2.kept.answered (g.met.L.Links.allowed _ _ f.pass) one)
 
 pub swing_pair-requires-clause-allowed : goal.swing_pair-requires-clause-allowed
 swing_pair-requires-clause-allowed g c =
@@ -72,7 +73,7 @@ came g c =
     let left = c.in-Ok.ensures in
     let right = c.in-Ok-aim_part.ensures in
     let known_b = pass_known g.L.Links g.met.L.Links.obeys g.met.L.Links.allowed d c.aim_part-2.new.p right.pass in
-    let link = ap (λ (z : Slots). link_in z c.args.from.now) (right.aimed.2.answered.slots ∙ left.aimed.2.answered.slots) in
+    let link = ap (λ (z : Slots). link_in z c.args.from.now) (right.aimed.2.kept.answered.slots ∙ left.aimed.2.kept.answered.slots) in
     let swung = subst (λ (z : Link). SwingsPair z (id_in b.slots c.args.pair.now) (given_of c.args.left.now) (given_of c.args.right.now) c.in-Ok.x
     c.in-Ok-aim_part.y b c.swing_pair.result t) link c.swing_pair.ensures.swung in
     swung_turn _ _ _ b c.args.pair.now left.aimed.0 right.aimed.0 c.in-Ok.x c.in-Ok-aim_part.y left.aimed.2 right.aimed.2 known_b
