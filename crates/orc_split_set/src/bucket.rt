@@ -9,7 +9,7 @@ ghost use Rattle.orc_heap.specs.declared.events.Event.{Event};
 ghost use Rattle.orc_heap.specs.declared.events.Place.{Place};
 ghost use Rattle.orc_history.specs.Journals.{Within};
 ghost use Rattle.orc_ordered_search.specs.Inserts.{HasRoomFor};
-ghost use Rattle.orc_ordered_search.specs.Searches.{FindsAbsent, FindsPresent, Quiet};
+ghost use Rattle.orc_ordered_search.specs.Searches.{FindsAbsent, Quiet};
 ghost use Rattle.orc_split_rule.specs.SplitDiscipline.{IsDummy, IsSize, greatest};
 ghost use Rattle.orc_split_rule.specs.SplitOrder.{dummy_place};
 ghost use Rattle.orc_split_rule.specs.declared.split.SplitNote.{SplitNote};
@@ -17,7 +17,7 @@ ghost use Rattle.orc_heap.specs.Allowed.{events_by};
 ghost use Rattle.orc_heap.specs.Journals.{run_heap};
 ghost use Rattle.orc_split_set.specs.Crowds.{seat_after};
 ghost use Rattle.orc_split_set.specs.Looks.{HasStart, LoadsFew, bucket_now, root_loads};
-ghost use Rattle.orc_split_set.specs.Rootings.{Anchors, AnchorsAndGoes, HasNewDummy, Prepares, Roots, rooted_by};
+ghost use Rattle.orc_split_set.specs.Rootings.{Anchors, AnchorsAndGoes, Prepares, Roots, rooted_by};
 ghost use Rattle.orc_split_set.specs.SetCalls.{NewTells, PartTells};
 ghost use Rattle.orc_split_set.specs.SplitSearches.{BeginsAt, split_reading};
 
@@ -101,65 +101,6 @@ fn anchor_and_go<L: Links<Rule = Split>>(
     rooted_of(anchored)
 }
 
-// A search found the bucket's dummy: lets the bucket's root name it.
-fn anchor_found<L: Links<Rule = Split>>(
-    links: &L,
-    p: &mut L::Pass,
-    bucket: u32,
-    left: Option<Held>,
-    first: Option<Held>,
-    dummy: Held,
-    next: Option<Held>,
-) -> Rooted
-    requires pass { L.belongs links.now p.old }
-    requires bucket { (1 ≤ bucket) × (bucket < greatest (L.numbers links.now)) }
-    requires present { (start : Place) × (passed : ℕ) × (s : Seat SplitNote)
-        × FindsPresent (split_reading (L.numbers links.now)) start (dummy_place bucket) passed left first dummy next s (L.seat links.now p.old) }
-    ensures pass { L.belongs links.now p.new }
-    ensures later { IsPrefix (L.journal p.old) (L.journal p.new) }
-    ensures rooted { (start : Place) (passed : ℕ) (s : Seat SplitNote) → s.fresh ≡ None
-        → FindsPresent (split_reading (L.numbers links.now)) start (dummy_place bucket) passed left first dummy next s (L.seat links.now p.old)
-        → Roots (L.numbers links.now) bucket s result (L.seat links.now p.new) }
-    ensures told { NewTells L.Links links.now result p.old p.new }
-{
-    let anchored = anchor(links, p, bucket, &dummy);
-    let_all_go::<SplitPlace, L>(links, p, left, first, Some(dummy), next);
-    rooted_of(anchored)
-}
-
-// Links the new dummy where a search found its place, and lets the bucket's root name it.
-fn link_dummy<L: Links<Rule = Split>>(
-    links: &L,
-    p: &mut L::Pass,
-    bucket: u32,
-    left: Option<Held>,
-    first: Option<Held>,
-    right: Option<Held>,
-    dummy: Held,
-) -> Rooted
-    requires pass { L.belongs links.now p.old }
-    requires bucket { (1 ≤ bucket) × (bucket < greatest (L.numbers links.now)) }
-    requires to_link { (s : Seat SplitNote) × HasNewDummy (L.numbers links.now) bucket left first right dummy s (L.seat links.now p.old) }
-    ensures pass { L.belongs links.now p.new }
-    ensures later { IsPrefix (L.journal p.old) (L.journal p.new) }
-    ensures rooted { (s : Seat SplitNote) → HasNewDummy (L.numbers links.now) bucket left first right dummy s (L.seat links.now p.old)
-        → Roots (L.numbers links.now) bucket s result (L.seat links.now p.new) }
-    ensures told { NewTells L.Links links.now result p.old p.new }
-{
-    let note = SplitNote::Bucket;
-    match add_node::<SplitPlace, L>(links, p, 0, note, left, first, right, &dummy) {
-        Ok(true) => anchor_and_go(links, p, bucket, dummy),
-        Ok(false) => {
-            links.release(p, dummy);
-            Rooted::Moved
-        }
-        Err(spent) => {
-            links.release(p, dummy);
-            Rooted::Spent(spent)
-        }
-    }
-}
-
 // A search found the place of the bucket's dummy, which isn't there: links one, and lets the bucket's root name it.
 fn add_dummy<L: Links<Rule = Split>>(
     links: &L,
@@ -181,7 +122,20 @@ fn add_dummy<L: Links<Rule = Split>>(
     ensures told { NewTells L.Links links.now result p.old p.new }
 {
     match links.give(p, 1, u64::from(bucket), 0) {
-        Ok(dummy) => link_dummy(links, p, bucket, left, first, right, dummy),
+        Ok(dummy) => {
+            let note = SplitNote::Bucket;
+            match add_node::<SplitPlace, L>(links, p, 0, note, left, first, right, &dummy) {
+                Ok(true) => anchor_and_go(links, p, bucket, dummy),
+                Ok(false) => {
+                    links.release(p, dummy);
+                    Rooted::Moved
+                }
+                Err(spent) => {
+                    links.release(p, dummy);
+                    Rooted::Spent(spent)
+                }
+            }
+        }
         Err(_) => {
             let_all_go::<SplitPlace, L>(links, p, left, first, right, None);
             Rooted::NoNode
@@ -222,7 +176,11 @@ fn root_from<L: Links<Rule = Split>>(
             node,
             next,
             passed: _,
-        } => anchor_found(links, p, bucket, left, first, node, next),
+        } => {
+            let anchored = anchor(links, p, bucket, &node);
+            let_all_go::<SplitPlace, L>(links, p, left, first, Some(node), next);
+            rooted_of(anchored)
+        }
     }
 }
 

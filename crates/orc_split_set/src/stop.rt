@@ -1,65 +1,20 @@
 //! A call that stops between the dummy of a bucket and the root that is to name it.
 
-ghost use Rattle.std.specs.Prelude.{◌≡◌, ◌<◌, ◌≤◌, None, length};
+ghost use Rattle.std.specs.Prelude.{◌≡◌, ◌<◌, ◌≤◌};
 ghost use mathlib.Core.List.{IsPrefix};
 ghost use Rattle.orc_fault.specs.declared.Spent.{Spent};
-ghost use Rattle.orc_heap.specs.Seats.{IsIdle, Seat};
-ghost use Rattle.orc_heap.specs.declared.events.Place.{Place};
-ghost use Rattle.orc_history.specs.Journals.{Within};
-ghost use Rattle.orc_ordered_search.specs.Inserts.{HasRoomFor};
-ghost use Rattle.orc_ordered_search.specs.Searches.{FindsAbsent};
+ghost use Rattle.orc_heap.specs.Seats.{IsIdle};
 ghost use Rattle.orc_ordered_search.specs.declared.turn.InsertTurn.{InsertTurn};
 ghost use Rattle.orc_split_rule.specs.SplitDiscipline.{greatest};
-ghost use Rattle.orc_split_rule.specs.SplitOrder.{dummy_place};
-ghost use Rattle.orc_split_rule.specs.declared.split.SplitNote.{SplitNote};
 ghost use Rattle.orc_split_set.specs.SetCalls.{FindsWorn, LacksRow};
-ghost use Rattle.orc_split_set.specs.SplitSearches.{split_reading};
 ghost use Rattle.orc_split_set.specs.Stops.{StopsUnnamed, linked_by};
 
 use crate::node::NewNode;
 use crate::order::SplitPlace;
 use crate::search::search_for;
-use orc_heap::{Held, Links};
+use orc_heap::Links;
 use orc_ordered_search::{InsertTurn, Searched, add_node, let_all_go, turn_of};
 use orc_split_rule::{Split, SplitNote};
-
-// Links a new dummy where a search found its place, and lets it go.
-fn add_and_stop<L: Links<Rule = Split>>(
-    links: &L,
-    p: &mut L::Pass,
-    bucket: u32,
-    left: Option<Held>,
-    first: Option<Held>,
-    right: Option<Held>,
-    passed: u32,
-) -> InsertTurn
-    requires pass { L.belongs links.now p.old }
-    requires bucket { (1 ≤ bucket) × (bucket < greatest (L.numbers links.now)) }
-    requires absent { (start : Place) × (s : Seat SplitNote) × HasRoomFor s.slots × (s.fresh ≡ None)
-        × FindsAbsent (split_reading (L.numbers links.now)) start (dummy_place bucket) passed left first right s (L.seat links.now p.old) }
-    ensures pass { L.belongs links.now p.new }
-    ensures later { IsPrefix (L.journal p.old) (L.journal p.new) }
-    ensures stopped { (start : Place) (s : Seat SplitNote) → HasRoomFor s.slots → s.fresh ≡ None
-        → FindsAbsent (split_reading (L.numbers links.now)) start (dummy_place bucket) passed left first right s (L.seat links.now p.old)
-        → StopsUnnamed (L.numbers links.now) bucket s result (L.seat links.now p.new) }
-    ensures lacking { result ≡ InsertTurn.NoNode → Within (length (L.journal p.old)) (length (L.journal p.new))
-        (L.lacking links.now (L.seat links.now p.old).agent (L.journal p.new)) }
-    ensures worn { (why : Spent) → result ≡ InsertTurn.Spent why → Within (length (L.journal p.old)) (length (L.journal p.new))
-        (L.worn links.now (L.seat links.now p.old).agent why (L.journal p.new)) }
-{
-    match links.give(p, 1, u64::from(bucket), 0) {
-        Ok(dummy) => {
-            let note = SplitNote::Bucket;
-            let linked = add_node::<SplitPlace, L>(links, p, 0, note, left, first, right, &dummy);
-            links.release(p, dummy);
-            turn_of(passed, linked)
-        }
-        Err(_) => {
-            let_all_go::<SplitPlace, L>(links, p, left, first, right, None);
-            InsertTurn::NoNode
-        }
-    }
-}
 
 // Links the dummy of a bucket that has none, in one turn, and leaves the bucket's root as it was.
 pub(crate) fn stop_a_bucket<L: Links<Rule = Split>>(
@@ -83,7 +38,20 @@ pub(crate) fn stop_a_bucket<L: Links<Rule = Split>>(
             first,
             right,
             passed,
-        } => add_and_stop(links, p, bucket, left, first, right, passed),
+        } => match links.give(p, 1, u64::from(bucket), 0) {
+            Ok(dummy) => {
+                let note = SplitNote::Bucket;
+                let linked = add_node::<SplitPlace, L>(
+                    links, p, 0, note, left, first, right, &dummy,
+                );
+                links.release(p, dummy);
+                turn_of(passed, linked)
+            }
+            Err(_) => {
+                let_all_go::<SplitPlace, L>(links, p, left, first, right, None);
+                InsertTurn::NoNode
+            }
+        },
         Searched::Present {
             left,
             first,

@@ -1,11 +1,46 @@
--- With a new node, or without one.
-use Rattle.std.proofs.Common.{[], append-nil, ◌∙◌}
+-- With a new node, by what came of it, or without one.
+use Rattle.std.proofs.Common.{Bool, Err, Ok, Some, [], ap, append-nil, false, refl, subst, sym, true, ℕ, ◌∙◌}
+use Rattle.orc_heap.proofs.Pieces.{goes_on}
+use Rattle.orc_heap.specs.Seats.{Seat, heap_of}
+use Rattle.orc_heap.specs.declared.events.Place.{Place}
 use Rattle.orc_ordered_search.proofs.Adding.{absent_hand_on, give_free}
+use Rattle.orc_ordered_search.proofs.Held.{release_goes}
+use Rattle.orc_ordered_search.proofs.Inserting.{seen_holds}
+use Rattle.orc_ordered_search.specs.Inserts.{AddsNode, HasRoomFor, slots_with}
+use Rattle.orc_ordered_search.specs.Searches.{FindsAbsent}
+use Rattle.orc_split_rule.specs.SplitDiscipline.{IsDummy}
 use Rattle.orc_split_rule.specs.SplitOrder.{dummy_place}
+use Rattle.orc_split_rule.specs.declared.split.SplitNote.{SplitNote}
+use Rattle.orc_split_set.specs.Rootings.{HasNewDummy}
+use Rattle.orc_split_set.specs.SplitSearches.{split_reading}
+use Rattle.orc_split_set.specs.declared.bucket.Rooted.TheVariants.{Spent}
+use Rattle.orc_split_set.proofs.Allowing.{dummy_added, dummy_to_add}
 use Rattle.orc_split_set.proofs.Ordered.{split_ordering}
-use Rattle.orc_split_set.proofs.Rooting.{has_dummy, no_dummy}
+use Rattle.orc_split_set.proofs.Rooting.{added_roots, dummy_held, has_dummy, missed_roots, no_dummy, refused_roots}
+use Rattle.orc_split_set.proofs.Stopping.{linked_stands, turn_held}
 use Rattle.orc_split_set.proofs.Telling.{told_refused, told_wider}
+use Rattle.orc_split_set.proofs.bucket.add_dummy.Given.{Over}
+use Rattle.orc_split_set.proofs.bucket.add_dummy.Goals.{In-Ok, In-Ok-true}
 use Rattle.orc_split_set.proofs.bucket.add_dummy.Goals as goal
+
+-- a dummy was given
+new_dummy : (g : Over) (c : In-Ok g) → let d = c.args.links.now in let n = g.L.Links.numbers d in let a = c.args in
+    (start : Place) (passed : ℕ) (s : Seat SplitNote) → HasRoomFor s.slots
+    → FindsAbsent (split_reading n) start (dummy_place a.bucket) passed a.left a.first a.right s (g.L.Links.seat d a.p.now)
+    → HasNewDummy n a.bucket a.left a.first a.right c.in-Ok.dummy s (g.L.Links.seat d c.give.new.p)
+new_dummy g c = λ start passed s room f.
+    let a = c.args in
+    let e = c.in-Ok.ensures in
+    has_dummy _ a.bucket start passed a.left a.first a.right s _ _ f room c.in-Ok.dummy _ c.from.ensures e.given (g.met.L.Links.allowed _ _ e.pass)
+
+-- and linked
+linked : (g : Over) (c : In-Ok-true g) → let d = c.args.links.now in let n = g.L.Links.numbers d in let a = c.args in let dummy = c.in-Ok.dummy in
+    (s : Seat SplitNote) (w : HasNewDummy n a.bucket a.left a.first a.right dummy s (g.L.Links.seat d c.give.new.p))
+    → AddsNode (split_reading n) a.bucket 0 [] dummy w.id 1 (slots_with s.slots (Some dummy) w.id) s (Ok true) (g.L.Links.seat d c.add_node.new.p)
+linked g c = λ s w.
+    let a = c.args in
+    dummy_added _ a.bucket a.left a.first a.right c.in-Ok.dummy s _ _ w c.requires.bucket.0 c.requires.bucket.1 (Ok c.in-Ok-true.field-0) (Ok true)
+    (ap (λ (b : Bool). Ok b) c.in-Ok-true.field-0-test) c.in-Ok-true.ensures.added
 
 pub give-requires-clause-slot : goal.give-requires-clause-slot
 give-requires-clause-slot g c =
@@ -20,24 +55,87 @@ give-requires-clause-no_other g c =
     let (start, passed, s, room, fresh, f) = c.requires.absent in
     f.behind.quiet.fresh ∙ fresh
 
-pub link_dummy-requires-clause-to_link : goal.link_dummy-requires-clause-to_link
-link_dummy-requires-clause-to_link g c =
-    let a = c.args in
+pub add_node-requires-clause-adds : goal.add_node-requires-clause-adds
+add_node-requires-clause-adds g c =
     let (start, passed, s, room, fresh, f) = c.requires.absent in
-    let e = c.in-Ok.ensures in
-    (s, has_dummy _ a.bucket start passed a.left a.first a.right s _ _ f room c.in-Ok.dummy _ c.from.ensures e.given (g.met.L.Links.allowed _ _ e.pass))
-
-pub returns-in-Ok-clause-rooted : goal.returns-in-Ok-clause-rooted
-returns-in-Ok-clause-rooted g c = λ start passed s room fresh f.
     let a = c.args in
-    let e = c.in-Ok.ensures in
-    c.link_dummy.ensures.rooted s
-    (has_dummy _ a.bucket start passed a.left a.first a.right s _ _ f room c.in-Ok.dummy _ c.from.ensures e.given (g.met.L.Links.allowed _ _ e.pass))
+    dummy_to_add _ a.bucket a.left a.first a.right c.in-Ok.dummy s _ (new_dummy g (goal.at.add_node-requires-clause-adds g c).In-Ok start passed s room f)
+    c.requires.bucket.0 c.requires.bucket.1
 
-pub returns-in-Ok-clause-told : goal.returns-in-Ok-clause-told
-returns-in-Ok-clause-told g c =
-    told_wider g.L.Links g.met.L.Links.lacking_stays g.met.L.Links.worn_stays c.args.links.now c.args.p.now c.give.new.p c.link_dummy.new.p _
-    c.in-Ok.ensures.given.puts.agent c.in-Ok.ensures.later ([], append-nil _) c.link_dummy.result c.link_dummy.ensures.told
+pub anchor_and_go-requires-clause-dummy : goal.anchor_and_go-requires-clause-dummy
+anchor_and_go-requires-clause-dummy g c =
+    let (start, passed, s, room, fresh, f) = c.requires.absent in
+    let a = c.args in
+    let w = new_dummy g (goal.at.anchor_and_go-requires-clause-dummy g c).In-Ok start passed s room f in
+    let added = linked g (goal.at.anchor_and_go-requires-clause-dummy g c).In-Ok-true s w in
+    let n = g.L.Links.numbers _ in
+    let u = g.L.Links.seat _ c.add_node.new.p in
+    let held = dummy_held n a.bucket a.left a.first a.right c.in-Ok.dummy s _ u w added.slots_are in
+    let k = c.in-Ok-true.ensures.linked (dummy_to_add n a.bucket a.left a.first a.right c.in-Ok.dummy s _ w c.requires.bucket.0
+    c.requires.bucket.1) (ap (λ (b : Bool). Ok b) c.in-Ok-true.field-0-test) in
+    let stands = linked_stands n a.bucket w.adds.id _ _ _ _ _ u k (g.met.L.Links.allowed _ _ c.in-Ok-true.ensures.pass) in
+    (held.0, subst (λ (i : ℕ). IsDummy (heap_of n u) i a.bucket) (w.id_is ∙ sym held.1) stands)
+
+pub release-requires-clause-held : goal.release-requires-clause-held
+release-requires-clause-held g c =
+    let (start, passed, s, room, fresh, f) = c.requires.absent in
+    let a = c.args in
+    let w = new_dummy g (goal.at.release-requires-clause-held g c).In-Ok start passed s room f in
+    turn_held _ a.bucket a.left a.first a.right c.in-Ok.dummy s _ _ w (Ok false)
+    (dummy_added _ a.bucket a.left a.first a.right c.in-Ok.dummy s _ _ w c.requires.bucket.0 c.requires.bucket.1 (Ok c.in-Ok-false.field-0) (Ok false)
+    (ap (λ (b : Bool). Ok b) c.in-Ok-false.field-0-test) c.in-Ok-false.ensures.added)
+
+pub release-requires-in-Err-add_node-clause-held : goal.release-requires-in-Err-add_node-clause-held
+release-requires-in-Err-add_node-clause-held g c =
+    let (start, passed, s, room, fresh, f) = c.requires.absent in
+    let a = c.args in
+    let w = new_dummy g (goal.at.release-requires-in-Err-add_node-clause-held g c).In-Ok start passed s room f in
+    turn_held _ a.bucket a.left a.first a.right c.in-Ok.dummy s _ _ w (Err c.in-Err-add_node.spent)
+    (dummy_added _ a.bucket a.left a.first a.right c.in-Ok.dummy s _ _ w c.requires.bucket.0 c.requires.bucket.1 (Err c.in-Err-add_node.spent) (Err c.in-Err-add_node.spent) refl
+    c.in-Err-add_node.ensures.added)
+
+pub returns-in-Ok-true-clause-rooted : goal.returns-in-Ok-true-clause-rooted
+returns-in-Ok-true-clause-rooted g c = λ start passed s room fresh f.
+    let w = new_dummy g (goal.at.returns-in-Ok-true-clause-rooted g c).In-Ok start passed s room f in
+    let added = linked g (goal.at.returns-in-Ok-true-clause-rooted g c).In-Ok-true s w in
+    let k = c.anchor_and_go.ensures.anchored in
+    let all = g.met.L.Links.allowed _ _ c.anchor_and_go.ensures.pass in
+    added_roots _ c.args.bucket c.in-Ok.dummy w.id s _ _ w.room w.slot_is added.slots_are added c.anchor_and_go.result
+    c.requires.bucket.0 c.requires.bucket.1 k (seen_holds (split_ordering _) k.mid _ [] k.gone.puts all) all
+
+pub returns-in-Ok-true-clause-told : goal.returns-in-Ok-true-clause-told
+returns-in-Ok-true-clause-told g c =
+    let (start, passed, s, room, fresh, f) = c.requires.absent in
+    let w = new_dummy g (goal.at.returns-in-Ok-true-clause-told g c).In-Ok start passed s room f in
+    let added = linked g (goal.at.returns-in-Ok-true-clause-told g c).In-Ok-true s w in
+    let e = c.in-Ok.ensures in
+    told_wider g.L.Links g.met.L.Links.lacking_stays g.met.L.Links.worn_stays c.args.links.now c.args.p.now c.add_node.new.p c.anchor_and_go.new.p _
+    (added.made.puts.agent ∙ (sym w.adds.puts.agent ∙ e.given.puts.agent)) (goes_on _ _ _ e.later c.in-Ok-true.ensures.later) ([], append-nil _)
+    c.anchor_and_go.result c.anchor_and_go.ensures.told
+
+pub returns-in-Ok-false-clause-rooted : goal.returns-in-Ok-false-clause-rooted
+returns-in-Ok-false-clause-rooted g c = λ start passed s room fresh f.
+    let a = c.args in
+    let w = new_dummy g (goal.at.returns-in-Ok-false-clause-rooted g c).In-Ok start passed s room f in
+    let missed = dummy_added _ a.bucket a.left a.first a.right c.in-Ok.dummy s _ _ w c.requires.bucket.0 c.requires.bucket.1 (Ok c.in-Ok-false.field-0) (Ok false)
+    (ap (λ (b : Bool). Ok b) c.in-Ok-false.field-0-test) c.in-Ok-false.ensures.added in
+    missed_roots _ a.bucket c.in-Ok.dummy w.id s _ _ w.room w.slot_is missed.slots_are missed
+    (release_goes c.in-Ok.dummy _ _ c.release.ensures.released)
+
+pub returns-in-Err-add_node-clause-rooted : goal.returns-in-Err-add_node-clause-rooted
+returns-in-Err-add_node-clause-rooted g c = λ start passed s room fresh f.
+    let a = c.args in
+    let w = new_dummy g (goal.at.returns-in-Err-add_node-clause-rooted g c).In-Ok start passed s room f in
+    let refused = dummy_added _ a.bucket a.left a.first a.right c.in-Ok.dummy s _ _ w c.requires.bucket.0 c.requires.bucket.1 (Err c.in-Err-add_node.spent) (Err c.in-Err-add_node.spent) refl
+    c.in-Err-add_node.ensures.added in
+    refused_roots _ a.bucket c.in-Ok.dummy w.id s _ _ w.room w.slot_is refused.slots_are c.in-Err-add_node.spent refused
+    (release_goes c.in-Ok.dummy _ _ c.release-in-Err-add_node.ensures.released)
+
+pub returns-in-Err-add_node-clause-told : goal.returns-in-Err-add_node-clause-told
+returns-in-Err-add_node-clause-told g c =
+    let why = c.in-Err-add_node.spent in
+    told_wider g.L.Links g.met.L.Links.lacking_stays g.met.L.Links.worn_stays c.args.links.now c.args.p.now c.give.new.p c.add_node.new.p _
+    c.in-Ok.ensures.given.puts.agent c.in-Ok.ensures.later c.release-in-Err-add_node.ensures.later (Spent why) (c.in-Err-add_node.ensures.worn why refl)
 
 pub let_all_go-requires-clause-hands : goal.let_all_go-requires-clause-hands
 let_all_go-requires-clause-hands g c =

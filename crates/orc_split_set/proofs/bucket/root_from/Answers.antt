@@ -1,6 +1,7 @@
 -- By what the search found.
-use Rattle.orc_split_set.proofs.Rooting.{moved_roots}
-use Rattle.orc_split_set.proofs.Telling.{told_searched}
+use Rattle.orc_heap.proofs.Pieces.{goes_on}
+use Rattle.orc_split_set.proofs.Rooting.{found_dummy, found_hand, found_roots, moved_roots}
+use Rattle.orc_split_set.proofs.Telling.{rooted_told, told_searched}
 use Rattle.orc_split_set.proofs.bucket.root_from.Goals as goal
 
 pub search_for-requires-clause-begins : goal.search_for-requires-clause-begins
@@ -21,14 +22,31 @@ pub returns-in-Absent-clause-rooted : goal.returns-in-Absent-clause-rooted
 returns-in-Absent-clause-rooted g c = λ start s room fresh b.
     c.add_dummy.ensures.rooted start c.in-Absent.passed s room fresh (c.in-Absent.ensures.found start s room.room b)
 
-pub anchor_found-requires-clause-present : goal.anchor_found-requires-clause-present
-anchor_found-requires-clause-present g c =
+pub anchor-anchored-requires-clause-dummy : goal.anchor-anchored-requires-clause-dummy
+anchor-anchored-requires-clause-dummy g c =
     let (start, s, room, fresh, b) = c.requires.begins in
-    (start, c.in-Present.passed, s, c.in-Present.ensures.found start s room.room b)
+    let x = c.in-Present in
+    found_dummy _ c.args.bucket start x.passed x.left x.first x.node x.next s _ (x.ensures.found start s room.room b)
+
+pub let_all_go-requires-clause-hands : goal.let_all_go-requires-clause-hands
+let_all_go-requires-clause-hands g c =
+    let (start, s, room, fresh, b) = c.requires.begins in
+    let x = c.in-Present in
+    let e = c.anchor-anchored.ensures in (
+      s.slots,
+      found_hand _ c.args.bucket start x.passed x.left x.first x.node x.next s _ (x.ensures.found start s room.room b)
+          _ e.anchored.tried (g.met.L.Links.allowed _ _ e.pass),
+    )
 
 pub returns-in-Present-clause-rooted : goal.returns-in-Present-clause-rooted
 returns-in-Present-clause-rooted g c = λ start s room fresh b.
-    c.anchor_found.ensures.rooted start c.in-Present.passed s fresh (c.in-Present.ensures.found start s room.room b)
+    let x = c.in-Present in
+    let e = c.anchor-anchored.ensures in
+    let f = x.ensures.found start s room.room b in
+    let hand = found_hand _ c.args.bucket start x.passed x.left x.first x.node x.next s _ f _ e.anchored.tried (g.met.L.Links.allowed _ _ e.pass) in
+    found_roots _ c.args.bucket start x.passed x.left x.first x.node x.next s _ f _ _ c.anchor-anchored.result c.requires.bucket.0 c.requires.bucket.1 fresh
+    e.anchored (c.let_all_go.ensures.gone s.slots hand) (g.met.L.Links.obeys _ _ e.pass)
+    (g.met.L.Links.allowed _ _ c.let_all_go.ensures.pass) _ c.rooted_of.ensures
 
 pub returns-in-Absent-clause-told : goal.returns-in-Absent-clause-told
 returns-in-Absent-clause-told g c =
@@ -42,6 +60,9 @@ pub returns-in-Present-clause-told : goal.returns-in-Present-clause-told
 returns-in-Present-clause-told g c =
     let (start, s, room, fresh, b) = c.requires.begins in
     let e = c.in-Present.ensures in
-    let f = c.anchor_found.ensures in
+    let anchored = c.anchor-anchored in
+    let gone = c.let_all_go.ensures in
+    let told = rooted_told g.L.Links g.met.L.Links.lacking_stays g.met.L.Links.worn_stays c.args.links.now c.search_for.new.p anchored.new.p c.let_all_go.new.p
+    gone.later anchored.result anchored.ensures.worn _ c.rooted_of.ensures in
     told_searched g.L.Links g.met.L.Links.steps_add g.met.L.Links.seen_is c.args.links.now c.args.p.now c.search_for.new.p _ c.requires.pass e.pass
-    b.begins (e.found start s room.room b).behind.quiet e.later f.later c.anchor_found.result f.told
+    b.begins (e.found start s room.room b).behind.quiet e.later (goes_on _ _ _ anchored.ensures.later gone.later) c.rooted_of.result told
