@@ -7,7 +7,7 @@ ghost use Rattle.orc_heap.specs.Slots.{IsFree, id_in};
 ghost use Rattle.orc_ordered_search.specs.Searches.{HoldsIfAny, target_at};
 ghost use Rattle.orc_split_rule.specs.SplitDiscipline.{greatest};
 ghost use Rattle.orc_split_rule.specs.Watches.{StandsFor};
-ghost use Rattle.orc_split_set.specs.Growths.{Doubles, DoublesAndGoes, GrowsAfter, HasSizeNode, HoldsSize, IsCrowded, ShowsSize, SwingsSize, grown_by};
+ghost use Rattle.orc_split_set.specs.Growths.{Doubles, DoublesAndGoes, GrowsAfter, HoldsSize, IsCrowded, ShowsSize, grown_by};
 ghost use Rattle.orc_split_set.specs.SetCalls.{NewTells, PartTells};
 
 use crate::bucket::Rooted;
@@ -27,38 +27,8 @@ fn grown_of(swung: Result<bool, Spent>) -> Rooted
     }
 }
 
-// Lets the size's root name the new size node, if it still names the old one, and lets the new one go.
-fn swing_size<L: Links<Rule = Split>>(
-    links: &L,
-    p: &mut L::Pass,
-    most: u32,
-    size: u32,
-    old: &Option<Held>,
-    new: Held,
-) -> Rooted
-    requires pass { L.belongs links.now p.old }
-    requires most { (most ≡ greatest (L.numbers links.now)) × (1 ≤ most) × (2 * size ≤ most) }
-    requires old { HoldsIfAny (L.seat links.now p.old).slots old.now
-        × StandsFor (heap_of (L.numbers links.now) (L.seat links.now p.old)) (target_at (L.seat links.now p.old).slots old.now) size }
-    requires new { (id : ℕ) × HasSizeNode (L.numbers links.now) (2 * size) new id (L.seat links.now p.old) }
-    ensures pass { L.belongs links.now p.new }
-    ensures later { IsPrefix (L.journal p.old) (L.journal p.new) }
-    ensures swung { SwingsSize (L.numbers links.now) (target_at (L.seat links.now p.old).slots old.now) new (L.seat links.now p.old) result
-        (L.seat links.now p.new) }
-    ensures told { NewTells L.Links links.now result p.old p.new }
-{
-    let swung = links.swing(
-        p,
-        &At::Root(most),
-        &link_to(old, false),
-        &Want::Node(&new, false),
-        Some(SplitNote::Grow),
-    );
-    links.release(p, new);
-    grown_of(swung)
-}
-
-// Gives a node of twice the size, unless there would be too many buckets, and lets the size's root name it.
+// Gives a node of twice the size, unless there would be too many buckets, and lets the size's root name it, if it still
+// names the old one.
 fn double<L: Links<Rule = Split>>(
     links: &L,
     p: &mut L::Pass,
@@ -82,7 +52,17 @@ fn double<L: Links<Rule = Split>>(
         return Rooted::Done;
     }
     match links.give(p, 1, u64::from(size) * 2, 2) {
-        Ok(new) => swing_size(links, p, most, size, old, new),
+        Ok(new) => {
+            let swung = links.swing(
+                p,
+                &At::Root(most),
+                &link_to(old, false),
+                &Want::Node(&new, false),
+                Some(SplitNote::Grow),
+            );
+            links.release(p, new);
+            grown_of(swung)
+        }
         Err(_) => Rooted::NoNode,
     }
 }

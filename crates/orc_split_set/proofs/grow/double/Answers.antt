@@ -1,62 +1,105 @@
 -- With a new size node, or without one, or where there would be too many buckets.
-use Rattle.std.proofs.Common.{Option, Some, [], ap, append-nil, arith, subst, sym, ℕ, ◌*◌, ◌∙◌, ◌≡◌}
+use Rattle.std.proofs.Common.{Option, Some, [], ap, append-nil, arith, refl, subst, sym, ℕ, ◌*◌, ◌∙◌, ◌≡◌}
+use Rattle.orc_heap.proofs.Hands.{holds_of}
 use Rattle.orc_heap.specs.Calls.{Gives}
+use Rattle.orc_heap.specs.Heap.{link_to}
 use Rattle.orc_heap.specs.Seats.{heap_of}
-use Rattle.orc_heap.specs.Slots.{SlotNode, Slots}
-use Rattle.orc_ordered_search.proofs.Marking.{part_fact}
+use Rattle.orc_heap.specs.Slots.{Holds, SlotNode, Slots}
+use Rattle.orc_heap.specs.declared.events.Place.TheVariants.{Root}
+use Rattle.orc_ordered_search.proofs.Held.{release_goes}
+use Rattle.orc_ordered_search.proofs.Marking.{part_fact, worn_since}
 use Rattle.orc_ordered_search.specs.Searches.{HoldsIfAny, target_at}
 use Rattle.orc_split_rule.specs.Watches.{StandsFor}
 use Rattle.orc_split_set.specs.Growths.{ShowsSize, SwingsSize}
-use Rattle.orc_split_set.proofs.Growing.{doubles, doubles_many, doubles_none, held_beside, size_node, stands_puts}
-use Rattle.orc_split_set.proofs.Telling.{told_wider}
+use Rattle.orc_split_set.specs.declared.bucket.Rooted.{Rooted}
+use Rattle.orc_split_set.proofs.Growing.{doubles, doubles_many, doubles_none, held_beside, size_allowed, size_node, stands_puts, swing_slots, swings_size}
+use Rattle.orc_split_set.proofs.Telling.{grown_told, told_wider}
+use Rattle.orc_split_set.proofs.grow.double.Given.{Over}
+use Rattle.orc_split_set.proofs.grow.double.Goals.{In-Ok}
 use Rattle.orc_split_set.proofs.grow.double.Goals as goal
 
-pub swing_size-requires-clause-old : goal.swing_size-requires-clause-old
-swing_size-requires-clause-old g c =
-    let n = g.L.Links.numbers _ in
-    let a = c.args in
-    let s = g.L.Links.seat _ a.p.now in
-    let u = g.L.Links.seat _ c.give.new.p in
-    let e = c.in-Ok.ensures in
-    let x : Option SlotNode = Some (record { row = c.in-Ok.new.row; id = e.given.id }) in
-    let h = held_beside s.slots a.old.now x c.requires.old.0 c.requires.one.empty in
-    let to_is : target_at u.slots a.old.now ≡ target_at s.slots a.old.now = ap (λ (z : Slots). target_at z a.old.now) e.given.slots ∙ h.1 in (
-      subst (λ (z : Slots). HoldsIfAny z a.old.now) (sym e.given.slots) h.0,
-      subst (λ (o : Option ℕ). StandsFor (heap_of n u) o a.size) (sym to_is)
-          (stands_puts n s u _ (target_at s.slots a.old.now) a.size e.given.puts (g.met.L.Links.allowed _ _ e.pass) c.requires.old.1),
-    )
+-- a node of twice the size was given
+given : (g : Over) (c : In-Ok g) → let d = c.args.links.now in
+    Gives (g.L.Links.numbers d) 1 (2 * c.args.size) 2 (g.L.Links.seat d c.args.p.now) c.in-Ok.new (g.L.Links.seat d c.give.new.p)
+given g c =
+    let d = c.args.links.now in
+    let twice : c.from.result * 2 ≡ 2 * c.args.size = omega (arith, c.from.ensures) in
+    subst (λ (v : ℕ). Gives (g.L.Links.numbers d) 1 v 2 (g.L.Links.seat d c.args.p.now) c.in-Ok.new (g.L.Links.seat d c.give.new.p)) twice
+    c.in-Ok.ensures.given
 
-pub swing_size-requires-clause-new : goal.swing_size-requires-clause-new
-swing_size-requires-clause-new g c =
-    let n = g.L.Links.numbers _ in
-    let a = c.args in
-    let s = g.L.Links.seat _ a.p.now in
-    let u = g.L.Links.seat _ c.give.new.p in
-    let twice : c.from.result * 2 ≡ 2 * a.size = omega (arith, c.from.ensures) in
-    let given = subst (λ (v : ℕ). Gives n 1 v 2 s c.in-Ok.new u) twice c.in-Ok.ensures.given in
-    (given.id, size_node n (2 * a.size) s u c.in-Ok.new given c.requires.one)
+-- the old one is still held
+kept : (g : Over) (c : In-Ok g) → let d = c.args.links.now in let u = g.L.Links.seat d c.give.new.p in
+    HoldsIfAny u.slots c.args.old.now × (target_at u.slots c.args.old.now ≡ target_at (g.L.Links.seat d c.args.p.now).slots c.args.old.now)
+kept g c =
+    let s = g.L.Links.seat c.args.links.now c.args.p.now in
+    let e = c.in-Ok.ensures.given in
+    let x : Option SlotNode = Some (record { row = c.in-Ok.new.row; id = e.id }) in
+    let h = held_beside s.slots c.args.old.now x c.requires.old.0 c.requires.one.empty in
+    (subst (λ (z : Slots). HoldsIfAny z c.args.old.now) (sym e.slots) h.0, ap (λ (z : Slots). target_at z c.args.old.now) e.slots ∙ h.1)
+
+pub swing-swung-requires-clause-place : goal.swing-swung-requires-clause-place
+swing-swung-requires-clause-place g c = omega (arith, c.requires.most.0, c.requires.most.1)
+
+pub swing-swung-requires-clause-links : goal.swing-swung-requires-clause-links
+swing-swung-requires-clause-links g c =
+    let u = g.L.Links.seat c.args.links.now c.give.new.p in
+    let new = (given g (goal.at.swing-swung-requires-clause-links g c).In-Ok) in
+    let k = size_node _ (2 * c.args.size) _ u c.in-Ok.new new c.requires.one in
+    (c.link_to.ensures.held u.slots (kept g (goal.at.swing-swung-requires-clause-links g c).In-Ok).0, (holds_of u.slots c.in-Ok.new new.id k.held).0)
+
+pub swing-swung-requires-clause-allowed : goal.swing-swung-requires-clause-allowed
+swing-swung-requires-clause-allowed g c =
+    let n = g.L.Links.numbers c.args.links.now in
+    let s = g.L.Links.seat c.args.links.now c.args.p.now in
+    let u = g.L.Links.seat c.args.links.now c.give.new.p in
+    let e = c.in-Ok.ensures in
+    let new = (given g (goal.at.swing-swung-requires-clause-allowed g c).In-Ok) in
+    let to = target_at s.slots c.args.old.now in
+    let stands = subst (λ (o : Option ℕ). StandsFor (heap_of n u) o c.args.size) (sym (kept g (goal.at.swing-swung-requires-clause-allowed g c).In-Ok).1)
+    (stands_puts n s u _ to c.args.size e.given.puts (g.met.L.Links.allowed _ _ e.pass) c.requires.old.1) in
+    size_allowed n u c.args.most c.args.size new.id c.in-Ok.new _ (target_at u.slots c.args.old.now) c.requires.most.0 c.requires.most.1
+    (omega (arith, c.if-size-most.false)) (g.met.L.Links.obeys _ _ e.pass) (size_node n (2 * c.args.size) s u c.in-Ok.new new c.requires.one)
+    (c.link_to.ensures.link u.slots) stands
+
+pub release-requires-clause-held : goal.release-requires-clause-held
+release-requires-clause-held g c =
+    let u = g.L.Links.seat c.args.links.now c.give.new.p in
+    let f = c.swing-swung.ensures in
+    let new = (given g (goal.at.release-requires-clause-held g c).In-Ok) in
+    let k = size_node _ (2 * c.args.size) _ u c.in-Ok.new new c.requires.one in
+    subst (λ (z : Slots). Holds z c.in-Ok.new) (sym (swing_slots u _ _ _ _ _ c.swing-swung.result f.swung f.none))
+    (holds_of u.slots c.in-Ok.new new.id k.held).0
 
 pub returns-in-Ok-clause-doubled : goal.returns-in-Ok-clause-doubled
 returns-in-Ok-clause-doubled g c =
-    let n = g.L.Links.numbers _ in
-    let a = c.args in
-    let s = g.L.Links.seat _ a.p.now in
-    let u = g.L.Links.seat _ c.give.new.p in
-    let v = g.L.Links.seat _ c.swing_size.new.p in
-    let e = c.in-Ok.ensures in
-    let x : Option SlotNode = Some (record { row = c.in-Ok.new.row; id = e.given.id }) in
-    let twice : c.from.result * 2 ≡ 2 * a.size = omega (arith, c.from.ensures) in
-    let given = subst (λ (v : ℕ). Gives n 1 v 2 s c.in-Ok.new u) twice e.given in
-    let to_is : target_at u.slots a.old.now ≡ target_at s.slots a.old.now = ap (λ (z : Slots). target_at z a.old.now) e.given.slots
-    ∙ (held_beside s.slots a.old.now x c.requires.old.0 c.requires.one.empty).1 in
-    doubles n (2 * a.size) s u c.in-Ok.new given c.requires.one v c.swing_size.result (target_at s.slots a.old.now)
-    (g.met.L.Links.allowed _ _ e.pass)
-    (subst (λ (o : Option ℕ). SwingsSize n o c.in-Ok.new u c.swing_size.result v) to_is c.swing_size.ensures.swung)
+    let n = g.L.Links.numbers c.args.links.now in
+    let s = g.L.Links.seat c.args.links.now c.args.p.now in
+    let u = g.L.Links.seat c.args.links.now c.give.new.p in
+    let v = g.L.Links.seat c.args.links.now c.release.new.p in
+    let f = c.swing-swung.ensures in
+    let size = 2 * c.args.size in
+    let new = (given g (goal.at.returns-in-Ok-clause-doubled g c).In-Ok) in
+    let k = size_node n size s u c.in-Ok.new new c.requires.one in
+    let old = target_at u.slots c.args.old.now in
+    let swung = swings_size n size c.in-Ok.new new.id u _ v k (release_goes c.in-Ok.new _ v c.release.ensures.released) _ _ _ old c.swing-swung.result
+    (ap (λ (i : ℕ). link_to i) (holds_of u.slots c.in-Ok.new new.id k.held).1) (ap Root c.requires.most.0) (c.link_to.ensures.link u.slots)
+    (g.met.L.Links.allowed _ _ f.pass) f.swung f.none in
+    doubles n size s u c.in-Ok.new new c.requires.one v c.grown_of.result (target_at s.slots c.args.old.now) (g.met.L.Links.allowed _ _ c.in-Ok.ensures.pass)
+    (subst (λ (o : Option ℕ). SwingsSize n o c.in-Ok.new u c.grown_of.result v) (kept g (goal.at.returns-in-Ok-clause-doubled g c).In-Ok).1
+    (subst (λ (r : Rooted). SwingsSize n old c.in-Ok.new u r v) (sym c.grown_of.ensures) swung))
 
 pub returns-in-Ok-clause-told : goal.returns-in-Ok-clause-told
 returns-in-Ok-clause-told g c =
-    told_wider g.L.Links g.met.L.Links.lacking_stays g.met.L.Links.worn_stays c.args.links.now c.args.p.now c.give.new.p c.swing_size.new.p _
-    c.in-Ok.ensures.given.puts.agent c.in-Ok.ensures.later ([], append-nil _) c.swing_size.result c.swing_size.ensures.told
+    let d = c.args.links.now in
+    let by = (g.L.Links.seat d c.give.new.p).agent in
+    let e = c.in-Ok.ensures in
+    let f = c.swing-swung.ensures in
+    let worn = worn_since (g.L.Links.worn d) g.L.Links.agent_of by by _ _ _ (g.met.L.Links.worn_stays d by) refl ([], append-nil _) f.later
+    c.swing-swung.result f.worn in
+    let told = grown_told g.L.Links g.met.L.Links.lacking_stays g.met.L.Links.worn_stays d c.give.new.p c.swing-swung.new.p c.release.new.p
+    c.release.ensures.later c.swing-swung.result worn c.grown_of.result c.grown_of.ensures in
+    told_wider g.L.Links g.met.L.Links.lacking_stays g.met.L.Links.worn_stays d c.args.p.now c.give.new.p c.release.new.p _ e.given.puts.agent e.later
+    ([], append-nil _) c.grown_of.result told
 
 pub returns-in-Err-clause-doubled : goal.returns-in-Err-clause-doubled
 returns-in-Err-clause-doubled g c =

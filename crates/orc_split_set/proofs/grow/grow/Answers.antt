@@ -85,9 +85,8 @@ returns-in-Stable-default-Some-clause-doubled g c =
 pub returns-in-Stable-default-Some-clause-told : goal.returns-in-Stable-default-Some-clause-told
 returns-in-Stable-default-Some-clause-told g c =
     let q = (sized g (goal.at.returns-in-Stable-default-Some-clause-told g c).In-Stable-default-Some).quiet in
-    let e = c.in-Stable-default-Some.ensures in
-    told_later g.L.Links g.met.L.Links.steps_add g.met.L.Links.seen_is _ c.args.p.now c.look.new.p _ _ c.requires.pass e.pass
-    q.puts q.some e.later c.double_held.ensures.later c.double_held.result c.double_held.ensures.told
+    told_later g.L.Links g.met.L.Links.steps_add g.met.L.Links.seen_is _ c.args.p.now c.look.new.p _ _ c.requires.pass c.in-Stable-default-Some.ensures.pass
+    q.puts q.some c.in-Stable-default-Some.ensures.later c.double_held.ensures.later c.double_held.result c.double_held.ensures.told
 
 pub double-requires-clause-one : goal.double-requires-clause-one
 double-requires-clause-one g c =
@@ -113,9 +112,8 @@ returns-in-Stable-default-None-clause-doubled g c =
 pub returns-in-Stable-default-None-clause-told : goal.returns-in-Stable-default-None-clause-told
 returns-in-Stable-default-None-clause-told g c =
     let q = (kept g (goal.at.returns-in-Stable-default-None-clause-told g c).In-Stable-default-None).quiet in
-    let e = c.in-Stable-default-None.ensures in
-    told_later g.L.Links g.met.L.Links.steps_add g.met.L.Links.seen_is _ c.args.p.now c.look.new.p _ _ c.requires.pass e.pass
-    q.puts q.some e.later c.double.ensures.later c.double.result c.double.ensures.told
+    told_later g.L.Links g.met.L.Links.steps_add g.met.L.Links.seen_is _ c.args.p.now c.look.new.p _ _ c.requires.pass c.in-Stable-default-None.ensures.pass
+    q.puts q.some c.in-Stable-default-None.ensures.later c.double.ensures.later c.double.result c.double.ensures.told
 
 pub returns-in-Moved-clause-doubled : goal.returns-in-Moved-clause-doubled
 returns-in-Moved-clause-doubled g c =

@@ -12,7 +12,6 @@ pub returns : goal.returns
 returns g c =
     let d = c.args.self.now.links in
     let p = c.args.p.now in
-    let q = c.settle.new.p in
     let s = g.L.Links.seat d p in
     let answer = c.size_turns-answer.result in
     let done = c.size_turns-answer.ensures in
@@ -20,7 +19,7 @@ returns g c =
     let did = size_did _ s _ _ settle.nothing _ answer done.read in
     let keeps = size_keeps _ _ s _ answer done.read c.requires.usable.1 in
     let grows = goes_on _ _ _ done.later settle.later in
-    let call = called g.L.Links g.met.L.Links.steps_add g.met.L.Links.seen_is g.met.L.Links.allowed g.met.L.Links.agents_below d p q c.requires.usable.0
+    let call = called g.L.Links g.met.L.Links.steps_add g.met.L.Links.seen_is g.met.L.Links.allowed g.met.L.Links.agents_below d p c.settle.new.p c.requires.usable.0
     settle.pass grows 0 c.args.turns (λ answer. Asked s.agent 0 answer) none_of did in
     record {
       usable = (settle.pass, idle_settled _ _ keeps.0 settle.nothing);
@@ -33,5 +32,5 @@ returns g c =
       no_event = call.no_event;
       again = size_again answer _ call.again;
       gives = call.gives;
-      settled = λ alone. settle.settled (settling_alone g.L.Links d p c.size_turns-answer.new.p q done.later settle.later keeps.1 alone);
+      settled = λ alone. settle.settled (settling_alone g.L.Links d p c.size_turns-answer.new.p c.settle.new.p done.later settle.later keeps.1 alone);
     }
