@@ -10,8 +10,8 @@ ghost use Rattle.orc_plain_domain.specs.Rest.{IsRestOf, rest_journal};
 ghost use Rattle.orc_words.specs.Bounds.{bounds_of};
 
 use crate::domain::{PlainDomain, PlainPass, PlainRest};
+use crate::make::MadePlainDomain;
 use orc_any_domain::{Domain, RowCounts};
-use orc_fault::NoMemory;
 use orc_heap::{Discipline, Links, Seed};
 use orc_words::Shape;
 use std::alloc::Global;
@@ -32,11 +32,7 @@ impl<D: Discipline> Domain for PlainDomain<D> {
 
     ghost rests = { λ d passes r. IsRestOf d r };
 
-    fn make(
-        alloc: Global,
-        shape: &Shape,
-        seed: Seed<D::Note>,
-    ) -> Result<(PlainDomain<D>, Vec<PlainPass<D>>), NoMemory>
+    fn make(alloc: Global, shape: &Shape, seed: Seed<D::Note>) -> MadePlainDomain<D>
         requires holds { D.holds (heap_numbers (bounds_of shape.now)) [] }
         requires seed { SeedAllowed D.may (heap_numbers (bounds_of shape.now)) seed }
         ensures bounds { IfOk result (λ made. domain_bounds made.0 ≡ bounds_of shape.now) }

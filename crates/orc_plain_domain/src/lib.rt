@@ -13,4 +13,5 @@ mod steps;
 pub mod twins;
 
 pub use domain::{PlainDomain, PlainPass, PlainRest};
+pub use make::MadePlainDomain;
 pub use names::{around, first_row, row_link, word_at};

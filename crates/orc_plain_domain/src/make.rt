@@ -18,17 +18,16 @@ use orc_plain_board::PlainBoard;
 use orc_words::Shape;
 use std::alloc::Global;
 
+/// A domain and its passes, or no memory.
+pub type MadePlainDomain<D> = Result<(PlainDomain<D>, Vec<PlainPass<D>>), NoMemory>;
+
 impl<D: Discipline> PlainDomain<D> {
     /// A domain whose nodes have as many links as the shape's rows, and one pass an agent, in order. Its journal begins with the seed's events, of agent 0.
     ///
     /// # Errors
     ///
     /// `NoMemory` where memory is refused.
-    pub fn make(
-        alloc: Global,
-        shape: &Shape,
-        seed: Seed<D::Note>,
-    ) -> Result<(PlainDomain<D>, Vec<PlainPass<D>>), NoMemory>
+    pub fn make(alloc: Global, shape: &Shape, seed: Seed<D::Note>) -> MadePlainDomain<D>
         requires holds { D.holds (numbers (bounds_of shape.now)) [] }
         requires seed { SeedAllowed D.may (numbers (bounds_of shape.now)) seed }
         ensures bounds { IfOk result (λ made. domain_bounds made.0 ≡ bounds_of shape.now) }
