@@ -56,15 +56,9 @@ returns-then-look_step-clause-opens g c =
 
 pub returns-then-look_step-clause-few : goal.returns-then-look_step-clause-few
 returns-then-look_step-clause-few g c =
-    omega (
-      arith,
-      ap (λ (b : Bounds). b.agents) c.shape.ensures,
-      c.agents-end.ensures,
-      c.loop-k-test.true,
-      c.loop-k.invariant.few,
-      c.look_step.ensures.few,
-      c.settle_step.ensures.few,
-    )
+    let shape = ap (λ (b : Bounds). b.agents) c.shape.ensures in
+    let few = c.loop-k.invariant.few in
+    omega (arith, c.agents-end.ensures, c.loop-k-test.true, c.look_step.ensures.few, c.settle_step.ensures.few)
 
 pub loop-k-preserved : goal.loop-k-preserved
 loop-k-preserved g c =
@@ -107,16 +101,9 @@ returns-then-is_none-clause-opens g c =
 
 pub returns-then-is_none-clause-few : goal.returns-then-is_none-clause-few
 returns-then-is_none-clause-few g c =
-    omega (
-      arith,
-      ap (λ (b : Bounds). b.agents) c.shape.ensures,
-      c.agents-end.ensures,
-      c.loop-k.auto.k-end,
-      c.requires.place,
-      c.loop-k.invariant.few,
-      c.settle_step-2.ensures.few,
-      c.free_doomed.ensures.few,
-    )
+    let shape = ap (λ (b : Bounds). b.agents) c.shape.ensures in
+    let few = c.loop-k.invariant.few in
+    omega (arith, c.agents-end.ensures, c.loop-k.auto.k-end, c.requires.place, c.settle_step-2.ensures.few, c.free_doomed.ensures.few)
 
 pub returns-else-is_none-clause-opens : goal.returns-else-is_none-clause-opens
 returns-else-is_none-clause-opens g c =
@@ -126,12 +113,6 @@ returns-else-is_none-clause-opens g c =
 
 pub returns-else-is_none-clause-few : goal.returns-else-is_none-clause-few
 returns-else-is_none-clause-few g c =
-    omega (
-      arith,
-      ap (λ (b : Bounds). b.agents) c.shape.ensures,
-      c.agents-end.ensures,
-      c.loop-k.auto.k-end,
-      c.requires.place,
-      c.loop-k.invariant.few,
-      c.settle_step-2.ensures.few,
-    )
+    let shape = ap (λ (b : Bounds). b.agents) c.shape.ensures in
+    let few = c.loop-k.invariant.few in
+    omega (arith, c.agents-end.ensures, c.loop-k.auto.k-end, c.requires.place, c.settle_step-2.ensures.few)
