@@ -32,10 +32,11 @@ entry_is call other by agent key answer is same =
     ap (λ (i : ℕ). entry_by other i key answer) same ∙ ap (λ (c : Call). entry_by c agent key answer) (sym is)
 
 -- an answer, if it was entered
-pub enters_turn : {N : Type 0} (r : Reading N) (entry : Bool → SetEntry) (s u : Seat N) (done value : Bool) (answer : Option Bool)
-    → answer ≡ (if done then Some value else None) → Enters r (entry value) s done u → AnswersTurn r entry s answer u
-enters_turn r entry s u true value answer is e = subst (λ (o : Option Bool). AnswersTurn r entry s o u) (sym is) e
-enters_turn r entry s u false value answer is e = subst (λ (o : Option Bool). AnswersTurn r entry s o u) (sym is) e
+pub enters_turn : {N : Type 0} (r : Reading N) (call : Call) (agent key : ℕ) (entry : SetEntry) (s u : Seat N) (done value : Bool) (answer : Option Bool)
+    → entry ≡ entry_by call agent key value → answer ≡ (if done then Some value else None) → Enters r entry s done u
+    → AnswersTurn r (λ yes. entry_by call agent key yes) s answer u
+enters_turn r call agent key entry s u true value answer is told e = rw told (subst (λ (x : SetEntry). Enters r x s true u) is e)
+enters_turn r call agent key entry s u false value answer is told e = rw told e
 
 pub answers_true : (done value : Bool) (answer : Option Bool) → answer ≡ (if done then Some value else None) → answer ≡ Some true → (done ≡ true) × (value ≡ true)
 answers_true true value answer is told = let e : ◌≡◌ {A = Option Bool} (Some value) (Some true) = sym is ∙ told in (refl, cc)

@@ -67,14 +67,11 @@ enter_absent-entered-requires-clause-absent g c =
 
 pub returns-in-Absent-clause-answered : goal.returns-in-Absent-clause-answered
 returns-in-Absent-clause-answered g c = λ start s f.
-    let r = reading_by _ g.K.Rank.manner in
-    let u = g.L.Links.seat c.args.links.now c.enter_absent-entered.new.p in
-    let done = c.enter_absent-entered.result in
     let found = absent g (goal.at.returns-in-Absent-clause-answered g c).In-Absent start s f in
-    let entry = c.entry_of-entry.ensures ∙ ap (λ (i : ℕ). entry_by c.args.call i c.args.key false) (c.agent-agent.ensures ∙ found.behind.quiet.puts.agent) in
-    enters_turn r (λ yes. entry_by c.args.call s.agent c.args.key yes) s u done false _ c.answer_if.ensures
-    (subst (λ (e : SetEntry). Enters r e s done u) entry
-    (enters_any r _ s u done (c.enter_absent-entered.ensures.entered start c.in-Absent.passed s found)))
+    let mine = c.agent-agent.ensures ∙ found.behind.quiet.puts.agent in
+    enters_turn (reading_by _ g.K.Rank.manner) c.args.call s.agent c.args.key c.entry_of-entry.result s _ c.enter_absent-entered.result false _
+    (c.entry_of-entry.ensures ∙ ap (λ (i : ℕ). entry_by c.args.call i c.args.key false) mine)
+    c.answer_if.ensures (enters_any (reading_by _ g.K.Rank.manner) c.entry_of-entry.result s _ c.enter_absent-entered.result (c.enter_absent-entered.ensures.entered start c.in-Absent.passed s found))
 
 pub returns-in-Absent-clause-few : goal.returns-in-Absent-clause-few
 returns-in-Absent-clause-few g c = λ start s f.
@@ -96,14 +93,11 @@ enter_present-entered-requires-clause-present g c =
 
 pub returns-in-Ask-clause-answered : goal.returns-in-Ask-clause-answered
 returns-in-Ask-clause-answered g c = λ start s f.
-    let r = reading_by _ g.K.Rank.manner in
-    let u = g.L.Links.seat c.args.links.now c.enter_present-entered.new.p in
-    let done = c.enter_present-entered.result in
+    let a = c.args in
     let found = present g (goal.at.returns-in-Ask-clause-answered g c).In-Present start s f in
-    enters_turn r (λ yes. entry_by c.args.call s.agent c.args.key yes) s u done true _ c.answer_if-in-Ask.ensures
-    (subst (λ (e : SetEntry). Enters r e s done u)
-    (entry_is c.args.call Ask c.agent-agent.result s.agent c.args.key true c.in-Ask.is (c.agent-agent.ensures ∙ found.behind.quiet.puts.agent))
-    (enters_any r _ s u done (c.enter_present-entered.ensures.entered start c.in-Present.passed s found)))
+    let asked = entry_is a.call Ask c.agent-agent.result s.agent a.key true c.in-Ask.is (c.agent-agent.ensures ∙ found.behind.quiet.puts.agent) in
+    enters_turn (reading_by _ g.K.Rank.manner) a.call s.agent a.key (Asked c.agent-agent.result a.key true) s _ c.enter_present-entered.result true _ asked c.answer_if-in-Ask.ensures
+    (enters_any (reading_by _ g.K.Rank.manner) (Asked c.agent-agent.result a.key true) s _ c.enter_present-entered.result (c.enter_present-entered.ensures.entered start c.in-Present.passed s found))
 
 pub returns-in-Ask-clause-few : goal.returns-in-Ask-clause-few
 returns-in-Ask-clause-few g c = λ start s f.
@@ -122,16 +116,12 @@ pub returns-in-Remove-clause-answered : goal.returns-in-Remove-clause-answered
 returns-in-Remove-clause-answered g c = λ start s f.
     let x = ordering_of (g.met.K.Rank.ordered _) in
     let a = c.args in
-    let t = g.L.Links.seat _ a.p.now in
-    let u = g.L.Links.seat a.links.now c.take_out-removed.new.p in
-    let done = c.take_out-removed.result in
-    let entry = Removed t.agent a.key true in
+    let entry = Removed (g.L.Links.seat a.links.now a.p.now).agent a.key true in
     let found = present g (goal.at.returns-in-Remove-clause-answered g c).In-Present start s f in
-    let enters = takes_enters x found (g.K.SetRank.noted entry) g.K.SetRank.unlinking entry _ done u (g.met.K.SetRank.enters _ entry)
-    (g.met.K.SetRank.enters_none _) (c.take_out-removed.ensures.removed start c.in-Present.passed s found) in
-    enters_turn x.reading (λ yes. entry_by a.call s.agent a.key yes) s u done true _ c.answer_if-in-Remove.ensures
-    (subst (λ (e : SetEntry). Enters x.reading e s done u)
-    (entry_is a.call Remove t.agent s.agent a.key true c.in-Remove.is found.behind.quiet.puts.agent) enters)
+    enters_turn x.reading a.call s.agent a.key entry s _ c.take_out-removed.result true _
+    (entry_is a.call Remove _ s.agent a.key true c.in-Remove.is found.behind.quiet.puts.agent) c.answer_if-in-Remove.ensures
+    (takes_enters x found (g.K.SetRank.noted entry) g.K.SetRank.unlinking entry _ c.take_out-removed.result _ (g.met.K.SetRank.enters _ entry)
+    (g.met.K.SetRank.enters_none _) (c.take_out-removed.ensures.removed start c.in-Present.passed s found))
 
 pub returns-in-Remove-clause-few : goal.returns-in-Remove-clause-few
 returns-in-Remove-clause-few g c = λ start s f.
