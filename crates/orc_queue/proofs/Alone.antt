@@ -86,14 +86,14 @@ module _ (n : HeapNumbers) (IsSettled : Heap → Type 0) (root id : ℕ) (one : 
     pub over_missed : moves_in own ≡ 0 → IsTurnOver n IsSettled s t
     over_missed none = over_quiet n IsSettled s t j.piece fresh (ap (λ (z : List (Event FifoNote)). moves_in z) j.own_is ∙ omega (arith, none)) moved_since
 
-    pub over_helped : ((es : List (Event FifoNote)) → FifoHolds n es → has_begun es ≡ true
+    over_own : ((es : List (Event FifoNote)) → FifoHolds n es → has_begun es ≡ true
         → AllAllowed (FifoMay n) es (event_of s (Look (Root root) one) None ∷ event_of s (Look (Root root) (link_to id)) None ∷ own)
         → IsSettled (run_heap n (es ++ event_of s (Look (Root root) one) None ∷ event_of s (Look (Root root) (link_to id)) None ∷ own)))
         → ((es : List (Event FifoNote))
         → AllAllowed (FifoMay n) es (event_of s (Look (Root root) one) None ∷ event_of s (Look (Root root) (link_to id)) None ∷ own)
         → IsSettled (run_heap n es) → ⊥)
         → IsTurnOver n IsSettled s t
-    over_helped settles unsettled =
+    over_own settles unsettled =
         let part = j.piece.puts.part in
         let new = part_allowed (FifoMay n) s t _ j.piece.puts all_t in
         record {
@@ -107,6 +107,20 @@ module _ (n : HeapNumbers) (IsSettled : Heap → Type 0) (root id : ℕ) (one : 
               sym (own_is_all s.agent part alone) ∙ all_own in
               unsettled s.seen (subst (λ z. AllAllowed (FifoMay n) s.seen z) is new) settled;
         }
+
+    -- the own events of the rest are these
+    pub over_helped : (rest : List (Event FifoNote)) → own ≡ rest
+        → ((es : List (Event FifoNote)) → FifoHolds n es → has_begun es ≡ true
+        → AllAllowed (FifoMay n) es (look_root s root one ∷ look_root s root (link_to id) ∷ rest)
+        → IsSettled (run_heap n (es ++ look_root s root one ∷ look_root s root (link_to id) ∷ rest)))
+        → ((es : List (Event FifoNote)) → AllAllowed (FifoMay n) es (look_root s root one ∷ look_root s root (link_to id) ∷ rest)
+        → IsSettled (run_heap n es) → ⊥)
+        → IsTurnOver n IsSettled s t
+    over_helped rest is settles unsettled =
+        let turn = λ (z : List (Event FifoNote)). look_root s root one ∷ look_root s root (link_to id) ∷ z in
+        over_own (λ es holds begun all. subst (λ (z : List (Event FifoNote)). IsSettled (run_heap n (es ++ turn z))) (sym is)
+        (settles es holds begun (subst (λ (z : List (Event FifoNote)). AllAllowed (FifoMay n) es (turn z)) is all)))
+        (λ es all. unsettled es (subst (λ (z : List (Event FifoNote)). AllAllowed (FifoMay n) es (turn z)) is all))
 
 -- after a Swing the tail names the last node
 pub swing_settles : (n : HeapNumbers) (es : List (Event FifoNote)) (agent tail next : ℕ) → FifoHolds n es → has_begun es ≡ true

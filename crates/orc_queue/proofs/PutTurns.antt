@@ -99,11 +99,8 @@ module _ (n : HeapNumbers) (one : Link) (job tail : ℕ) (h : Hold) (s a b t : S
               ∷ record { agent = x; act = Look (Next tail) (link_to next); note = None }
               ∷ record { agent = x; act = Move (Root 1) (link_to tail) (link_to next); note = Some Swing } ∷ []) p.agent in
               over_helped n TailIsLast 1 tail one s a t k all_a all_t p q0.own q j fresh moved
-              (λ es holds begun all. subst (λ z. TailIsLast (run_heap n (es ++ look_root s 1 one ∷ look_root s 1 (link_to tail) ∷ z))) (sym is)
-              (helped_settles n s one tail next es holds begun
-              (subst (λ z. AllAllowed (FifoMay n) es (look_root s 1 one ∷ look_root s 1 (link_to tail) ∷ z)) is all)))
-              (λ es all settled. helped_unsettled n s one tail next es
-              (subst (λ z. AllAllowed (FifoMay n) es (look_root s 1 one ∷ look_root s 1 (link_to tail) ∷ z)) is all) settled)
+              (look_next s tail next ∷ look_next s tail next ∷ swing_tail s tail next ∷ []) is (helped_settles n s one tail next)
+              (helped_unsettled n s one tail next)
         ] in
         record {
           over = over;

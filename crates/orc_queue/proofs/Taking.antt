@@ -34,7 +34,7 @@ use Rattle.orc_fifo_rule.specs.Laws.Events.{begun_more}
 use Rattle.orc_queue.specs.Looking.{Known}
 use Rattle.orc_queue.specs.declared.take.TakeTurn.{TakeTurn}
 use Rattle.orc_queue.specs.declared.take.TakeTurn.TheVariants.{Empty as TakeEmpty, Over as TakeOver, Took as TakeDone}
-use Rattle.orc_queue.specs.Turns.{FindsEnd, Helps, HelpsPast, HasStopped, TakesFrom, TakesJob, TakesFromHead}
+use Rattle.orc_queue.specs.Turns.{HasStopped, Helps, HelpsPast, TakesFrom, TakesFromHead, TakesJob, TakesNone}
 use Rattle.orc_queue.proofs.Joins.{join}
 use Rattle.orc_queue.proofs.Looking.{job_read}
 use Rattle.orc_queue.proofs.Pieces.{left_puts, link_puts}
@@ -44,14 +44,19 @@ use Rattle.orc_heap.proofs.Pieces.{moves_left, moves_right, unless_other}
 use Rattle.orc_heap.proofs.Moments.{look_found, miss_moved, seen_is, since}
 
 -- the test of the head's link
-pub end_found : (n : HeapNumbers) (s t : Seat FifoNote) (head : Bor Hold) (agent : ℕ) (done : Bool) → agent ≡ s.agent
-    → IsLinkedNode (heap_of n s) (id_in s.slots head.now) → AllAllowed (FifoMay n) [] t.seen
-    → Tests (AtNode head) (WantNull false) (Some (Entry (Empty agent))) s done t → FindsEnd n (id_in s.slots head.now) s done t
-end_found n s t head agent true agent_is linked all w = record {
+pub end_empty : (s t : Seat FifoNote) (head : Bor Hold) (agent : ℕ) (done : Bool) → agent ≡ s.agent
+    → Tests (AtNode head) (WantNull false) (Some (Entry (Empty agent))) s done t → done ≡ true → TakesNone 1 s t
+end_empty s t head agent true agent_is w is = record {
   piece = record { own = _; slots = w.slots; puts = w.puts; entries_are = ap (λ (x : ℕ). Empty x ∷ []) agent_is; no_give = refl; few = omega arith };
   fresh = w.fresh;
 }
-end_found n s t head agent false agent_is linked all w = record {
+end_empty s t head agent false agent_is w is = cc
+
+pub end_lost : (n : HeapNumbers) (s t : Seat FifoNote) (head : Bor Hold) (noted : Option FifoNote) (done : Bool)
+    → IsLinkedNode (heap_of n s) (id_in s.slots head.now) → AllAllowed (FifoMay n) [] t.seen → Tests (AtNode head) (WantNull false) noted s done t
+    → done ≡ false → HasStopped n 1 (Next (id_in s.slots head.now)) null (λ own. ⊥) s t
+end_lost n s t head noted true linked all w is = cc
+end_lost n s t head noted false linked all w is = record {
   piece = record { own = _; slots = w.slots; puts = w.puts.puts; entries_are = refl; no_give = refl; few = omega arith };
   fresh = w.fresh;
   moved = miss_moved n (FifoMay n) (λ es x k. k.fits) s t (Next (id_in s.slots head.now)) null w.puts.found [] _ [] w.puts.puts refl all linked w.puts.other;

@@ -1,5 +1,5 @@
 -- What the turns of a call do. After Michael and Scott 1996.
-use Rattle.std.specs.Prelude.{Bool, List, None, Some, [], false, is_some, length, slice_get, true, ℕ, ◌*◌, ◌++◌, ◌+◌, ◌<◌, ◌^◌, ◌∷◌, ◌≡◌, ◌≢◌, ◌≤◌, ◌⊎◌}
+use Rattle.std.specs.Prelude.{List, None, Some, [], false, is_some, length, slice_get, true, ℕ, ◌*◌, ◌++◌, ◌+◌, ◌<◌, ◌^◌, ◌∷◌, ◌≡◌, ◌≢◌, ◌≤◌, ◌⊎◌}
 use Rattle.std.specs.List.{list_any}
 use Rattle.orc_heap.specs.Allowed.{IsLinkedNode, HasLink}
 use Rattle.orc_heap.specs.Calls.{Misses, event_of, given_node}
@@ -253,9 +253,10 @@ TakesFromHead n head next s (TakeDone job at) t = TakesJob 2 job at s t
 TakesFromHead n head next s TakeEmpty t = ⊥
 
 -- the test whether the head's link is null
-abbrev pub FindsEnd : HeapNumbers → ℕ → Seat FifoNote → Bool → Seat FifoNote → Type 0
-FindsEnd n head s true t = TakesNone 1 s t
-FindsEnd n head s false t = HasStopped n 1 (Next head) null (λ own. ⊥) s t
+abbrev pub FindsEnd : HeapNumbers → ℕ → Seat FifoNote → TakeTurn → Seat FifoNote → Type 0
+FindsEnd n head s TakeEmpty t = TakesNone 1 s t
+FindsEnd n head s TakeOver t = HasStopped n 1 (Next head) null (λ own. ⊥) s t
+FindsEnd n head s (TakeDone job at) t = ⊥
 
 -- the own events of a pass that helps, from its looks at the successor on
 abbrev pub HelpsHead : Seat FifoNote → ℕ → List (Event FifoNote) → Type 0

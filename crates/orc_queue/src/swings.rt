@@ -1,6 +1,6 @@
 //! Swings of the queue's links.
 
-ghost use Rattle.std.specs.Prelude.{◌≡◌, ◌<◌, ℕ, Some, true};
+ghost use Rattle.std.specs.Prelude.{IfSome, ◌≡◌, ◌<◌, ℕ, Some, true};
 ghost use mathlib.Core.List.{IsPrefix};
 ghost use Rattle.orc_heap.specs.Allowed.{AllowedLater, HasLink, IsLinkedNode};
 ghost use Rattle.orc_heap.specs.Calls.{Swings, move_of};
@@ -8,6 +8,7 @@ ghost use Rattle.orc_heap.specs.Journals.{run_heap};
 ghost use Rattle.orc_heap.specs.Seats.{HoldsPlace, HoldsWant, IsNotFresh, link_in, place_in};
 ghost use Rattle.orc_heap.specs.Slots.{Holds, IsFree, id_in};
 ghost use Rattle.orc_fifo_rule.specs.QueueDiscipline.{FifoMay};
+ghost use Rattle.orc_fifo_rule.specs.Watches.{WasNamed};
 ghost use Rattle.orc_queue.specs.Looking.{LooksAtRoot, LooksBehind};
 ghost use Rattle.orc_queue.specs.Turns.{HasDummy, Helps};
 ghost use Rattle.orc_heap.specs.Heap.{link_to};
@@ -46,6 +47,9 @@ pub(crate) fn hold_root<L: Links<Rule = Fifo>>(
     ensures pass { L.belongs links.now p.new }
     ensures later { IsPrefix (L.journal p.old) (L.journal p.new) }
     ensures looked { LooksAtRoot (L.numbers links.now) root slot (L.seat links.now p.old) result (L.seat links.now p.new) }
+    ensures held { IfSome result (λ node. Holds (L.seat links.now p.new).slots node) }
+    ensures named { IfSome result (λ node. WasNamed (run_heap (L.numbers links.now) (L.seat links.now p.new).seen) root
+        (id_in (L.seat links.now p.new).slots node)) }
 {
     match links.look(p, &At::Root(root), slot) {
         Looked::Stable(_, Some(node)) => Some(node),

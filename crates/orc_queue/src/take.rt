@@ -5,9 +5,9 @@ ghost use mathlib.Core.List.{IsPrefix};
 ghost use Rattle.orc_heap.specs.Journals.{run_heap};
 ghost use Rattle.orc_heap.specs.Seats.{IsIdle};
 ghost use Rattle.orc_heap.specs.Slots.{Holds, IsFree, id_in};
-ghost use Rattle.orc_fifo_rule.specs.Watches.{IsLeftBehind, WasNamed};
+ghost use Rattle.orc_fifo_rule.specs.Watches.{WasNamed};
 ghost use Rattle.orc_queue.specs.Answers.{TakeAnswers};
-ghost use Rattle.orc_queue.specs.Turns.{HasDummy, FindsEnd, TakesBehind, TakesFrom, TakesFromHead, TakesTurn, TakesTurns};
+ghost use Rattle.orc_queue.specs.Turns.{HasDummy, FindsEnd, TakesBehind, TakesFromHead, TakesTurn, TakesTurns};
 ghost use Rattle.orc_heap.specs.Allowed.{HasLink};
 ghost use Rattle.orc_heap.specs.Heap.{link_to};
 
@@ -28,43 +28,7 @@ pub enum TakeTurn {
     Empty,
 }
 
-// Takes the successor's job: the head goes on to it.
-fn swing_head<L: Links<Rule = Fifo>>(
-    links: &L,
-    p: &mut L::Pass,
-    head: &Held,
-    next: &Held,
-) -> TakeTurn
-    requires pass { L.belongs links.now p.old }
-    requires made { HasDummy (L.numbers links.now) (L.opening links.now) }
-    requires held { Holds (L.seat links.now p.old).slots head.now × Holds (L.seat links.now p.old).slots next.now }
-    requires left { IsLeftBehind (run_heap (L.numbers links.now) (L.seat links.now p.old).seen) (id_in (L.seat links.now p.old).slots head.now) }
-    requires successor { HasLink (run_heap (L.numbers links.now) (L.seat links.now p.old).seen)
-        (id_in (L.seat links.now p.old).slots head.now) (link_to (id_in (L.seat links.now p.old).slots next.now)) }
-    ensures pass { L.belongs links.now p.new }
-    ensures later { IsPrefix (L.journal p.old) (L.journal p.new) }
-    ensures took { TakesFrom (L.numbers links.now) (id_in (L.seat links.now p.old).slots head.now) (L.seat links.now p.old) result (L.seat links.now p.new) }
-{
-    let job = links.value(p, next, 0);
-    let at = links.value(p, next, 1) - 1;
-    let agent = links.agent(p);
-    let took = FifoNote::Entry(QueueEntry::Took { agent, job, at });
-    let new = Want::Node(next, false);
-    if change(
-        links,
-        p,
-        &At::Root(HEAD),
-        &Want::Node(head, false),
-        &new,
-        took,
-    ) {
-        TakeTurn::Took(job, at)
-    } else {
-        TakeTurn::Over
-    }
-}
-
-// Goes on from the head and its successor: helps the tail on if it still names the head, or takes the job.
+// Goes on from the head and its successor: helps the tail on if it still names the head, or takes the job, and the head goes on.
 fn take_next<L: Links<Rule = Fifo>>(
     links: &L,
     p: &mut L::Pass,
@@ -86,11 +50,27 @@ fn take_next<L: Links<Rule = Fifo>>(
         help_tail(links, p, head, next);
         return TakeTurn::Over;
     }
-    swing_head(links, p, head, next)
+    let job = links.value(p, next, 0);
+    let at = links.value(p, next, 1) - 1;
+    let agent = links.agent(p);
+    let took = FifoNote::Entry(QueueEntry::Took { agent, job, at });
+    let new = Want::Node(next, false);
+    if change(
+        links,
+        p,
+        &At::Root(HEAD),
+        &Want::Node(head, false),
+        &new,
+        took,
+    ) {
+        TakeTurn::Took(job, at)
+    } else {
+        TakeTurn::Over
+    }
 }
 
-// Answers whether the head, whose link was null, still has a null link. Then the queue is empty.
-fn finds_end<L: Links<Rule = Fifo>>(links: &L, p: &mut L::Pass, head: &Held) -> bool
+// Tests whether the head, whose link was null, still has a null link. Then the queue is empty.
+fn finds_end<L: Links<Rule = Fifo>>(links: &L, p: &mut L::Pass, head: &Held) -> TakeTurn
     requires pass { L.belongs links.now p.old }
     requires made { HasDummy (L.numbers links.now) (L.opening links.now) }
     requires held { Holds (L.seat links.now p.old).slots head.now }
@@ -101,7 +81,11 @@ fn finds_end<L: Links<Rule = Fifo>>(links: &L, p: &mut L::Pass, head: &Held) -> 
 {
     let agent = links.agent(p);
     let empty = FifoNote::Entry(QueueEntry::Empty { agent });
-    links.same(p, &At::Node(head), &Want::Null(false), Some(empty))
+    if links.same(p, &At::Node(head), &Want::Null(false), Some(empty)) {
+        TakeTurn::Empty
+    } else {
+        TakeTurn::Over
+    }
 }
 
 // Goes on from the node that the head named.
@@ -116,13 +100,7 @@ fn take_behind<L: Links<Rule = Fifo>>(links: &L, p: &mut L::Pass, head: &Held) -
     ensures took { TakesBehind (L.numbers links.now) (id_in (L.seat links.now p.old).slots head.now) (L.seat links.now p.old) result (L.seat links.now p.new) }
 {
     match hold_next(links, p, head, 2) {
-        Successor::Nothing => {
-            if finds_end(links, p, head) {
-                TakeTurn::Empty
-            } else {
-                TakeTurn::Over
-            }
-        }
+        Successor::Nothing => finds_end(links, p, head),
         Successor::Node(next) => {
             let turn = take_next(links, p, head, &next);
             links.release(p, next);

@@ -2,22 +2,16 @@
 use Rattle.std.proofs.Common.{arith}
 use Rattle.orc_heap.specs.Slots.{id_in}
 use Rattle.orc_queue.proofs.Behind.{behind_piece}
-use Rattle.orc_queue.proofs.Holding.{found_free, found_holds, found_kept, pass_known}
-use Rattle.orc_queue.proofs.Looking.{root_fresh, root_named}
+use Rattle.orc_queue.proofs.Holding.{found_free, found_kept, pass_known}
+use Rattle.orc_queue.proofs.Looking.{root_fresh}
 use Rattle.orc_queue.proofs.PutTurns.{turn_found, turn_moved}
 use Rattle.orc_queue.proofs.put.put_turn.Goals as goal
 
-pub put_behind-turn-requires : goal.put_behind-turn-requires
-put_behind-turn-requires g c =
-    let f = c.in-Some.ensures.looked in
-    record {
-      pass = c.in-Some.ensures.pass;
-      made = c.requires.made;
-      node = root_fresh f c.args.job c.args.node.now c.requires.node;
-      tail = found_holds f.node;
-      slot = found_free f.node 3 (λ k. omega (arith, k)) c.requires.slots.1;
-      named = root_named f;
-    }
+pub put_behind-turn-requires-clause-node : goal.put_behind-turn-requires-clause-node
+put_behind-turn-requires-clause-node g c = root_fresh c.in-Some.ensures.looked c.args.job c.args.node.now c.requires.node
+
+pub put_behind-turn-requires-clause-slot : goal.put_behind-turn-requires-clause-slot
+put_behind-turn-requires-clause-slot g c = found_free c.in-Some.ensures.looked.node 3 (λ k. omega (arith, k)) c.requires.slots.1
 
 pub release-requires-clause-held : goal.release-requires-clause-held
 release-requires-clause-held g c =

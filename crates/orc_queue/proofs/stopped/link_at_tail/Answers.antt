@@ -4,9 +4,9 @@ use Rattle.orc_heap.specs.Slots.{id_in}
 use Rattle.orc_heap.proofs.Calls.{Puts-trans}
 use Rattle.orc_heap.proofs.Pieces.{puts_released}
 use Rattle.orc_queue.specs.Answers.{stop_entries}
-use Rattle.orc_queue.proofs.Holding.{found_fresh, found_holds, found_kept, found_released}
+use Rattle.orc_queue.proofs.Holding.{found_fresh, found_kept, found_released}
 use Rattle.orc_queue.proofs.Linking.{LinkKept, link_kept}
-use Rattle.orc_queue.proofs.Looking.{root_fresh, root_named}
+use Rattle.orc_queue.proofs.Looking.{root_fresh}
 use Rattle.orc_queue.proofs.Missing.{full_over, link_full, moved_full, root_still}
 use Rattle.orc_queue.proofs.Pieces.{linked_puts}
 use Rattle.orc_queue.proofs.stopped.link_at_tail.Given.{Over}
@@ -20,16 +20,8 @@ kept g c =
     let tail = id_in (g.L.Links.seat _ c.hold_root.new.p).slots c.in-Some.tail in
     link_kept _ c.args.job tail c.args.node.now _ _ c.link_node-turn.result c.link_node-turn.ensures.linked
 
-pub link_node-turn-requires : goal.link_node-turn-requires
-link_node-turn-requires g c =
-    let f = c.in-Some.ensures.looked in
-    record {
-      pass = c.in-Some.ensures.pass;
-      made = c.requires.made;
-      node = root_fresh f c.args.job c.args.node.now c.requires.node;
-      tail = found_holds f.node;
-      named = root_named f;
-    }
+pub link_node-turn-requires-clause-node : goal.link_node-turn-requires-clause-node
+link_node-turn-requires-clause-node g c = root_fresh c.in-Some.ensures.looked c.args.job c.args.node.now c.requires.node
 
 pub release-requires-clause-held : goal.release-requires-clause-held
 release-requires-clause-held g c =

@@ -1,8 +1,8 @@
 -- The root is there, and it is never null.
 use Rattle.orc_heap.proofs.ByAnswer.{Looks-held, Looks-null}
 use Rattle.orc_heap.specs.declared.events.Place.TheVariants.{Root}
-use Rattle.orc_queue.proofs.Holding.{pass_known}
-use Rattle.orc_queue.proofs.Looking.{found_two, root_held, root_not_null, roots_there}
+use Rattle.orc_queue.proofs.Holding.{found_holds, pass_known}
+use Rattle.orc_queue.proofs.Looking.{found_two, root_held, root_named, root_not_null, roots_there}
 use Rattle.orc_queue.proofs.swings.hold_root.Goals as goal
 
 pub look-requires-clause-place : goal.look-requires-clause-place
@@ -29,3 +29,9 @@ returns-in-Moved-clause-looked g c =
     let e = c.in-Moved.ensures in
     let known = pass_known g.L.Links g.met.L.Links.opens g.met.L.Links.allowed g.met.L.Links.obeys _ in
     found_two _ _ _ _ c.args.slot (known c.args.p.now c.requires.made c.requires.pass) (known c.look.new.p c.requires.made e.pass) e.looked
+
+pub returns-in-Stable-default-Some-clause-held : goal.returns-in-Stable-default-Some-clause-held
+returns-in-Stable-default-Some-clause-held g c = found_holds (returns-in-Stable-default-Some-clause-looked g c).node
+
+pub returns-in-Stable-default-Some-clause-named : goal.returns-in-Stable-default-Some-clause-named
+returns-in-Stable-default-Some-clause-named g c = root_named (returns-in-Stable-default-Some-clause-looked g c)

@@ -1,5 +1,5 @@
 -- By what the look of the head's link found.
-use Rattle.std.proofs.Common.{Bool, false, subst, sym, ℕ}
+use Rattle.std.proofs.Common.{subst, sym, ℕ}
 use Rattle.orc_heap.specs.Seats.{heap_of}
 use Rattle.orc_heap.specs.Slots.{Slots, id_in}
 use Rattle.orc_fifo_rule.specs.Watches.{WasNamed}
@@ -7,30 +7,20 @@ use Rattle.orc_queue.specs.Turns.{FindsEnd}
 use Rattle.orc_queue.proofs.Holding.{found_holds, found_kept, found_other, found_other_id}
 use Rattle.orc_queue.proofs.Looking.{next_link, null_named}
 use Rattle.orc_queue.proofs.Pieces.{named_puts}
-use Rattle.orc_queue.proofs.TakeTurns.{behind_differs, behind_empty, behind_lost, next_piece, next_turn}
+use Rattle.orc_queue.proofs.TakeTurns.{behind_differs, behind_end, next_piece, next_turn}
 use Rattle.orc_queue.proofs.take.take_behind.Goals as goal
 
 pub finds_end-requires-clause-named : goal.finds_end-requires-clause-named
 finds_end-requires-clause-named g c = null_named _ _ _ 0 c.args.head.now c.in-Nothing.ensures.looked c.requires.named
 
-pub returns-then-finds_end-clause-took : goal.returns-then-finds_end-clause-took
-returns-then-finds_end-clause-took g c =
+pub returns-in-Nothing-clause-took : goal.returns-in-Nothing-clause-took
+returns-in-Nothing-clause-took g c =
     let f = c.in-Nothing.ensures.looked in
     let n = g.L.Links.numbers _ in
     let a = g.L.Links.seat _ c.hold_next.new.p in
     let t = g.L.Links.seat _ c.finds_end.new.p in
-    let found = subst (λ (o : Bool). FindsEnd n (id_in a.slots c.args.head.now) a o t) c.if-finds_end.true c.finds_end.ensures.found in
-    behind_empty n _ _ a t c.requires.named.linked f.puts f.after.all f.slots f.fresh found
-
-pub returns-else-finds_end-clause-took : goal.returns-else-finds_end-clause-took
-returns-else-finds_end-clause-took g c =
-    let f = c.in-Nothing.ensures.looked in
-    let n = g.L.Links.numbers _ in
-    let a = g.L.Links.seat _ c.hold_next.new.p in
-    let t = g.L.Links.seat _ c.finds_end.new.p in
-    let found = subst (λ (o : Bool). FindsEnd n (id_in a.slots c.args.head.now) a o t) c.if-finds_end.false c.finds_end.ensures.found in
-    behind_lost n _ _ a t c.requires.named.linked f.puts f.after.all f.slots f.fresh
-    (subst (λ (z : Slots). FindsEnd n (id_in z c.args.head.now) a false t) f.slots found)
+    let found = subst (λ (z : Slots). FindsEnd n (id_in z c.args.head.now) a c.finds_end.result t) f.slots c.finds_end.ensures.found in
+    behind_end n _ _ a t c.requires.named.linked f.puts f.after.all f.slots f.fresh c.finds_end.result found
 
 pub take_next-turn-requires : goal.take_next-turn-requires
 take_next-turn-requires g c =

@@ -1,21 +1,12 @@
 -- A turn: what the look of the head found, and what came of it.
 use Rattle.std.proofs.Common.{arith}
 use Rattle.orc_heap.specs.Slots.{id_in}
-use Rattle.orc_queue.proofs.Holding.{found_free, found_holds, found_kept}
-use Rattle.orc_queue.proofs.Looking.{root_named}
+use Rattle.orc_queue.proofs.Holding.{found_free, found_kept}
 use Rattle.orc_queue.proofs.TakeTurns.{behind_kept, turn_differs, turn_found}
 use Rattle.orc_queue.proofs.take.take_turn.Goals as goal
 
-pub take_behind-turn-requires : goal.take_behind-turn-requires
-take_behind-turn-requires g c =
-    let f = c.in-Some.ensures.looked in
-    record {
-      pass = c.in-Some.ensures.pass;
-      made = c.requires.made;
-      held = found_holds f.node;
-      slot = found_free f.node 2 (λ k. omega (arith, k)) c.requires.slots.1;
-      named = root_named f;
-    }
+pub take_behind-turn-requires-clause-slot : goal.take_behind-turn-requires-clause-slot
+take_behind-turn-requires-clause-slot g c = found_free c.in-Some.ensures.looked.node 2 (λ k. omega (arith, k)) c.requires.slots.1
 
 pub release-requires-clause-held : goal.release-requires-clause-held
 release-requires-clause-held g c =
