@@ -1,5 +1,5 @@
 -- What a rank of a set owes: entries are allowed where a search found the key absent or present.
-use Rattle.std.proofs.Common.{List, Option, Some, [], false, inl, inr, refl, subst, sym, ℕ, ◌∷◌, ◌≡◌}
+use Rattle.std.proofs.Common.{List, Option, Some, [], false, inl, inr, refl, ℕ, ◌∷◌, ◌≡◌}
 use Rattle.orc_heap.specs.Allowed.{AllowedLater}
 use Rattle.orc_heap.specs.Heap.{HeapNumbers}
 use Rattle.orc_heap.specs.Journals.{event_by, run_heap}
@@ -25,12 +25,8 @@ split_enters n entry = refl
 absence_allowed : (n : HeapNumbers) (agent : ℕ) (place : Place) (from : Link) (over : List ℕ) (to : Option ℕ) (key : ℕ) (entry : SetEntry)
     (seen : List (Event SplitNote)) → IsAbsence agent key entry → SplitHolds n seen → LeavesOut (run_heap n seen) place from over to (key_place key)
     → AllowedLater (SplitMay n) n agent seen place from (event_by agent (Look place from) (Some (Entry entry)))
-absence_allowed n agent place from over to key entry seen (inl is) holds out =
-    subst (λ (x : SetEntry). AllowedLater (SplitMay n) n agent seen place from (event_by agent (Look place from) (Some (Entry x)))) (sym is)
-    (removed_absent_allowed n agent place from over to key seen holds out)
-absence_allowed n agent place from over to key entry seen (inr is) holds out =
-    subst (λ (x : SetEntry). AllowedLater (SplitMay n) n agent seen place from (event_by agent (Look place from) (Some (Entry x)))) (sym is)
-    (asked_absent_allowed n agent place from over to key seen holds out)
+absence_allowed n agent place from over to key entry seen (inl is) holds out = rw is (removed_absent_allowed n agent place from over to key seen holds out)
+absence_allowed n agent place from over to key entry seen (inr is) holds out = rw is (asked_absent_allowed n agent place from over to key seen holds out)
 
 pub split_allows_absence : (n : HeapNumbers) → AllowsAbsence (split_reading n) (SplitHolds n) (SplitMay n) key_place (λ entry. Entry entry)
 split_allows_absence n = λ agent place from over to key entry seen is holds below plain run above.
@@ -39,12 +35,8 @@ split_allows_absence n = λ agent place from over to key entry seen is holds bel
 presence_allowed : (n : HeapNumbers) (agent id key : ℕ) (link : Link) (entry : SetEntry) (seen : List (Event SplitNote)) → IsPresence agent key entry
     → SplitHolds n seen → HasKey (run_heap n seen) id key → link.mark ≡ false
     → AllowedLater (SplitMay n) n agent seen (Next id) link (event_by agent (Look (Next id) link) (Some (Entry entry)))
-presence_allowed n agent id key link entry seen (inl is) holds own plain =
-    subst (λ (x : SetEntry). AllowedLater (SplitMay n) n agent seen (Next id) link (event_by agent (Look (Next id) link) (Some (Entry x)))) (sym is)
-    (added_present_allowed n agent id key link seen holds own plain)
-presence_allowed n agent id key link entry seen (inr is) holds own plain =
-    subst (λ (x : SetEntry). AllowedLater (SplitMay n) n agent seen (Next id) link (event_by agent (Look (Next id) link) (Some (Entry x)))) (sym is)
-    (asked_present_allowed n agent id key link seen holds own plain)
+presence_allowed n agent id key link entry seen (inl is) holds own plain = rw is (added_present_allowed n agent id key link seen holds own plain)
+presence_allowed n agent id key link entry seen (inr is) holds own plain = rw is (asked_present_allowed n agent id key link seen holds own plain)
 
 pub split_allows_presence : (n : HeapNumbers) → AllowsPresence (split_reading n) (SplitHolds n) (SplitMay n) key_place (λ entry. Entry entry)
 split_allows_presence n = λ agent id key link entry seen is holds own plain.

@@ -7,7 +7,5 @@ use Rattle.orc_split_set.proofs.set.SplitSetLearnSet.learn.Goals as goal
 
 pub returns-clause-learned : goal.returns-clause-learned
 returns-clause-learned g c =
-    let d = c.args.self.now.links in
-    let usable = c.requires.usable in
-    learned_entries g.L.Links entries_in agent_of_set_entry SplitMay entries_own d _ _ _ _ c.learn.ensures.learned (g.met.L.Links.seen_is d)
-    (g.met.L.Links.allowed d) usable.0.0 usable.1.0 c.learn.ensures.passes.0
+    learned_entries g.L.Links entries_in agent_of_set_entry SplitMay entries_own _ _ _ _ _ c.learn.ensures.learned (g.met.L.Links.seen_is _)
+    (g.met.L.Links.allowed _) c.requires.usable.0.0 c.requires.usable.1.0 c.learn.ensures.passes.0
