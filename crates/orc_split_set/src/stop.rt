@@ -41,11 +41,9 @@ pub(crate) fn stop_a_bucket<L: Links<Rule = Split>>(
         } => match links.give(p, 1, u64::from(bucket), 0) {
             Ok(dummy) => {
                 let note = SplitNote::Bucket;
-                let linked = add_node::<SplitPlace, L>(
-                    links, p, 0, note, left, first, right, &dummy,
-                );
+                let done = add_node::<SplitPlace, L>(links, p, 0, note, left, first, right, &dummy);
                 links.release(p, dummy);
-                turn_of(passed, linked)
+                turn_of(passed, done)
             }
             Err(_) => {
                 let_all_go::<SplitPlace, L>(links, p, left, first, right, None);

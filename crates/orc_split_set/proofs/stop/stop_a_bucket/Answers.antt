@@ -70,11 +70,11 @@ pub give-requires-clause-no_other : goal.give-requires-clause-no_other
 give-requires-clause-no_other g c =
     (absent g (goal.at.give-requires-clause-no_other g c).In-Absent).behind.quiet.fresh ∙ c.requires.idle.fresh
 
-pub add_node-linked-requires-clause-adds : goal.add_node-linked-requires-clause-adds
-add_node-linked-requires-clause-adds g c =
+pub add_node-done-requires-clause-adds : goal.add_node-done-requires-clause-adds
+add_node-done-requires-clause-adds g c =
     let s = g.L.Links.seat c.args.links.now c.args.p.now in
     let x = c.in-Absent in
-    let h = new_dummy g (goal.at.add_node-linked-requires-clause-adds g c).In-Ok in
+    let h = new_dummy g (goal.at.add_node-done-requires-clause-adds g c).In-Ok in
     dummy_to_add _ c.args.bucket x.left x.first x.right c.in-Ok.dummy s _ h c.requires.bucket.0 c.requires.bucket.1
 
 pub release-requires-clause-held : goal.release-requires-clause-held
@@ -82,9 +82,9 @@ release-requires-clause-held g c =
     let s = g.L.Links.seat c.args.links.now c.args.p.now in
     let x = c.in-Absent in
     let h = new_dummy g (goal.at.release-requires-clause-held g c).In-Ok in
-    turn_held _ c.args.bucket x.left x.first x.right c.in-Ok.dummy s _ _ h c.add_node-linked.result
+    turn_held _ c.args.bucket x.left x.first x.right c.in-Ok.dummy s _ _ h c.add_node-done.result
     (dummy_added _ c.args.bucket c.in-Absent.left c.in-Absent.first c.in-Absent.right c.in-Ok.dummy s _ _ h c.requires.bucket.0 c.requires.bucket.1 _ _ refl
-    c.add_node-linked.ensures.added)
+    c.add_node-done.ensures.added)
 
 pub returns-in-Ok-clause-stopped : goal.returns-in-Ok-clause-stopped
 returns-in-Ok-clause-stopped g c =
@@ -93,32 +93,32 @@ returns-in-Ok-clause-stopped g c =
     let h = new_dummy g (goal.at.returns-in-Ok-clause-stopped g c).In-Ok in
     let n = g.L.Links.numbers c.args.links.now in
     let u = g.L.Links.seat c.args.links.now c.give.new.p in
-    let v = g.L.Links.seat c.args.links.now c.add_node-linked.new.p in
+    let v = g.L.Links.seat c.args.links.now c.add_node-done.new.p in
     let w = g.L.Links.seat c.args.links.now c.release.new.p in
-    let k = c.add_node-linked.ensures in
+    let k = c.add_node-done.ensures in
     let to_add = dummy_to_add n c.args.bucket x.left x.first x.right c.in-Ok.dummy s u h c.requires.bucket.0 c.requires.bucket.1 in
     let all = g.met.L.Links.allowed _ _ k.pass in
-    let grows = seen_on g.L.Links g.met.L.Links.steps_add g.met.L.Links.seen_is _ c.give.new.p c.add_node-linked.new.p c.in-Ok.ensures.pass k.pass k.later in
+    let grows = seen_on g.L.Links g.met.L.Links.steps_add g.met.L.Links.seen_is _ c.give.new.p c.add_node-done.new.p c.in-Ok.ensures.pass k.pass k.later in
     subst (λ (turn : InsertTurn). StopsUnnamed n c.args.bucket s turn w) (sym c.turn_of.ensures)
-    (turn_stops n c.args.bucket x.passed x.left x.first x.right c.in-Ok.dummy s u v w h c.add_node-linked.result
+    (turn_stops n c.args.bucket x.passed x.left x.first x.right c.in-Ok.dummy s u v w h c.add_node-done.result
     (dummy_added _ c.args.bucket c.in-Absent.left c.in-Absent.first c.in-Absent.right c.in-Ok.dummy s _ _ h c.requires.bucket.0 c.requires.bucket.1 _ _ refl
-    c.add_node-linked.ensures.added)
+    c.add_node-done.ensures.added)
     (release_goes c.in-Ok.dummy v w c.release.ensures.released) grows (g.met.L.Links.allowed _ _ c.release.ensures.pass)
     (λ is. subst (λ (i : ℕ). IsDummy (heap_of n v) i c.args.bucket) h.id_is (linked_stands n c.args.bucket h.adds.id _ _ _ _ u v (k.linked to_add is) all))
     (λ is. linked_unnamed n c.args.bucket h.adds.id _ _ _ _ u v (k.linked to_add is) all c.requires.bucket.0 c.requires.bucket.1))
 
 pub returns-in-Ok-clause-lacking : goal.returns-in-Ok-clause-lacking
-returns-in-Ok-clause-lacking g c = λ is. absurd (turn_node c.in-Absent.passed c.add_node-linked.result (sym c.turn_of.ensures ∙ is))
+returns-in-Ok-clause-lacking g c = λ is. absurd (turn_node c.in-Absent.passed c.add_node-done.result (sym c.turn_of.ensures ∙ is))
 
 pub returns-in-Ok-clause-worn : goal.returns-in-Ok-clause-worn
 returns-in-Ok-clause-worn g c = λ why is.
     let q = (absent g (goal.at.returns-in-Ok-clause-worn g c).In-Absent).behind.quiet in
     let e = c.in-Ok.ensures in
-    let k = c.add_node-linked.ensures in
-    let w = k.worn why (turn_spent c.in-Absent.passed c.add_node-linked.result why (sym c.turn_of.ensures ∙ is)) in
+    let k = c.add_node-done.ensures in
+    let w = k.worn why (turn_spent c.in-Absent.passed c.add_node-done.result why (sym c.turn_of.ensures ∙ is)) in
     told_later g.L.Links g.met.L.Links.steps_add g.met.L.Links.seen_is c.args.links.now c.args.p.now c.search_for.new.p _ _ c.requires.pass
     c.in-Absent.ensures.pass q.puts q.some c.in-Absent.ensures.later (goes_on _ _ _ e.later (goes_on _ _ _ k.later c.release.ensures.later)) (RootedSpent why)
-    (told_wider g.L.Links g.met.L.Links.lacking_stays g.met.L.Links.worn_stays c.args.links.now c.search_for.new.p c.give.new.p c.add_node-linked.new.p c.release.new.p
+    (told_wider g.L.Links g.met.L.Links.lacking_stays g.met.L.Links.worn_stays c.args.links.now c.search_for.new.p c.give.new.p c.add_node-done.new.p c.release.new.p
     e.given.puts.agent e.later c.release.ensures.later (RootedSpent why) w)
 
 pub let_all_go-requires-clause-hands : goal.let_all_go-requires-clause-hands
