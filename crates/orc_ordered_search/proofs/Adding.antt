@@ -240,14 +240,8 @@ absent_adds ord start wanted passed value kind left first right node slots s t k
     f.hands.held in
     record {
       own = f.own;
-      puts = q.puts;
-      some = q.some;
-      no_entries = q.no_entries;
-      gives = q.no_give;
-      no_move = q.no_move;
-      left_id = f.left_id;
-      first_id = f.first_id;
-      right_id = f.right_id;
+      quiet = record { puts = q.puts; some = q.some; no_entries = q.no_entries; gives = q.no_give; no_move = q.no_move };
+      ids = f.ids;
       hands = f.hands;
       leads = f.behind.leads;
       above = f.above;
@@ -304,14 +298,14 @@ module _ {N : Type 0} (ord : Ordering N) (start : Place) (wanted passed value ki
       (get-set_same t.slots 1 None x give_free.empty) in
       record {
         own = f.own ++ ys;
-        puts = w;
-        some = omega (arith, q.some, length-append f.own ys);
-        no_entries = noted-append ord.reading.entries_in f.own ys ∙ rw q.no_entries (silent_three ord t.agent Give (Fill g.id 0 value) (Fill g.id 1 kind));
-        gives = omega (arith, gives_in-append f.own ys, q.no_give);
-        no_move = omega (arith, moves_in-append f.own ys, q.no_move);
-        left_id = f.left_id;
-        first_id = f.first_id;
-        right_id = f.right_id;
+        quiet = record {
+          puts = w;
+          some = omega (arith, q.some, length-append f.own ys);
+          no_entries = noted-append ord.reading.entries_in f.own ys ∙ rw q.no_entries (silent_three ord t.agent Give (Fill g.id 0 value) (Fill g.id 1 kind));
+          gives = omega (arith, gives_in-append f.own ys, q.no_give);
+          no_move = omega (arith, moves_in-append f.own ys, q.no_move);
+        };
+        ids = f.ids;
         hands = subst (λ (z : Slots). Hands (slice_set s.slots 1 x) z hs) (sym g.slots) (hands_rebase s.slots t.slots hs 1 x f.hands f.apart one.empty);
         leads = leads_puts ord t u ys g.puts all start wanted left first f.left_id f.first_id (node_of right f.right_id) s f.own q.puts w q.some f.behind.leads;
         above = above_puts ord t u ys g.puts all (node_of right f.right_id) wanted f.above;

@@ -95,9 +95,7 @@ module _ {N : Type 0} (ord : Ordering N) (start : Place) (wanted : ℕ) where
           let own : List (Event N) = w.own ++ event_of t (Look (Next w.id) one) None ∷ event_of t (Look (Next w.id) link) None ∷ [] in
           record {
             own = own;
-            left_id = w.id;
-            first_id = w.first_id;
-            next_id = id;
+            ids = record { left_id = w.id; first_id = w.first_id; next_id = id };
             hands = hands_swap s.slots u.slots (hand (Some next) id ∷ []) (hand None w.first_id) o []
                 (hands_again s.slots t.slots u.slots (hand None w.first_id ∷ o ∷ []) left next w.left_id id w.hands in_left slots);
             apart = (λ e. w.apart.0 (e ∙ in_left), (w.apart.1.1.0, (tt, tt)));

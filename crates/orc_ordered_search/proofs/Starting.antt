@@ -106,9 +106,7 @@ module _ {N : Type 0} (ord : Ordering N) (start : Place) (wanted : ℕ) (left : 
       (chain_place_linked ord.reading.order (heap_of ord.reading.numbers t) start b.begins) in
       record {
         own = before ++ e ∷ [];
-        left_id = b.left_id;
-        first_id = 0;
-        next_id = next_id;
+        ids = record { left_id = b.left_id; first_id = 0; next_id = next_id };
         hands = hands;
         apart = (apart, (b.apart.0, (tt, tt)));
         behind = record {

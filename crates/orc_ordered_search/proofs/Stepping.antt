@@ -250,9 +250,7 @@ passed_marked {N} ord start wanted left first at key counted passed next kept s 
       let j = looking_on ord t u g.puts all start wanted left first w.left_id w.first_id w.id key counted passed true (node_of next w.next_id) s w.own k same in
       record {
         own = w.own;
-        left_id = w.left_id;
-        first_id = w.first_id;
-        next_id = w.next_id;
+        ids = record { left_id = w.left_id; first_id = w.first_id; next_id = w.next_id };
         hands = subst (λ (o : Option Hold). Hands s.slots u.slots (hand next w.next_id ∷ hand left w.left_id ∷ hand o w.first_id ∷ [])) c.0
             (goes_hands s.slots t u (Some at) w.id hs g d);
         apart = (w.apart.0, (w.apart.1.0, (subst (λ (o : Option Hold). IsApartOf 1 o) c.0 w.apart.1.1.0, tt)));
@@ -272,9 +270,7 @@ passed_marked {N} ord start wanted left first at key counted passed next kept s 
       let j = looking_on ord t u g.puts all start wanted left first w.left_id w.first_id w.id key counted passed true (node_of next w.next_id) s w.own k g.fresh in
       record {
         own = w.own;
-        left_id = w.left_id;
-        first_id = w.id;
-        next_id = w.next_id;
+        ids = record { left_id = w.left_id; first_id = w.id; next_id = w.next_id };
         hands = subst (λ (h : Hold). Hands s.slots u.slots (hand next w.next_id ∷ hand left w.left_id ∷ hand (Some h) w.id ∷ [])) (sym c.1)
             (goes_hands s.slots t u None w.first_id hs g b);
         apart = (w.apart.0, (w.apart.1.0, (subst (λ (h : Hold). IsApartOf 1 (Some h)) (sym c.1) w.apart.1.1.1.0, tt)));
@@ -307,9 +303,7 @@ passed_lower {N} ord start wanted left first at key counted passed next s t u v 
     let d = hands_swap s.slots v.slots [] (hand None w.first_id) x (o ∷ []) (hands_with_none s.slots v.slots (x ∷ o ∷ []) w.first_id c) in
     record {
       own = w.own;
-      left_id = w.id;
-      first_id = w.first_id;
-      next_id = w.next_id;
+      ids = record { left_id = w.id; first_id = w.first_id; next_id = w.next_id };
       hands = hands_swap s.slots v.slots (x ∷ []) (hand None w.first_id) o [] d;
       apart = (w.apart.0, (w.apart.1.1.1.0, (tt, tt)));
       behind = past_lower ord start wanted left first w.left_id w.first_id w.id key counted passed (node_of next w.next_id) at s w.own v i less;
@@ -328,9 +322,7 @@ passed_none ord start wanted least passed left first s t w =
     let z = hand first w.first_id in
     record {
       own = w.own;
-      left_id = w.left_id;
-      first_id = w.first_id;
-      right_id = w.next_id;
+      ids = w.ids;
       hands = hands_swap s.slots t.slots (y ∷ []) x z [] (hands_swap s.slots t.slots [] x y (z ∷ []) w.hands);
       apart = (w.apart.1.0, (w.apart.1.1.0, (tt, tt)));
       behind = w.behind;
@@ -410,9 +402,7 @@ looks_above {N} ord start wanted left first at key counted passed next s t u w l
     let j = looking_on ord t u g.puts all start wanted left first w.left_id w.first_id w.id key counted passed false (node_of next w.next_id) s w.own k same in
     record {
       own = w.own;
-      left_id = w.left_id;
-      first_id = w.first_id;
-      right_id = w.id;
+      ids = record { left_id = w.left_id; first_id = w.first_id; next_id = w.id };
       hands = goes_hands s.slots t u next w.next_id hs g w.hands;
       apart = w.apart.1;
       behind = j.behind;

@@ -20,7 +20,7 @@ use Rattle.orc_history.specs.declared.set.SetEntry.{SetEntry}
 use Rattle.orc_ordered_chains.specs.Chains.{FollowsOn, IsAbove}
 use Rattle.orc_ordered_search.specs.Entries.{AllowsNode, node_to_link}
 use Rattle.orc_ordered_search.specs.Reading.{Reading}
-use Rattle.orc_ordered_search.specs.Searches.{AllGone, HasRoom, LeadsOver, SeesRun, left_place, node_of}
+use Rattle.orc_ordered_search.specs.Searches.{AllGone, GapIds, HasRoom, LeadsOver, SeesRun, left_place, node_of}
 use Rattle.orc_ordered_search.specs.Steps.{Finds}
 use Rattle.orc_ordered_search.specs.Turns.{AreOver, Made}
 use Rattle.orc_ordered_search.specs.Ways.{EndsRun, IsFew, Sees}
@@ -105,18 +105,22 @@ module _ {N : Type 0} where
     pub keeps : KeepsNode r value kind node slots begun
     pub finds : Finds r start wanted begun found t
 
-  -- the pass has a node to link, and a search found where its rank belongs: so far it made only loads, and what gives the node
-  pub record AddsAt (r : Reading N) (start : Place) (wanted value kind : ℕ) (left first right : Option Hold) (node : Hold) (given : ℕ) (slots : Slots)
-      (s t : Seat N) : Type 0 where
-    pub own : List (Event N)
+  -- the pass made only loads, and at least one, and what gives a node, if it was given
+  pub record QuietGive (r : Reading N) (given : ℕ) (s : Seat N) (own : List (Event N)) (t : Seat N) : Type 0 where
     pub puts : Puts s own t
     pub some : 1 ≤ length own
     pub no_entries : noted_entries r.entries_in own ≡ []
     pub gives : gives_in own ≡ given
     pub no_move : moves_in own ≡ 0
-    pub left_id : ℕ
-    pub first_id : ℕ
-    pub right_id : ℕ
+
+  -- so it did, and has a node to link, and a search found where its rank belongs
+  pub record AddsAt (r : Reading N) (start : Place) (wanted value kind : ℕ) (left first right : Option Hold) (node : Hold) (given : ℕ) (slots : Slots)
+      (s t : Seat N) : Type 0 where
+    pub own : List (Event N)
+    pub quiet : QuietGive r given s own t
+    pub open quiet use *
+    pub ids : GapIds
+    pub open ids use {left_id, first_id, next_id as right_id}
     pub hands : Hands slots t.slots (hand left left_id ∷ hand first first_id ∷ hand right right_id ∷ [])
     pub leads : LeadsOver r start wanted left first left_id first_id (node_of right right_id) s own t puts.part
     pub above : IsAbove r.order (heap_of r.numbers t) (node_of right right_id) wanted

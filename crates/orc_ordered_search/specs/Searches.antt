@@ -68,6 +68,12 @@ pub record HandIds : Type 0 where
   pub id : ℕ
   pub next_id : ℕ
 
+-- the same where the search stands before a node, or at the end
+pub record GapIds : Type 0 where
+  pub left_id : ℕ
+  pub first_id : ℕ
+  pub next_id : ℕ
+
 -- the first of the marked nodes, or else the right node
 abbrev pub first_or : Option Hold → Option Hold → Option Hold
 first_or None right = right
@@ -224,9 +230,8 @@ module _ {N : Type 0} where
   -- the search has gone past a node: behind the left place and a run stands the next node, in hand, which may follow
   pub record Passed (r : Reading N) (start : Place) (wanted least passed : ℕ) (left first next : Option Hold) (s t : Seat N) : Type 0 where
     pub own : List (Event N)
-    pub left_id : ℕ
-    pub first_id : ℕ
-    pub next_id : ℕ
+    pub ids : GapIds
+    pub open ids use *
     pub hands : Hands s.slots t.slots (hand next next_id ∷ hand left left_id ∷ hand first first_id ∷ [])
     pub apart : IsApart 1 (hand next next_id ∷ hand left left_id ∷ hand first first_id ∷ [])
     pub behind : Behind r start wanted left first left_id first_id (node_of next next_id) s own t
@@ -236,9 +241,8 @@ module _ {N : Type 0} where
   -- the key is absent between the left place and the right node, which showed an unmarked link in this search
   pub record FindsAbsent (r : Reading N) (start : Place) (wanted passed : ℕ) (left first right : Option Hold) (s t : Seat N) : Type 0 where
     pub own : List (Event N)
-    pub left_id : ℕ
-    pub first_id : ℕ
-    pub right_id : ℕ
+    pub ids : GapIds
+    pub open ids use {left_id, first_id, next_id as right_id}
     pub hands : Hands s.slots t.slots (hand left left_id ∷ hand first first_id ∷ hand right right_id ∷ [])
     pub apart : IsApart 1 (hand left left_id ∷ hand first first_id ∷ hand right right_id ∷ [])
     pub behind : Behind r start wanted left first left_id first_id (node_of right right_id) s own t
