@@ -1,10 +1,11 @@
 -- A pass takes in all others of its domain.
-use Rattle.std.proofs.Common.{List, [], arith, drop, length, subst, sym, ℕ, ◌<◌, ◌∙◌, ◌∷◌, ◌≡◌, ◌++◌}
+use Rattle.std.proofs.Common.{All, List, [], arith, drop, length, subst, sym, ℕ, ◌<◌, ◌∙◌, ◌∷◌, ◌≡◌, ◌++◌}
 use Rattle.std.proofs.lemmas.List.Elements.{recursion_from_All}
 use Rattle.std.specs.List.{AllByRecursion}
 use Rattle.orc_machine_rest.proofs.TakingIn.{takes_more, takes_none, covers, first_number, nothing_new}
 use Rattle.orc_machine_rest.specs.Ends.{TakesInSteps}
 use Rattle.orc_core.specs.declared.records.Agent.{Agent}
+use Rattle.orc_heap.specs.Seats.{IsIdle}
 use Rattle.orc_heap.specs.declared.discipline.Discipline as discipline
 use Rattle.orc_machine_board.specs.Passes.{AbsorbsSteps, TookInAll}
 use Rattle.orc_machine_board.specs.Views.{Belongs, MachineView, shows}
@@ -13,9 +14,10 @@ use Rattle.orc_machine_board.specs.declared.machine.MachineShape.{MachineShape}
 use Rattle.orc_machine_board.specs.declared.machine.Reclaiming.{Reclaiming}
 use Rattle.orc_machine_board.specs.declared.machine.Request.{Request}
 use Rattle.orc_domain.specs.Ends.{AreAll, SawAll, whole_journal}
-use Rattle.orc_domain.specs.Passes.{IsPassOf, domain_bounds}
+use Rattle.orc_domain.specs.Passes.{IsPassOf, domain_bounds, seat_of}
 use Rattle.orc_domain.specs.declared.domain.OrcDomain.{OrcDomain}
 use Rattle.orc_domain.specs.declared.domain.OrcPass.{OrcPass}
+use Rattle.orc_shared_words.specs.Lists.{EachAt}
 use Rattle.orc_shared_words.specs.declared.machine.Machine as machine
 use Rattle.orc_sound.specs.declared.steps.Step.{Step}
 use Rattle.orc_machine_rest.proofs.Resting.{still_at_rest}
@@ -58,6 +60,11 @@ module _ {D N : Type 0} {d : discipline.Ghosts D N} {m : machine.Ghosts Reclaimi
         (all rest : List (OrcPass D N (MachineShape N) Request (Step N) Agent Agent d m)) → Taking p q all rest → rest ≡ []
         → TakesInSteps view (shows p) (shows q) all
     taking_done p q all rest t is = t.to_go (shows q) (takes_none view (shows q) rest is)
+
+    -- passes that are each idle are all passes of the domain
+    pub all_passes : (ps : List (OrcPass D N (MachineShape N) Request (Step N) Agent Agent d m)) → length ps ≡ (domain_bounds domain).agents
+        → All (λ p. IsPassOf domain p × IsIdle (seat_of domain p)) ps → EachAt (λ i p. (shows p.pass).agent ≡ i) ps → AreAll domain ps
+    all_passes ps many each order = record { many = many; belong = λ i p low. (each i p low).0; order = order }
 
     pub some_passes : (ps : List (OrcPass D N (MachineShape N) Request (Step N) Agent Agent d m)) → AreAll domain ps → 0 < length ps
     some_passes ps all = let many = all.many in let some = domain.board.words.shape.shape.some_agents in omega (arith, many, some)

@@ -14,8 +14,8 @@ ghost use Rattle.orc_words.specs.Bounds.{bounds_of};
 
 use crate::at_rest::OrcRest;
 use crate::domain::{OrcDomain, OrcPass};
+use crate::make::MadeOrcDomain;
 use orc_any_domain::{Domain, RowCounts};
-use orc_fault::NoMemory;
 use orc_heap::{Discipline, Links, Seed};
 use orc_words::Shape;
 use std::alloc::Global;
@@ -39,11 +39,7 @@ impl<D: Discipline> Domain for OrcDomain<D> {
 
     ghost rests = { λ d passes r. IsRestOf d passes r };
 
-    fn make(
-        alloc: Global,
-        shape: &Shape,
-        seed: Seed<D::Note>,
-    ) -> Result<(OrcDomain<D>, Vec<OrcPass<D>>), NoMemory>
+    fn make(alloc: Global, shape: &Shape, seed: Seed<D::Note>) -> MadeOrcDomain<D>
         requires holds { D.holds (heap_numbers (bounds_of shape.now)) [] }
         requires seed { SeedAllowed D.may (heap_numbers (bounds_of shape.now)) seed }
         ensures bounds { IfOk result (λ made. domain_bounds made.0 ≡ bounds_of shape.now) }

@@ -17,4 +17,5 @@ mod steps;
 
 pub use at_rest::OrcRest;
 pub use domain::{OrcDomain, OrcPass};
+pub use make::MadeOrcDomain;
 pub use reached::what_is_left_is_reached;

@@ -18,17 +18,16 @@ use orc_plain_domain::first_row;
 use orc_words::Shape;
 use std::alloc::Global;
 
+/// A domain and its passes, or no memory.
+pub type MadeOrcDomain<D> = Result<(OrcDomain<D>, Vec<OrcPass<D>>), NoMemory>;
+
 impl<D: Discipline> OrcDomain<D> {
     /// A domain, and one pass an agent, in order. Its journal begins with the seed's events, of agent 0.
     ///
     /// # Errors
     ///
     /// `NoMemory` where memory is refused.
-    pub fn make(
-        alloc: Global,
-        shape: &Shape,
-        seed: Seed<D::Note>,
-    ) -> Result<(OrcDomain<D>, Vec<OrcPass<D>>), NoMemory>
+    pub fn make(alloc: Global, shape: &Shape, seed: Seed<D::Note>) -> MadeOrcDomain<D>
         requires holds { D.holds (numbers_of (bounds_of shape.now)) [] }
         requires seed { SeedAllowed D.may (numbers_of (bounds_of shape.now)) seed }
         ensures bounds { IfOk result (λ made. domain_bounds made.0 ≡ bounds_of shape.now) }

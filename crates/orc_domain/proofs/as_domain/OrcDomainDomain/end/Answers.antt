@@ -1,17 +1,12 @@
 use Rattle.orc_domain.proofs.Quiet.{rests_quietly}
-use Rattle.orc_domain.proofs.Resting.{some_passes}
-use Rattle.orc_domain.specs.Ends.{AreAll}
+use Rattle.orc_domain.proofs.Resting.{all_passes, some_passes}
 use Rattle.orc_domain.specs.Passes.{domain_bounds}
 use Rattle.orc_domain.proofs.as_domain.OrcDomainDomain.end.Goals as goal
 
 pub returns : goal.returns
 returns g c =
     let domain = c.args.self in
-    let all : AreAll domain c.args.passes.items = record {
-      many = c.requires.many;
-      belong = λ i p low. (c.requires.each i p low).0;
-      order = c.requires.order;
-    } in
+    let all = all_passes domain c.args.passes.items c.requires.many c.requires.each c.requires.order in
     record {
       domain_is = c.rest.ensures.domain;
       shown = c.rest.ensures.shown;

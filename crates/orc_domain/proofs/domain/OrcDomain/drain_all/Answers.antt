@@ -1,4 +1,4 @@
-use Rattle.std.proofs.Common.{◌∷◌}
+use Rattle.std.proofs.Common.{rules, ◌∷◌}
 use Rattle.orc_domain.proofs.Resting.{first_of, others_of}
 use Rattle.orc_domain.proofs.DrainingAll.{Drained, drained, first_differs, idle2, numbered_others, seen_others, third_differs}
 use Rattle.orc_domain.proofs.domain.OrcDomain.drain_all.Given.{Over}
@@ -58,17 +58,4 @@ ended g c =
     c.learn_all-in-Some.ensures.first c.learn_all-in-Some.ensures.others
 
 pub returns-in-Some : goal.returns-in-Some
-returns-in-Some g c =
-    let e = ended g (goal.at.returns-in-Some g c).After-learn_all-in-Some in
-    record {
-      all = e.all;
-      idle = e.idle;
-      settled = e.settled;
-      one_list = e.one_list;
-      own = e.own;
-      rest = e.rest;
-      later = e.later;
-      heard = e.heard;
-      longest = e.longest;
-      quiet = e.quiet;
-    }
+returns-in-Some g c = let e = ended g (goal.at.returns-in-Some g c).After-learn_all-in-Some in search rules

@@ -1,4 +1,4 @@
-use Rattle.std.proofs.Common.{subst, sym}
+use Rattle.std.proofs.Common.{rules, subst, sym}
 use Rattle.orc_core.specs.declared.ops.Op.TheVariants.{Fill}
 use Rattle.orc_machine_board.specs.Kinds.{MakesPlain, MayDo}
 use Rattle.orc_machine_board.specs.Views.{shows}
@@ -31,16 +31,11 @@ fill-requires-clause-allowed g c =
     subst (λ r. MayDo (domain_bounds c.args.self.now) (shows c.args.p.now.pass) (Fill r c.args.which c.args.value)) (sym c.row.ensures)
     (fill_can (stage_of c.requires.pass.board) c.args.fresh.now c.requires.fresh c.args.which c.requires.which c.args.value c.requires.pass.ready)
 
-pub returns-clause-filled : goal.returns-clause-filled
-returns-clause-filled g c =
-    fills (stage_of c.requires.pass.board) c.args.fresh.now c.requires.fresh c.args.which c.requires.which c.args.value (stage_of c.fill.ensures.belongs)
-    c.fill.result (made g (goal.at.returns-clause-filled g c).After-fill)
-
-pub returns-clause-later : goal.returns-clause-later
-returns-clause-later g c = ends_later (ended g (goal.at.returns-clause-later g c).After-fill)
-
-pub returns-clause-pass : goal.returns-clause-pass
-returns-clause-pass g c = pass_of c.fill.ensures.belongs (ended g (goal.at.returns-clause-pass g c).After-fill).between c.requires.pass.inside
-
-pub returns-clause-taken_in : goal.returns-clause-taken_in
-returns-clause-taken_in g c = (ended g (goal.at.returns-clause-taken_in g c).After-fill).leaves
+pub returns : goal.returns
+returns g c =
+    let e = ended g (goal.at.returns g c).After-fill in
+    let filled = fills (stage_of c.requires.pass.board) c.args.fresh.now c.requires.fresh c.args.which c.requires.which c.args.value
+    (stage_of c.fill.ensures.belongs) c.fill.result (made g (goal.at.returns g c).After-fill) in
+    let pass = pass_of c.fill.ensures.belongs e.between c.requires.pass.inside in
+    let later = ends_later e in
+    search rules

@@ -1,4 +1,4 @@
-use Rattle.std.proofs.Common.{subst, sym}
+use Rattle.std.proofs.Common.{rules, subst, sym}
 use Rattle.orc_core.specs.declared.ops.Op.TheVariants.{Read}
 use Rattle.orc_machine_board.specs.Kinds.{MakesPlain, MayDo}
 use Rattle.orc_machine_board.specs.Views.{shows}
@@ -30,21 +30,13 @@ read-requires-clause-allowed g c =
     subst (λ r. MayDo (domain_bounds c.args.self.now) (shows c.args.p.now.pass) (Read r c.args.which)) (sym c.row.ensures)
     (may_read (stage_of c.requires.pass.board) c.args.h.now c.requires.held c.args.which c.requires.which c.requires.pass.ready)
 
-pub returns-clause-value : goal.returns-clause-value
-returns-clause-value g c =
-    reads_value (stage_of c.requires.pass.board) c.args.h.now c.requires.held c.args.which c.requires.which (stage_of c.read.ensures.belongs) c.read.result
-    (made g (goal.at.returns-clause-value g c).After-read)
-
-pub returns-clause-nothing : goal.returns-clause-nothing
-returns-clause-nothing g c =
-    read_only (stage_of c.requires.pass.board) c.args.h.now c.requires.held c.args.which c.requires.which (stage_of c.read.ensures.belongs) c.read.result
-    (made g (goal.at.returns-clause-nothing g c).After-read)
-
-pub returns-clause-later : goal.returns-clause-later
-returns-clause-later g c = ends_later (ended g (goal.at.returns-clause-later g c).After-read)
-
-pub returns-clause-pass : goal.returns-clause-pass
-returns-clause-pass g c = pass_of c.read.ensures.belongs (ended g (goal.at.returns-clause-pass g c).After-read).between c.requires.pass.inside
-
-pub returns-clause-taken_in : goal.returns-clause-taken_in
-returns-clause-taken_in g c = (ended g (goal.at.returns-clause-taken_in g c).After-read).leaves
+pub returns : goal.returns
+returns g c =
+    let e = ended g (goal.at.returns g c).After-read in
+    let reads = reads_value (stage_of c.requires.pass.board) c.args.h.now c.requires.held c.args.which c.requires.which (stage_of c.read.ensures.belongs)
+    c.read.result (made g (goal.at.returns g c).After-read) in
+    let nothing = read_only (stage_of c.requires.pass.board) c.args.h.now c.requires.held c.args.which c.requires.which (stage_of c.read.ensures.belongs)
+    c.read.result (made g (goal.at.returns g c).After-read) in
+    let pass = pass_of c.read.ensures.belongs e.between c.requires.pass.inside in
+    let later = ends_later e in
+    search rules
