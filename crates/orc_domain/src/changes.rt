@@ -2,7 +2,7 @@
 
 ghost use Rattle.std.specs.Prelude.{◌≡◌, ◌<◌, ◌∷◌, [], IfErr, IfOk, None, Some, false, true, ℕ};
 ghost use mathlib.Core.List.{IsPrefix};
-ghost use Rattle.orc_core.specs.Allowed.{may_change, may_target};
+ghost use Rattle.orc_core.specs.Allowed.{may_change};
 ghost use Rattle.orc_core.specs.RecordParts.{checked_below, names};
 ghost use Rattle.orc_plain_domain.specs.Calls.{MayAimLink, aim_at};
 ghost use Rattle.orc_plain_domain.specs.Rows.{row_link};
@@ -10,10 +10,9 @@ ghost use Rattle.orc_heap.specs.Calls.{IsWorn, MayMove, RefusesAim, RefusesSwing
 ghost use Rattle.orc_heap.specs.OwnEvents.{Only};
 ghost use Rattle.orc_heap.specs.Seats.{HoldsPlace, HoldsWant, IsNotFresh};
 ghost use Rattle.orc_heap.specs.Slots.{Holds};
-ghost use Rattle.orc_machine_board.specs.Licences.{AimAllowed};
 ghost use Rattle.orc_machine_board.specs.Views.{Belongs, shows};
 ghost use Rattle.orc_domain.specs.Causes.{ReadsWorn};
-ghost use Rattle.orc_domain.specs.Changes.{Stores};
+ghost use Rattle.orc_domain.specs.Changes.{MayStore, Stores};
 ghost use Rattle.orc_machine_rest.specs.OwnSteps.{LeavesNothing};
 ghost use Rattle.orc_domain.specs.Passes.{IsFreshUntouched, IsPassOf, domain_bounds, domain_numbers, journal_of, next_row, seat_of};
 ghost use Rattle.orc_domain.specs.Searches.{Idles};
@@ -126,10 +125,7 @@ impl<D: Discipline> OrcDomain<D> {
         requires untouched { IsFreshUntouched (domain_numbers self.now) (seat_by (domain_bounds self.now) (shows p.old)) }
         requires number { number < (domain_bounds self.now).links }
         requires fresh { names (shows p.old).record_is.fresh row ≡ true }
-        requires target { may_target (domain_bounds self.now) (shows p.old).record_is to ≡ true }
-        requires low { may_change (shows p.old).record_is (link_limit (domain_bounds self.now)) None to ≡ true }
-        requires other { (r : ℕ) → to ≡ Some r → names (shows p.old).record_is.fresh r ≡ false }
-        requires licensed { AimAllowed (D.may (domain_numbers self.now)) (domain_bounds self.now) (shows p.old) row number to }
+        requires may { MayStore (D.may (domain_numbers self.now)) (domain_bounds self.now) row number to (shows p.old) }
         ensures belongs { Belongs self.now.board p.new }
         ensures ready { IsBetweenCalls (shows p.new).record_is }
         ensures untouched { IsFreshUntouched (domain_numbers self.now) (seat_by (domain_bounds self.now) (shows p.new)) }

@@ -1,4 +1,4 @@
-use Rattle.std.proofs.Common.{Option, Some, ap, false, subst, sym, true, ℕ, ◌∙◌, ◌≡◌}
+use Rattle.std.proofs.Common.{Option, Some, ap, false, rules, subst, sym, true, ℕ, ◌∙◌, ◌≡◌}
 use Rattle.std.specs.Borrow.{Bor}
 use Rattle.orc_core.specs.Allowed.{may_target}
 use Rattle.orc_core.specs.RecordParts.{names}
@@ -6,6 +6,7 @@ use Rattle.orc_plain_domain.specs.Rows.{target_link}
 use Rattle.orc_heap.specs.Seats.{HoldsFresh, HoldsTarget}
 use Rattle.orc_heap.specs.Slots.{Hold}
 use Rattle.orc_machine_board.specs.Licences.{AimAllowed}
+use Rattle.orc_plain_board.proofs.Lists.{some_one}
 use Rattle.orc_machine_board.specs.Rules.{heap_numbers}
 use Rattle.orc_machine_board.specs.Views.{shows}
 use Rattle.orc_domain.proofs.Filling.{fresh_row}
@@ -25,12 +26,13 @@ store-requires-clause-fresh g c =
     let s = stage_of c.requires.pass.board in
     subst (λ r. names s.view.record_is.fresh r ≡ true) (sym c.row.ensures) (fresh_row s c.args.fresh.now c.requires.may.fresh)
 
-pub store-requires-clause-licensed : goal.store-requires-clause-licensed
-store-requires-clause-licensed g c =
+pub store-requires-clause-may : goal.store-requires-clause-may
+store-requires-clause-may g c =
     let s = stage_of c.requires.pass.board in
     let r = c.requires.may in
-    subst (λ (z : ℕ × Option (Bor Hold)). AimAllowed (g.D.Discipline.may (heap_numbers c.args.self.now.board.words.shape)) (domain_bounds c.args.self.now) s.view z.0 c.args.number (target_link z.1).to)
-    (λ i. (sym c.row.ensures i, c.in_default.is i)) (aim_allowed s c.args.number c.args.fresh.now c.args.to r.fresh.held r.target r.allowed)
+    let licensed = subst (λ (z : ℕ × Option (Bor Hold)). AimAllowed (g.D.Discipline.may (heap_numbers c.args.self.now.board.words.shape)) (domain_bounds c.args.self.now) s.view z.0 c.args.number (target_link z.1).to)
+    (λ i. (sym c.row.ensures i, c.in_default.is i)) (aim_allowed s c.args.number c.args.fresh.now c.args.to r.fresh.held r.target r.allowed) in
+    search rules
 
 pub returns-in_default-clause-aimed : goal.returns-in_default-clause-aimed
 returns-in_default-clause-aimed g c =
@@ -63,27 +65,21 @@ store-requires-2-clause-fresh g c =
     subst (λ r. names (shows c.check.new.p).record_is.fresh r ≡ true) (sym c.row-2.ensures)
     (fresh_row (stage_of c.check.ensures.belongs) c.args.fresh.now (fresh g (goal.at.store-requires-2-clause-fresh g c).After-check))
 
-pub store-requires-2-clause-target : goal.store-requires-2-clause-target
-store-requires-2-clause-target g c =
+pub store-requires-2-clause-may : goal.store-requires-2-clause-may
+store-requires-2-clause-may g c =
+    let at = (goal.at.store-requires-2-clause-may g c).After-check in
     let t = stage_of c.check.ensures.belongs in
-    let to = subst (HoldsTarget (seat t)) c.in-Some.is (target g (goal.at.store-requires-2-clause-target g c).After-check) in
-    subst (λ r. may_target (domain_bounds c.args.self.now) t.view.record_is (Some r) ≡ true) (sym c.row-3.ensures) (hold_target t c.in-Some.h.now to.0)
-
-pub store-requires-2-clause-other : goal.store-requires-2-clause-other
-store-requires-2-clause-other g c r is =
-    let t = stage_of c.check.ensures.belongs in
-    let to = subst (HoldsTarget (seat t)) c.in-Some.is (target g (goal.at.store-requires-2-clause-other g c).After-check) in
-    let same : c.row-3.result ≡ r = cc in
-    subst (λ x. names t.view.record_is.fresh x ≡ false) (sym c.row-3.ensures ∙ same) (not_fresh t c.in-Some.h.now to.0 to.1)
-
-pub store-requires-2-clause-licensed : goal.store-requires-2-clause-licensed
-store-requires-2-clause-licensed g c =
-    let t = stage_of c.check.ensures.belongs in
-    let at = (goal.at.store-requires-2-clause-licensed g c).After-check in
-    subst (λ (z : ℕ × Option ℕ). AimAllowed (g.D.Discipline.may (heap_numbers c.args.self.now.board.words.shape)) (domain_bounds c.args.self.now) t.view z.0 c.args.number z.1)
+    let to = subst (HoldsTarget (seat t)) c.in-Some.is (target g at) in
+    let there = subst (λ r. may_target (domain_bounds c.args.self.now) t.view.record_is (Some r) ≡ true) (sym c.row-3.ensures)
+    (hold_target t c.in-Some.h.now to.0) in
+    let other : (r : ℕ) → Some c.row-3.result ≡ Some r → names t.view.record_is.fresh r ≡ false =
+    λ r is. subst (λ x. names t.view.record_is.fresh x ≡ false) (sym c.row-3.ensures ∙ some_one c.row-3.result r is)
+    (not_fresh t c.in-Some.h.now to.0 to.1) in
+    let licensed = subst (λ (z : ℕ × Option ℕ). AimAllowed (g.D.Discipline.may (heap_numbers c.args.self.now.board.words.shape)) (domain_bounds c.args.self.now) t.view z.0 c.args.number z.1)
     (λ i. (sym c.row-2.ensures i, (ap (λ (o : Option (Bor Hold)). (target_link o).to) c.in-Some.is ∙ ap Some (sym c.row-3.ensures)) i))
     (aim_allowed t c.args.number c.args.fresh.now c.args.to (fresh g at).held (target g at)
-    (aim_on (stage_of c.requires.pass.board) t c.check.ensures.checks c.args.number c.args.fresh.now c.args.to c.requires.may.allowed))
+    (aim_on (stage_of c.requires.pass.board) t c.check.ensures.checks c.args.number c.args.fresh.now c.args.to c.requires.may.allowed)) in
+    search rules
 
 pub returns-clause-aimed : goal.returns-clause-aimed
 returns-clause-aimed g c =

@@ -19,15 +19,15 @@ stored g c =
       is = record { ready = r.ready; untouched = r.untouched };
       there = r.number;
       fresh = r.fresh;
-      target = r.target;
-      other = r.other;
+      target = r.may.target;
+      other = r.may.other;
     }
 
 pub link_store-old-requires-clause-allowed : goal.link_store-old-requires-clause-allowed
 link_store-old-requires-clause-allowed g c =
     let r = c.requires in
     let s = stage_of r.belongs in
-    store_can s c.args.row c.args.number c.args.to r.number r.ready r.fresh r.target r.low
+    store_can s c.args.row c.args.number c.args.to r.number r.ready r.fresh r.may.target r.may.low
 
 pub complete-requires-clause-countable : goal.complete-requires-clause-countable
 complete-requires-clause-countable g c = store_countable (stored g (goal.at.complete-requires-clause-countable g c).After-link_store-old)
