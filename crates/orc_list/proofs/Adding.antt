@@ -53,15 +53,17 @@ found_leaves n start key by found many s u mine a all =
     let run_mid = run_puts x a.t mid (aim ∷ []) l.aims (allowed-left (ChainMay n) [] mid.seen l.moves.part
     (subst (λ es. AllAllowed (ChainMay n) [] es) l.moves.is all_v)) from at.leads.over to at.leads.run in
     let leaves : LeavesRunOff key (at.own ++ ys) (heap_of n v) = record {
-      place = place;
-      from = from;
-      plain = at.leads.plain;
-      sees = sees_left at.own ys place from at.leads.sees;
-      adds = adds_right at.own ys key place from (inr (inl (link_to at.id, refl, ap (λ (i : ℕ). Some (Entry (Added i key true))) agent)));
-      over = at.leads.over;
-      to = to;
+      added = record {
+        place = place;
+        from = from;
+        plain = at.leads.plain;
+        sees = sees_left at.own ys place from at.leads.sees;
+        adds = adds_right at.own ys key place from (inr (inl (link_to at.id, refl, ap (λ (i : ℕ). Some (Entry (Added i key true))) agent)));
+        over = at.leads.over;
+        to = to;
+        ends = ends_left at.own ys to at.ends;
+      };
       run = run_puts x a.t v ys p all_v from at.leads.over to at.leads.run;
-      ends = ends_left at.own ys to at.ends;
       off = λ id among. linked_off n key 0 at.id to mid v place from at.leads.over moves holds all_v l.node run_mid id among;
     } in
     let whole = puts_released s v u (at.own ++ ys) (Puts-trans s a.t v at.own ys at.puts p) k.gone.puts in

@@ -62,15 +62,8 @@ linked_off n key second fresh to t u place from over p holds all node run id amo
 pub leaves_on : (n : HeapNumbers) (key : ℕ) (own : List (Event ChainNote)) (t u : Seat ChainNote) → Puts t [] u → ChainHolds n t.seen
     → AllAllowed (ChainMay n) [] u.seen → LeavesRunOff key own (heap_of n t) → LeavesRunOff key own (heap_of n u)
 leaves_on n key own t u p holds all l = record {
-  place = l.place;
-  from = l.from;
-  plain = l.plain;
-  sees = l.sees;
-  adds = l.adds;
-  over = l.over;
-  to = l.to;
+  added = l.added;
   run = run_puts (list_ordering n) t u [] p all l.from l.over l.to l.run;
-  ends = l.ends;
   off = λ id among. subst (λ z. IsOnNoChain (run_heap n z) id) (sym p.is) (off_later n t.seen p.part id holds (new_allowed (list_ordering n) t u [] p all)
       (run_linked (heap_of n t) l.from l.over l.to id l.run among) (l.off id among));
 }
@@ -78,14 +71,16 @@ leaves_on n key own t u p holds all l = record {
 -- earlier events of the call change nothing of it
 pub leaves_right : (h : Heap) (key : ℕ) (es fs : List (Event ChainNote)) → LeavesRunOff key fs h → LeavesRunOff key (es ++ fs) h
 leaves_right h key es fs l = record {
-  place = l.place;
-  from = l.from;
-  plain = l.plain;
-  sees = sees_right es fs l.place l.from l.sees;
-  adds = adds_right es fs key l.place l.from l.adds;
-  over = l.over;
-  to = l.to;
+  added = record {
+    place = l.place;
+    from = l.from;
+    plain = l.plain;
+    sees = sees_right es fs l.place l.from l.sees;
+    adds = adds_right es fs key l.place l.from l.adds;
+    over = l.over;
+    to = l.to;
+    ends = ends_right es fs l.to l.ends;
+  };
   run = l.run;
-  ends = ends_right es fs l.to l.ends;
   off = l.off;
 }

@@ -27,9 +27,9 @@ AddsKey [] key place from = ⊥
 AddsKey (e ∷ es) key place from =
     ((to : Link) × (e.act ≡ Move place from to) × (e.note ≡ Some (Entry (Added e.agent key true)))) ⊎ AddsKey es key place from
 
--- these events added the key at a place whose link one of them had found unmarked. From that link a run of marked nodes led to null, or
--- to a node whose link they found unmarked; and no node of the run is on a chain. After Harris 2001
-pub record LeavesRunOff (key : ℕ) (es : List (Event ChainNote)) (h : Heap) : Type 0 where
+-- these events added the key at a place whose link one of them had found unmarked, over these nodes, which stand before null, or before a
+-- node whose link they found unmarked
+pub record AddsOverRun (key : ℕ) (es : List (Event ChainNote)) : Type 0 where
   pub place : Place
   pub from : Link
   pub plain : from.mark ≡ false
@@ -37,6 +37,11 @@ pub record LeavesRunOff (key : ℕ) (es : List (Event ChainNote)) (h : Heap) : T
   pub adds : AddsKey es key place from
   pub over : List ℕ
   pub to : Option ℕ
-  pub run : IsRun h from over to
   pub ends : EndsRun es to
+
+-- so they did, and those nodes are a run of marked ones, of which none is on a chain. After Harris 2001
+pub record LeavesRunOff (key : ℕ) (es : List (Event ChainNote)) (h : Heap) : Type 0 where
+  pub added : AddsOverRun key es
+  pub open added use *
+  pub run : IsRun h from over to
   pub off : (id : ℕ) → Contains over id → IsOnNoChain h id
