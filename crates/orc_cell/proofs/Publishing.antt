@@ -1,5 +1,5 @@
 -- Turns of a publish.
-use Rattle.std.proofs.Common.{List, None, Option, Some, [], ap, append-nil, arith, refl, subst, sym, ℕ, ◌*◌, ◌+◌, ◌∙◌, ◌∷◌, ◌≡◌, ◌≢◌, ◌≤◌}
+use Rattle.std.proofs.Common.{List, None, Option, Some, [], ap, append-nil, arith, refl, subst, sym, ℕ, ◌+◌, ◌∙◌, ◌∷◌, ◌≡◌, ◌≢◌, ◌≤◌}
 use Rattle.orc_heap.proofs.ByAnswer.{unless_fresh}
 use Rattle.orc_heap.proofs.Calls.{Puts-stood}
 use Rattle.orc_heap.proofs.Pieces.{new_is, release_fresh, slot_id, slot_other_id, slot_released}
@@ -18,8 +18,8 @@ use Rattle.orc_heap.specs.declared.events.Place.TheVariants.{Root}
 use Rattle.orc_pairs_rule.specs.declared.entry.CellEntry.{CellEntry}
 use Rattle.orc_pairs_rule.specs.declared.entry.CellEntry.TheVariants.{Published}
 use Rattle.orc_pairs_rule.specs.declared.pairs.PairsNote.{PairsNote}
-use Rattle.orc_pairs_rule.specs.PairsDiscipline.{IsStaging, PairsMay}
-use Rattle.orc_cell.specs.Publishes.{Answered, HasStaged, PublishOver, PublishesFrom, PublishesTurns, SideHeld, Piece}
+use Rattle.orc_pairs_rule.specs.PairsDiscipline.{PairsMay}
+use Rattle.orc_cell.specs.Publishes.{Answered, HasStaged, IsPrepared, PublishOver, PublishesFrom, PublishesTurns, SideHeld, Piece, given_of}
 use Rattle.orc_cell.specs.Turns.{OnlyLooks, FindsOnly, others_moves}
 use Rattle.orc_cell.specs.declared.publish.New.{New}
 use Rattle.orc_cell.specs.declared.publish.New.TheVariants.{Given, Kept, Zero}
@@ -31,7 +31,7 @@ use Rattle.orc_cell.proofs.Pieces.{Known, pair_puts}
 use Rattle.orc_cell.proofs.Readying.{keeps_found, keeps_trans}
 use Rattle.orc_cell.proofs.Reading.{moved_more, null_seen, pair_seen}
 use Rattle.orc_cell.proofs.Staging.{Answered-trans, Piece-trans, answered_none, finds_staging, finds_piece, found_answered, staging-trans}
-use Rattle.orc_cell.proofs.Swinging.{published_later, side_kept}
+use Rattle.orc_cell.proofs.Swinging.{prepared_kept, published_later}
 
 -- where a look found null, both parts are staged
 pub null_staged : (n : HeapNumbers) (s a : Seat PairsNote) (root : ℕ) (new : New) → RootNull n s a → AllAllowed (PairsMay n) [] a.seen
@@ -43,15 +43,6 @@ null_staged n s a root Kept r all held =
     let m = Puts-stood (PairsMay n) s a [] e [] r.puts all in
     let now = published_later n s.seen m.before m.first held in
     null_to now.0 (some_same (sym m.here.fits ∙ now.1))
-
--- the side is held over a look that took a node into a slot, or none
-pub side_found : (n : HeapNumbers) (s a : Seat PairsNote) (k : ℕ) (new : New) (es : List CellEntry) → OnlyLooks s es a → AllAllowed (PairsMay n) [] a.seen
-    → ((agent : ℕ) → IsStaging agent (k + 2 * agent))
-    → ((h : Hold) → Holds s.slots h → Holds a.slots h × (id_in a.slots h ≡ id_in s.slots h))
-    → SideHeld n (k + 2 * s.agent) new s → SideHeld n (k + 2 * a.agent) new a
-side_found n s a k new es f all staging carries held =
-    subst (λ (i : ℕ). SideHeld n (k + 2 * i) new a) (sym f.puts.agent)
-    (side_kept n s a (k + 2 * s.agent) new f.own f.puts all (staging s.agent) (finds_staging n s a es f all) carries held)
 
 -- from null on
 pub first_turn : (n : HeapNumbers) (s a t : Seat PairsNote) (left right : Option ℕ) (pair : Hold) (turn : PublishTurn) → RootNull n s a → a.fresh ≡ s.fresh
@@ -167,12 +158,15 @@ moved_turn n s t pair one two held p all ne slots fresh =
       moved = looks_differ_by_others n s t one two p all ne;
     }
 
--- the pair is still the fresh node
-pub fresh_found : (s a : Seat PairsNote) (pair : Hold) → a.fresh ≡ s.fresh
-    → ((h : Hold) → Holds s.slots h → Holds a.slots h × (id_in a.slots h ≡ id_in s.slots h)) → HoldsFresh s pair → HoldsFresh a pair
-fresh_found s a pair fresh carries held =
-    let c = carries pair held.held in
-    record { held = c.0; fresh = fresh ∙ (held.fresh ∙ ap (λ (i : ℕ). Some i) (sym c.1)) }
+-- what is prepared stays so over a look that took a node into a slot, or none
+pub prepared_found : (n : HeapNumbers) (pair : Hold) (left right : New) (s a : Seat PairsNote) (es : List CellEntry) → OnlyLooks s es a → Known n s.seen
+    → AllAllowed (PairsMay n) [] a.seen → ((i : ℕ) → s.fresh ≡ Some i → IsUntouched s.agent (heap_of n s) i)
+    → ((h : Hold) → Holds s.slots h → Holds a.slots h × (id_in a.slots h ≡ id_in s.slots h)) → IsPrepared n pair left right s → IsPrepared n pair left right a
+prepared_found n pair left right s a es f known all untouched carries x =
+    let (held, same) = carries pair x.fresh.held in
+    let halves = keeps_found n (given_of left) (given_of right) pair s a f.own f.puts known all f.finding (untouched (id_in s.slots pair) x.fresh.fresh) same in
+    let fresh : HoldsFresh a pair = record { held = held; fresh = f.fresh ∙ (x.fresh.fresh ∙ ap (λ (i : ℕ). Some i) (sym same)) } in
+    prepared_kept n pair left right s a f.own f.puts all (finds_staging n s a es f all) carries halves fresh x
 
 pub from_slots : (n : HeapNumbers) (from : Link) (left right : Option ℕ) (pair : Hold) (a b : Seat PairsNote) (turn : PublishTurn)
     → PublishesFrom n from left right pair a turn b → b.slots ≡ a.slots

@@ -1,5 +1,5 @@
 -- Halves of a new pair that were aimed at parts that are given, and stay so.
-use Rattle.std.proofs.Common.{Err, List, None, Ok, Option, Result, Some, [], ap, refl, subst, sym, ℕ, ◌*◌, ◌+◌, ◌∙◌, ◌∷◌, ◌≡◌, ◌≢◌}
+use Rattle.std.proofs.Common.{Err, List, None, Ok, Option, Result, Some, [], ap, subst, sym, ℕ, ◌∙◌, ◌∷◌, ◌≡◌, ◌≢◌}
 use Rattle.std.specs.List.{AllByRecursion, slice_get}
 use Rattle.std.specs.Prelude.{IfErr, IfOk}
 use Rattle.orc_fault.specs.declared.Spent.{Spent}
@@ -23,20 +23,22 @@ use Rattle.orc_cell.proofs.Aiming.{staged_aimed, staged_refused}
 use Rattle.orc_cell.proofs.Pieces.{Known}
 use Rattle.orc_cell.proofs.Staging.{answered_none, own_found}
 
+-- nothing was aimed
+abbrev kept_none : (n : HeapNumbers) (half : Half) (s : Seat PairsNote) (pair : Hold) (node : Node) → HoldsFresh s pair
+    → slice_get (heap_of n s).nodes (id_in s.slots pair) ≡ Some node → KeepsOtherHalf n half pair s s
+kept_none n half s pair node fresh there = record {
+  answered = answered_none n 0 s;
+  fresh = fresh;
+  node = node;
+  there = there;
+  keeps = λ old at. ap (half_link (other half)) (some_same (sym there ∙ at));
+}
+
 -- a half that was aimed at its part before
 pub ready_aimed : (n : HeapNumbers) (half : Half) (s : Seat PairsNote) (h pair : Hold) (root value : ℕ) → Staged n root value h s → HoldsFresh s pair
     → LeadsHalf n half pair (id_in s.slots h) s → Aimed n half pair (id_in s.slots h) value s s
-ready_aimed n half s h pair root value staged fresh l = record {
-  kept = record {
-    answered = answered_none n 0 s;
-    fresh = fresh;
-    node = l.node;
-    there = l.there;
-    keeps = λ old there. ap (half_link (other half)) (some_same (sym l.there ∙ there));
-  };
-  leads = l.leads;
-  has = staged.part;
-}
+ready_aimed n half s h pair root value staged fresh l =
+    record { kept = kept_none n half s pair l.node fresh l.there; leads = l.leads; has = staged.part }
 
 -- the other half stays ready
 pub other_stays_ready : (n : HeapNumbers) (half : Half) (s a : Seat PairsNote) (pair : Hold) (new : New) → KeepsOtherHalf n half pair s a
@@ -67,16 +69,7 @@ given_aimed n half s t h pair root value (Err why) staged fresh known all untouc
 -- there is nothing to aim at
 pub none_given : (n : HeapNumbers) (half : Half) (s : Seat PairsNote) (pair : Hold) (new : New) → HoldsFresh s pair
     → IsUntouched s.agent (heap_of n s) (id_in s.slots pair) → IsHalfReady n half pair new s → MakesReady n half pair new s s
-none_given n half s pair new fresh u ready = record {
-  kept = record {
-    answered = answered_none n 0 s;
-    fresh = fresh;
-    node = u.node;
-    there = u.there;
-    keeps = λ old there. ap (half_link (other half)) (some_same (sym u.there ∙ there));
-  };
-  ready = ready;
-}
+none_given n half s pair new fresh u ready = record { kept = kept_none n half s pair u.node fresh u.there; ready = ready }
 
 -- halves stay over pieces that look, and over turns
 
@@ -122,7 +115,7 @@ aims_keep n left right pair s a b l r x y one two same_left same_right = record 
         ap (λ (z : Node). z.side) (some_same (sym at_a ∙ one.kept.there)) ∙ one.kept.keeps old there
 
 -- so a half stays ready
-half_ready : (n : HeapNumbers) (half : Half) (root : ℕ) (new : New) (left right : Option ℕ) (pair : Hold) (s a : Seat PairsNote)
+pub half_ready : (n : HeapNumbers) (half : Half) (root : ℕ) (new : New) (left right : Option ℕ) (pair : Hold) (s a : Seat PairsNote)
     → given_for half left right ≡ given_of new → KeepsHalves n left right pair s a
     → ((h : Hold) → Holds s.slots h → id_in a.slots h ≡ id_in s.slots h) → SideHeld n root new s → IsHalfReady n half pair new s → IsHalfReady n half pair new a
 half_ready n half root (Given v h) left right pair s a is k carries held l = record {
@@ -132,12 +125,3 @@ half_ready n half root (Given v h) left right pair s a is k carries held l = rec
 }
 half_ready n half root (Zero h) left right pair s a is k carries held l = tt
 half_ready n half root Kept left right pair s a is k carries held l = tt
-
--- and both do
-pub both_ready : (n : HeapNumbers) (left right : New) (pair : Hold) (s a : Seat PairsNote) → KeepsHalves n (given_of left) (given_of right) pair s a
-    → ((h : Hold) → Holds s.slots h → id_in a.slots h ≡ id_in s.slots h) → SideHeld n (1 + 2 * s.agent) left s → SideHeld n (2 + 2 * s.agent) right s
-    → IsHalfReady n Left pair left s × IsHalfReady n Right pair right s → IsHalfReady n Left pair left a × IsHalfReady n Right pair right a
-both_ready n left right pair s a k carries held_left held_right ready = (
-  half_ready n Left (1 + 2 * s.agent) left (given_of left) (given_of right) pair s a refl k carries held_left ready.0,
-  half_ready n Right (2 + 2 * s.agent) right (given_of left) (given_of right) pair s a refl k carries held_right ready.1,
-)

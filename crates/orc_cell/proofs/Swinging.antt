@@ -20,7 +20,7 @@ use Rattle.orc_heap.specs.Heap.{Heap, HeapNumbers, Node, link_to, null, shown}
 use Rattle.orc_heap.specs.Journals.{IsLawful, is_once_named, points_to, run_heap}
 use Rattle.orc_heap.specs.OwnEvents.{Puts}
 use Rattle.std.specs.Borrow.{Bor}
-use Rattle.orc_heap.specs.Seats.{HoldsWant, IsUntouched, Seat, heap_of, link_in}
+use Rattle.orc_heap.specs.Seats.{HoldsFresh, HoldsWant, IsUntouched, Seat, heap_of, link_in}
 use Rattle.orc_heap.specs.declared.holds.Want.{Want}
 use Rattle.orc_heap.specs.declared.holds.Want.TheVariants.{Node as WantNode, Null as WantNull}
 use Rattle.orc_heap.specs.Slots.{Hold, Holds, Slots, id_in}
@@ -37,7 +37,7 @@ use Rattle.orc_pairs_rule.specs.declared.pairs.PairsNote.TheVariants.{Entry}
 use Rattle.orc_pairs_rule.specs.Laws.Shown.{not_root_0, roots_kept}
 use Rattle.orc_pairs_rule.specs.PairsDiscipline.{HasPart, IsStaging, PairsMay}
 use Rattle.orc_pairs_rule.specs.Watches.{MayFollow, IsKept, IsOwnPair}
-use Rattle.orc_cell.specs.Publishes.{Aimed, Answered, ComesAfter, HasStaged, IsFirst, IsNewPart, IsPartOf, IsPublished, KeepsStaging, MayPublish, NotAimed, PublishDone, PublishMissed, PublishSpent, SideHeld, SwingsPair, given_of}
+use Rattle.orc_cell.specs.Publishes.{Aimed, Answered, ComesAfter, HasStaged, IsFirst, IsNewPart, IsPartOf, IsPrepared, IsPublished, KeepsHalves, KeepsStaging, MayPublish, NotAimed, PublishDone, PublishMissed, PublishSpent, SideHeld, SwingsPair, given_of}
 use Rattle.orc_cell.specs.Turns.{IsPairOf, others_moves}
 use Rattle.orc_cell.specs.declared.publish.Half.{Half}
 use Rattle.orc_cell.specs.declared.publish.Half.TheVariants.{Left, Right}
@@ -46,7 +46,7 @@ use Rattle.orc_cell.specs.declared.publish.New.TheVariants.{Given, Kept, Zero}
 use Rattle.orc_cell.proofs.Looking.{left_shows, right_shows}
 use Rattle.orc_cell.proofs.Others.{missed_by_others, others-append, still_or_others}
 use Rattle.orc_cell.proofs.Pieces.{Known, pair_puts, part_puts}
-use Rattle.orc_cell.proofs.Readying.{aims_keep, keeps_found, keeps_trans}
+use Rattle.orc_cell.proofs.Readying.{aims_keep, half_ready, keeps_found, keeps_trans}
 use Rattle.orc_cell.proofs.Staging.{Answered-trans, root_kept}
 
 -- a node to which nothing links isn't worn
@@ -220,7 +220,7 @@ follows_pair n s a b pair left right old l r x y two (l0, r0, was, has) one seco
       keeps_right = rk.1;
     })
 
--- a pair after what the link leads to
+-- a pair that follows what the link leads to
 pub follows_from : (n : HeapNumbers) (s a b : Seat PairsNote) (pair : Hold) (from : Want) (left right : New) (l r x y : ℕ) → n.links ≡ 2
     → ComesAfter n from s left → Aimed n Left pair l x s a → Aimed n Right pair r y a b → AllAllowed (PairsMay n) [] a.seen → AllAllowed (PairsMay n) [] b.seen
     → IsPartOf n Left from s left l x → IsPartOf n Right from a right r y
@@ -297,6 +297,23 @@ side_kept n s t root Kept own p all staging kept carries x = published_puts n s 
 pub same_slots : (s t : Seat PairsNote) → t.slots ≡ s.slots → (h : Hold) → Holds s.slots h → Holds t.slots h × (id_in t.slots h ≡ id_in s.slots h)
 same_slots s t same h held = (subst (λ (z : Slots). Holds z h) (sym same) held, ap (λ z. id_in z h) same)
 
+-- what is prepared stays so, where the halves stay as they are
+pub prepared_kept : (n : HeapNumbers) (pair : Hold) (left right : New) (s a : Seat PairsNote) (own : List (Event PairsNote)) → Puts s own a
+    → AllAllowed (PairsMay n) [] a.seen → KeepsStaging n s a
+    → ((h : Hold) → Holds s.slots h → Holds a.slots h × (id_in a.slots h ≡ id_in s.slots h)) → KeepsHalves n (given_of left) (given_of right) pair s a
+    → HoldsFresh a pair → IsPrepared n pair left right s → IsPrepared n pair left right a
+prepared_kept n pair left right s a own p all staging carries k fresh x =
+    let ids : (h : Hold) → Holds s.slots h → id_in a.slots h ≡ id_in s.slots h = λ h held. (carries h held).1 in
+    let first = 1 + 2 * s.agent in
+    let second = 2 + 2 * s.agent in
+    record {
+      fresh = fresh;
+      left_held = subst (λ (i : ℕ). SideHeld n (1 + 2 * i) left a) (sym p.agent) (side_kept n s a first left own p all (inl refl) staging carries x.left_held);
+      right_held = subst (λ (i : ℕ). SideHeld n (2 + 2 * i) right a) (sym p.agent) (side_kept n s a second right own p all (inr refl) staging carries x.right_held);
+      left_leads = half_ready n Left first left (given_of left) (given_of right) pair s a refl k ids x.left_held x.left_leads;
+      right_leads = half_ready n Right second right (given_of left) (given_of right) pair s a refl k ids x.right_held x.right_leads;
+    }
+
 -- the pair was the fresh node
 pub swung_fresh : (fresh : Option ℕ) (id : ℕ) (done : Bool) → fresh ≡ Some id
     → (if done then unless_node fresh (Some id) else fresh) ≡ (if done then None else fresh)
@@ -307,7 +324,7 @@ before_kept : (n : HeapNumbers) (s a : Seat PairsNote) (old : ℕ) (es : List Ce
     → IsPairOf (heap_of n s) old → IsPairOf (heap_of n a) old
 before_kept n s a old es x all (l, r, parts, has) = (l, r, parts, pair_puts n s a x.piece.own x.piece.puts all old l r parts has)
 
--- so what a pair is to follow stays, after the other half was aimed
+-- what the link leads to stays so, after the other half was aimed
 pub follows_kept : (n : HeapNumbers) (s a : Seat PairsNote) (from : Want) (new : New) (es : List CellEntry) → Answered n 0 s es a
     → AllAllowed (PairsMay n) [] a.seen → ComesAfter n from s new → ComesAfter n from a new
 follows_kept n s a (WantNull false) new es x all f = f

@@ -143,6 +143,14 @@ IsHalfReady n half pair (Given value h) s = LeadsHalf n half pair (id_in s.slots
 IsHalfReady n half pair (Zero h) s = Unit {0}
 IsHalfReady n half pair Kept s = Unit {0}
 
+-- the new pair is fresh, its parts are staged or are to be kept, and it leads to those that are given
+pub record IsPrepared (n : HeapNumbers) (pair : Hold) (left right : New) (s : Seat PairsNote) : Type 0 where
+  pub fresh : HoldsFresh s pair
+  pub left_held : SideHeld n (staging_root Left s.agent) left s
+  pub right_held : SideHeld n (staging_root Right s.agent) right s
+  pub left_leads : IsHalfReady n Left pair left s
+  pub right_leads : IsHalfReady n Right pair right s
+
 -- one half was aimed at the part, if that is given, and the other leads where it led
 pub record MakesReady (n : HeapNumbers) (half : Half) (pair : Hold) (new : New) (s t : Seat PairsNote) : Type 0 where
   pub kept : KeepsOtherHalf n half pair s t

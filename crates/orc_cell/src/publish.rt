@@ -8,7 +8,7 @@ ghost use Rattle.orc_heap.specs.OwnEvents.{Only};
 ghost use Rattle.orc_heap.specs.Seats.{HoldsFresh, HoldsWant, heap_of, link_in};
 ghost use Rattle.orc_heap.specs.Slots.{Holds, IsFree, id_in};
 ghost use Rattle.orc_history.specs.Journals.{Within};
-ghost use Rattle.orc_cell.specs.Publishes.{Aims, AimsGiven, ComesAfter, IsHalfReady, IsPartOf, MayPublish, NotFresh, PublishesFrom, PublishesGiven, PublishesTurns, SideHeld, Staged, SwingsPair, aim_act, given_of, half_at, staging_root};
+ghost use Rattle.orc_cell.specs.Publishes.{Aims, AimsGiven, ComesAfter, IsHalfReady, IsPartOf, IsPrepared, MayPublish, NotFresh, PublishesFrom, PublishesGiven, PublishesTurns, SideHeld, Staged, SwingsPair, aim_act, given_of, half_at, staging_root};
 ghost use Rattle.orc_fault.specs.declared.Spent.{Spent as SpentRow};
 ghost use Rattle.orc_cell.specs.declared.publish.Half.{Half};
 ghost use Rattle.orc_cell.specs.declared.publish.PublishTurn.{PublishTurn};
@@ -280,11 +280,7 @@ fn publish_from<L: Links<Rule = Pairs>>(
 ) -> PublishTurn
     requires pass { L.belongs links.now p.old }
     requires made { IsCellDomain (L.numbers links.now) (L.agents links.now) (L.opening links.now) }
-    requires fresh { HoldsFresh (L.seat links.now p.old) pair.now }
-    requires left { SideHeld (L.numbers links.now) (staging_root Half.Left (L.seat links.now p.old).agent) left.now (L.seat links.now p.old) }
-    requires right { SideHeld (L.numbers links.now) (staging_root Half.Right (L.seat links.now p.old).agent) right.now (L.seat links.now p.old) }
-    requires ready { IsHalfReady (L.numbers links.now) Half.Left pair.now left.now (L.seat links.now p.old)
-        × IsHalfReady (L.numbers links.now) Half.Right pair.now right.now (L.seat links.now p.old) }
+    requires prepared { IsPrepared (L.numbers links.now) pair.now left.now right.now (L.seat links.now p.old) }
     requires slot { IsFree (L.seat links.now p.old).slots 5 }
     requires follows { ComesAfter (L.numbers links.now) from.now (L.seat links.now p.old) left.now
         × ComesAfter (L.numbers links.now) from.now (L.seat links.now p.old) right.now }
@@ -320,11 +316,7 @@ fn publish_turn<L: Links<Rule = Pairs>>(
 ) -> PublishTurn
     requires pass { L.belongs links.now p.old }
     requires made { IsCellDomain (L.numbers links.now) (L.agents links.now) (L.opening links.now) }
-    requires fresh { HoldsFresh (L.seat links.now p.old) pair.now }
-    requires left { SideHeld (L.numbers links.now) (staging_root Half.Left (L.seat links.now p.old).agent) left.now (L.seat links.now p.old) }
-    requires right { SideHeld (L.numbers links.now) (staging_root Half.Right (L.seat links.now p.old).agent) right.now (L.seat links.now p.old) }
-    requires ready { IsHalfReady (L.numbers links.now) Half.Left pair.now left.now (L.seat links.now p.old)
-        × IsHalfReady (L.numbers links.now) Half.Right pair.now right.now (L.seat links.now p.old) }
+    requires prepared { IsPrepared (L.numbers links.now) pair.now left.now right.now (L.seat links.now p.old) }
     requires slots { IsFree (L.seat links.now p.old).slots 4 × IsFree (L.seat links.now p.old).slots 5 }
     ensures pass { L.belongs links.now p.new }
     ensures later { IsPrefix (L.journal p.old) (L.journal p.new) }
@@ -389,11 +381,7 @@ fn publish_turns<L: Links<Rule = Pairs>>(
 ) -> PublishTurn
     requires pass { L.belongs links.now p.old }
     requires made { IsCellDomain (L.numbers links.now) (L.agents links.now) (L.opening links.now) }
-    requires fresh { HoldsFresh (L.seat links.now p.old) pair.now }
-    requires left { SideHeld (L.numbers links.now) (staging_root Half.Left (L.seat links.now p.old).agent) left.now (L.seat links.now p.old) }
-    requires right { SideHeld (L.numbers links.now) (staging_root Half.Right (L.seat links.now p.old).agent) right.now (L.seat links.now p.old) }
-    requires ready { IsHalfReady (L.numbers links.now) Half.Left pair.now left.now (L.seat links.now p.old)
-        × IsHalfReady (L.numbers links.now) Half.Right pair.now right.now (L.seat links.now p.old) }
+    requires prepared { IsPrepared (L.numbers links.now) pair.now left.now right.now (L.seat links.now p.old) }
     requires slots { IsFree (L.seat links.now p.old).slots 4 × IsFree (L.seat links.now p.old).slots 5 }
     ensures pass { L.belongs links.now p.new }
     ensures later { IsPrefix (L.journal p.old) (L.journal p.new) }

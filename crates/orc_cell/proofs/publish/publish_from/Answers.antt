@@ -13,19 +13,25 @@ use Rattle.orc_cell.proofs.publish.publish_from.Goals.{After-swing_pair}
 use Rattle.orc_cell.proofs.publish.publish_from.Goals as goal
 
 pub aim_part-requires-clause-ready : goal.aim_part-requires-clause-ready
-aim_part-requires-clause-ready g c = c.requires.ready.0
+aim_part-requires-clause-ready g c = c.requires.prepared.left_leads
+
+pub aim_part-requires-clause-fresh : goal.aim_part-requires-clause-fresh
+aim_part-requires-clause-fresh g c = c.requires.prepared.fresh
+
+pub aim_part-requires-clause-new : goal.aim_part-requires-clause-new
+aim_part-requires-clause-new g c = c.requires.prepared.left_held
 
 pub aim_part-requires-clause-follows : goal.aim_part-requires-clause-follows
 aim_part-requires-clause-follows g c = c.requires.follows.0
 
 pub aim_part-requires-2-clause-ready : goal.aim_part-requires-2-clause-ready
 aim_part-requires-2-clause-ready g c =
-    other_stays_ready _ Left _ _ c.args.pair.now c.args.right.now c.in-Ok.ensures.aimed.2.kept c.requires.ready.1
+    other_stays_ready _ Left _ _ c.args.pair.now c.args.right.now c.in-Ok.ensures.aimed.2.kept c.requires.prepared.right_leads
 
 pub aim_part-requires-2-clause-new : goal.aim_part-requires-2-clause-new
 aim_part-requires-2-clause-new g c =
     let e = c.in-Ok.ensures in
-    right_kept _ _ _ c.args.right.now [] e.aimed.2.kept.answered (g.met.L.Links.allowed _ _ e.pass) c.requires.right
+    right_kept _ _ _ c.args.right.now [] e.aimed.2.kept.answered (g.met.L.Links.allowed _ _ e.pass) c.requires.prepared.right_held
 
 pub aim_part-requires-2-clause-follows : goal.aim_part-requires-2-clause-follows
 aim_part-requires-2-clause-follows g c =

@@ -29,10 +29,13 @@ publish_turns-requires g c =
     record {
       pass = c.in-Ok-aim_given.ensures.pass;
       made = c.requires.made;
-      fresh = two.kept.fresh;
-      left = left_kept _ _ _ c.args.left.now [] both all c.requires.left;
-      right = right_kept _ _ _ c.args.right.now [] both all c.requires.right;
-      ready = (other_stays_ready _ Right _ _ c.args.pair.now c.args.left.now two.kept one.ready, two.ready);
+      prepared = record {
+        fresh = two.kept.fresh;
+        left_held = left_kept _ _ _ c.args.left.now [] both all c.requires.left;
+        right_held = right_kept _ _ _ c.args.right.now [] both all c.requires.right;
+        left_leads = other_stays_ready _ Right _ _ c.args.pair.now c.args.left.now two.kept one.ready;
+        right_leads = two.ready;
+      };
       slots = (
         subst (λ (z : Slots). IsFree z 4) (sym both.slots) c.requires.slots.0,
         subst (λ (z : Slots). IsFree z 5) (sym both.slots) c.requires.slots.1,
