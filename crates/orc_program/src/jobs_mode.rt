@@ -62,11 +62,10 @@ impl<R: Threads + Wait + Sync, G: Gate + Sync> Setup<'_, R, G> {
         let finished = self.run(lines)?;
         let numbers = numbers_at_rest(self.settings.rest, &finished);
         let text = report_text(self.alloc, lines, &finished.replies, numbers.as_ref())?;
-        let ended = Ended::of_run(finished);
         Ok(Answer {
             status: 0,
             text,
-            ended,
+            ended: Ended::of_run(finished),
         })
     }
 }

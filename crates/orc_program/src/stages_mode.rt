@@ -30,11 +30,10 @@ impl<R: Threads + Wait + Sync, G: Gate + Sync> Setup<'_, R, G> {
         } = self.settings;
         let finished = run_pipeline(self.rt, self.alloc, lines, posters, stages, rows, self.gate)?;
         let text = stages_text(self.alloc, &finished.done)?;
-        let ended = Ended::of_stages(finished);
         Ok(Answer {
             status: 0,
             text,
-            ended,
+            ended: Ended::of_stages(finished),
         })
     }
 }

@@ -21,11 +21,10 @@ impl<R: Threads + Wait + Sync, G: Gate + Sync> Setup<'_, R, G> {
         let made = make_lines(self.alloc, self.settings.seed, self.settings.lines)?;
         let finished = self.run(&made)?;
         let text = summary_text(self.alloc, &made, &finished.replies)?;
-        let ended = Ended::of_run(finished);
         Ok(Answer {
             status: 0,
             text,
-            ended,
+            ended: Ended::of_run(finished),
         })
     }
 }

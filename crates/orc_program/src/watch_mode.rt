@@ -46,11 +46,10 @@ impl<R: Threads + Wait + Sync, G: Gate + Sync> Setup<'_, R, G> {
             finished.now_right,
             numbers.as_ref(),
         )?;
-        let ended = Ended::of_watch(finished);
         Ok(Answer {
             status: 0,
             text,
-            ended,
+            ended: Ended::of_watch(finished),
         })
     }
 }
