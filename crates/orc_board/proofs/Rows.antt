@@ -85,14 +85,16 @@ opened_row {A} qs s true agent i id w j k m n is_word same o = record {
   };
 }
 
-pub dropped_row : {A B : Type 0} (qs : Bool → View A QueueEntry QueueRefused) (s : View B SetEntry ListRefused) (agent id : ℕ) (w : PostWord)
+pub dropped_row : {A B : Type 0} (qs : Bool → View A QueueEntry QueueRefused) (s : View B SetEntry ListRefused) (now agent id : ℕ) (w : PostWord)
     (j : Bool → List A) (m n : List B)
-    → Dropped s (DropPart agent id w) agent m n → Replied qs s (DropRow agent id w) agent j m j n
-dropped_row qs s agent id w j m n o = record {
-  row = record { queues = λ x. nothing; set = o.set };
-  is = record { part = o.is; none = λ x. refl };
-  stands = record { queues = λ x. Did-nothing of_queue (qs x) agent (j x); set = o.in_set };
-}
+    → now ≡ agent → Dropped s (DropPart now id w) now m n → Replied qs s (DropRow agent id w) agent j m j n
+dropped_row qs s now agent id w j m n e dropped =
+    let o : Dropped s (DropPart agent id w) agent m n = subst (λ (a : ℕ). Dropped s (DropPart a id w) a m n) e dropped in
+    record {
+      row = record { queues = λ x. nothing; set = o.set };
+      is = record { part = o.is; none = λ x. refl };
+      stands = record { queues = λ x. Did-nothing of_queue (qs x) agent (j x); set = o.in_set };
+    }
 
 -- so far only jobs that no line posts there were taken
 pub record Passed {A : Type 0} (qs : Bool → View A QueueEntry QueueRefused) (lines : List Line) (agent : ℕ) (j k : Bool → List A) : Type 0 where

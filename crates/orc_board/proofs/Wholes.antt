@@ -59,7 +59,7 @@ Did-beside kind x C f agent share j k d = record {
   licence = licensed_beside x C agent share.refused j k d.licence;
 }
 
-DidAll-beside : {A E W X : Type 0} (kind : Kind E) (x : View A E W) (C : ℕ → Type 0) → Below x.crowd C → (agent : ℕ) (share : X → Share E W)
+pub DidAll-beside : {A E W X : Type 0} (kind : Kind E) (x : View A E W) (C : ℕ → Type 0) → Below x.crowd C → (agent : ℕ) (share : X → Share E W)
     (rows : List X) (j k : List A)
     → DidAll kind x agent share rows j k → DidAll kind (beside x C) agent share rows j k
 DidAll-beside kind x C f agent share [] j k c = Did-beside kind x C f agent nothing j k c

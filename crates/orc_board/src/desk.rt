@@ -1,6 +1,5 @@
 //! One line posted or dropped, and one job taken.
 ghost use Rattle.std.specs.Prelude.{◌≡◌, IfSome, IfNone};
-ghost use Rattle.orc_jobs.specs.Line.{PostsJob, IsDrop};
 ghost use Rattle.orc_jobs.specs.GoodLines.{AreGood};
 ghost use Rattle.orc_board.specs.Desk.{IsDesk};
 ghost use Rattle.orc_board.specs.DeskCalls.{Closes, KeepsSetAgent, KeepsQueueAgent, LeavesLast, Replies, TakesNext, Opens, Drops};
@@ -18,49 +17,6 @@ pub struct Desk<A, B> {
     pub queue: A,
     pub rush: A,
     pub set: B,
-}
-
-/// Opens the id of a line that is a Post or a Rush, and then puts its number, on the queue or on the rush queue. Where the number
-/// can't be put, the id is closed again.
-pub fn post_line<R: Wait, Q: SharedQueue, S: SharedSet>(
-    rt: &R,
-    queue: &Q,
-    rush: &Q,
-    set: &S,
-    desk: &mut Desk<Q::Pass, S::Pass>,
-    poster: u32,
-    index: u32,
-    line: &Line,
-) -> PostReply
-    requires desk { IsDesk Q.SharedQueue S.SharedSet queue.now rush.now set.now poster desk.old }
-    requires line { PostsJob line.now }
-    ensures desk { IsDesk Q.SharedQueue S.SharedSet queue.now rush.now set.now poster desk.new }
-    ensures reply { (result.poster ≡ poster) × (result.line ≡ index) }
-    ensures row { Replies Q.SharedQueue S.SharedSet queue.now rush.now set.now desk.old desk.new poster
-        (PostRow poster index line.now result.what) }
-{
-    reply_to(rt, queue, rush, set, desk, poster, index, line)
-}
-
-/// Closes the id of a line that is a Drop.
-pub fn drop_line<R: Wait, Q: SharedQueue, S: SharedSet>(
-    rt: &R,
-    queue: &Q,
-    rush: &Q,
-    set: &S,
-    desk: &mut Desk<Q::Pass, S::Pass>,
-    poster: u32,
-    index: u32,
-    line: &Line,
-) -> PostReply
-    requires desk { IsDesk Q.SharedQueue S.SharedSet queue.now rush.now set.now poster desk.old }
-    requires line { IsDrop line.now }
-    ensures desk { IsDesk Q.SharedQueue S.SharedSet queue.now rush.now set.now poster desk.new }
-    ensures reply { (result.poster ≡ poster) × (result.line ≡ index) }
-    ensures row { Replies Q.SharedQueue S.SharedSet queue.now rush.now set.now desk.old desk.new poster
-        (PostRow poster index line.now result.what) }
-{
-    reply_to(rt, queue, rush, set, desk, poster, index, line)
 }
 
 /// Takes jobs, from the rush queue first, until one is the number of a line that posts it there, and closes that line's id; or finds
@@ -106,8 +62,9 @@ pub fn take_one<R: Wait, Q: SharedQueue, S: SharedSet>(
     unreachable!()
 }
 
-// Works through one record, by its kind.
-pub(crate) fn reply_to<R: Wait, Q: SharedQueue, S: SharedSet>(
+/// Works through one line. The id of a Post or a Rush is opened, and then the line's number is put, on the queue or on the rush queue;
+/// where the number can't be put, the id is closed again. The id of a Drop is closed.
+pub fn reply_to<R: Wait, Q: SharedQueue, S: SharedSet>(
     rt: &R,
     queue: &Q,
     rush: &Q,
@@ -117,7 +74,7 @@ pub(crate) fn reply_to<R: Wait, Q: SharedQueue, S: SharedSet>(
     index: u32,
     line: &Line,
 ) -> PostReply
-    requires { IsDesk Q.SharedQueue S.SharedSet queue.now rush.now set.now poster desk.old }
+    requires desk { IsDesk Q.SharedQueue S.SharedSet queue.now rush.now set.now poster desk.old }
     ensures desk { IsDesk Q.SharedQueue S.SharedSet queue.now rush.now set.now poster desk.new }
     ensures reply { (result.poster ≡ poster) × (result.line ≡ index) }
     ensures row { Replies Q.SharedQueue S.SharedSet queue.now rush.now set.now desk.old desk.new poster
@@ -146,7 +103,7 @@ pub(crate) fn reply_to<R: Wait, Q: SharedQueue, S: SharedSet>(
             *id,
             true,
         ),
-        Line::Drop { id } => drop_id(rt, set, &mut desk.set, poster, *id),
+        Line::Drop { id } => drop_id(rt, set, &mut desk.set, *id),
     };
     PostReply {
         poster,
@@ -211,18 +168,11 @@ fn word_at(is_rush: bool, at: u64) -> PostWord
 }
 
 // Closes the id.
-fn drop_id<R: Wait, S: SharedSet>(
-    rt: &R,
-    set: &S,
-    ids: &mut S::Pass,
-    poster: u32,
-    id: u32,
-) -> PostWord
-    requires set { S.usable set.now ids.old }
-    requires set_agent { S.agent_of set.now ids.old ≡ poster }
+fn drop_id<R: Wait, S: SharedSet>(rt: &R, set: &S, ids: &mut S::Pass, id: u32) -> PostWord
+    requires { S.usable set.now ids.old }
     ensures set { S.usable set.now ids.new }
-    ensures set_agent { S.agent_of set.now ids.new ≡ poster }
-    ensures part { Drops S.SharedSet set.now ids.old ids.new poster (DropPart poster id result) }
+    ensures agent { KeepsSetAgent S.SharedSet set.now ids.old ids.new }
+    ensures part { Drops S.SharedSet set.now ids.old ids.new (S.agent_of set.now ids.old) (DropPart (S.agent_of set.now ids.old) id result) }
 {
     if remove_key(rt, set, ids, id as u64) {
         PostWord::Dropped

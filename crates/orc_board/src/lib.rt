@@ -9,7 +9,7 @@ mod loops;
 mod replies;
 
 pub use again::{TURNS, calls_have_their_turns, put_job, take_job};
-pub use desk::{Desk, drop_line, post_line, take_one};
+pub use desk::{Desk, reply_to, take_one};
 pub use gate::{Gate, OpenGate};
 pub use lists::{PostList, ReplyList, TakeList};
 pub use loops::{post_records, take_rest};

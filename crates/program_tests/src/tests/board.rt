@@ -8,11 +8,11 @@ mod examples;
 use super::lines_of;
 use orc_board::{
     Desk, Gate, OpenGate, PostList, PostReply, PostWord, Replies, TakeList, TakeReply, TakeWord,
-    drop_line, post_line, post_records, take_one, take_rest,
+    post_records, reply_to, take_one, take_rest,
 };
 use orc_fault::NoMemory;
 use orc_history::{PlainQueue, PlainQueuePass, PlainSet, PlainSetPass, SharedQueue, SharedSet};
-use orc_jobs::{Line, Lines};
+use orc_jobs::Lines;
 use std::alloc::Global;
 use std::cell::Cell;
 use std::sync::Wait;
@@ -182,12 +182,7 @@ fn word_of_line<R: Wait, Q: SharedQueue, S: SharedSet>(
         return None;
     }
     let line = lines.get(index as usize);
-    match line {
-        Line::Post { .. } | Line::Rush { .. } => Some(
-            post_line(rt, queue, rush, set, desk, 1, index, line).what,
-        ),
-        Line::Drop { .. } => Some(drop_line(rt, queue, rush, set, desk, 1, index, line).what),
-    }
+    Some(reply_to(rt, queue, rush, set, desk, 1, index, line).what)
 }
 
 // What comes of three lines that agent 1 posts or drops, of a take without room for replies, and of three takes.

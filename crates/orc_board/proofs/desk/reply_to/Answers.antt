@@ -1,4 +1,4 @@
-use Rattle.std.proofs.Common.{refl, false, true}
+use Rattle.std.proofs.Common.{◌∙◌, refl, false, true}
 use Rattle.orc_board.specs.Desk.{both_seen}
 use Rattle.orc_board.specs.Stretches.{queue_views, set_view}
 use Rattle.orc_board.proofs.Rows.{opened_row, dropped_row, job_line_row, drop_line_row}
@@ -28,5 +28,17 @@ returns-in-Drop-clause-row g c =
     drop_line_row (queue_views g.Q.SharedQueue c.args.queue.now c.args.rush.now) (set_view g.S.SharedSet c.args.set.now) _ _ _ _ _
     (both_seen g.Q.SharedQueue c.args.desk.now.queue c.args.desk.now.rush) (both_seen g.Q.SharedQueue c.args.desk.now.queue c.args.desk.now.rush) _ _
     c.in-Drop.is
-    (dropped_row (queue_views g.Q.SharedQueue c.args.queue.now c.args.rush.now) (set_view g.S.SharedSet c.args.set.now) _ _ _
-    (both_seen g.Q.SharedQueue c.args.desk.now.queue c.args.desk.now.rush) _ _ c.drop_id-what.ensures.part)
+    (dropped_row (queue_views g.Q.SharedQueue c.args.queue.now c.args.rush.now) (set_view g.S.SharedSet c.args.set.now) _ _ _ _
+    (both_seen g.Q.SharedQueue c.args.desk.now.queue c.args.desk.now.rush) _ _ c.requires.desk.set_agent c.drop_id-what.ensures.part)
+
+pub returns-in-Drop-clause-desk : goal.returns-in-Drop-clause-desk
+returns-in-Drop-clause-desk g c =
+    let desk = c.requires.desk in
+    record {
+      queue_pass = desk.queue_pass;
+      rush_pass = desk.rush_pass;
+      set_pass = c.drop_id-what.ensures.set;
+      queue_agent = desk.queue_agent;
+      rush_agent = desk.rush_agent;
+      set_agent = c.drop_id-what.ensures.agent ∙ desk.set_agent;
+    }
