@@ -89,8 +89,8 @@ less_of i n low = omega (arith, low)
 
 -- one stage, and then the others
 module _ {Q P A : Type 0} (q : QueueOf Q P A) (queue : Q) (more : List Q) (lines : List Line) (stage agent : ℕ) (p p2 : P) (rest mid new : List P)
-    (w v : StageWorker P) (ws vs : List (StageWorker P)) (outs : ListWithRoom ℕ) (kept : v ≡ record { agent = w.agent; desk = w.desk; replies = record { posts = w.replies.posts; moves = v.replies.moves } })
-    (one : MovedBetween q queue more lines stage agent p rest p2 mid w.replies.moves v.replies.moves)
+    (w v : StageWorker P) (ws vs : List (StageWorker P)) (outs : ListWithRoom ℕ) (kept : v ≡ record { agent = w.agent; desk = w.desk; replies = record { posts = w.replies.posts; takes = v.replies.takes } })
+    (one : MovedBetween q queue more lines stage agent p rest p2 mid w.replies.takes v.replies.takes)
     (tail : CallerMoved q more lines (stage + 1) agent mid new ws vs outs) where
   abbrev all_gave : ℕ → List QueueShare
   all_gave = ahead [] (ahead (tos one.rows) (λ i. tail.gave (suc i)))
@@ -168,8 +168,8 @@ module _ {Q P A : Type 0} (q : QueueOf Q P A) (queue : Q) (more : List Q) (lines
 
 pub caller_of : {Q P A : Type 0} (q : QueueOf Q P A) (queue : Q) (more queues : List Q) (lines : List Line) (stage agent : ℕ) (p p2 : P)
     (rest mid new old : List P) (w v : StageWorker P) (ws vs olds : List (StageWorker P)) (outs : ListWithRoom ℕ)
-    → queues ≡ queue ∷ more → old ≡ p ∷ rest → olds ≡ w ∷ ws → v ≡ record { agent = w.agent; desk = w.desk; replies = record { posts = w.replies.posts; moves = v.replies.moves } }
-    → MovedBetween q queue more lines stage agent p rest p2 mid w.replies.moves v.replies.moves
+    → queues ≡ queue ∷ more → old ≡ p ∷ rest → olds ≡ w ∷ ws → v ≡ record { agent = w.agent; desk = w.desk; replies = record { posts = w.replies.posts; takes = v.replies.takes } }
+    → MovedBetween q queue more lines stage agent p rest p2 mid w.replies.takes v.replies.takes
     → CallerMoved q more lines (stage + 1) agent mid new ws vs outs
     → CallerMoved q queues lines stage agent old (p2 ∷ new) olds (v ∷ vs) outs
 caller_of q queue more queues lines stage agent p p2 rest mid new old w v ws vs olds outs a b c kept one tail =

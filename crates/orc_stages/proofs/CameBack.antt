@@ -1,5 +1,5 @@
 -- What all workers and the caller have come to, once the caller's passes have learned from all others twice.
-use Rattle.std.proofs.Common.{◌≡◌, ◌≢◌, ℕ, zero, suc, ◌+◌, ◌≤◌, ◌<◌, List, [], ◌∷◌, ◌++◌, length, ◌⊎◌, inl, inr, refl, ap, sym, ◌∙◌, subst, arith, length-append}
+use Rattle.std.proofs.Common.{◌≡◌, ◌≢◌, ℕ, zero, suc, ◌+◌, ◌≤◌, ◌<◌, List, ◌++◌, length, ◌⊎◌, inl, inr, refl, ap, sym, ◌∙◌, subst, arith, length-append}
 use Rattle.std.specs.List.{AllByRecursion}
 use mathlib.Core.List.{IsPrefix}
 use Rattle.orc_history.specs.Journals.{own_of}
@@ -18,10 +18,10 @@ use Rattle.orc_board.specs.Follows.{LastIsEmpty, IsWorker}
 use Rattle.orc_board.proofs.Shares.{prefix_trans}
 use Rattle.orc_board.proofs.ListFacts.{AllByRecursion-map}
 use Rattle.orc_team.proofs.Blocks.{find, nth_is}
-use Rattle.orc_team.proofs.CameBack.{Kept, Learnt, kept_all, learnt_all, others_of, seen_after}
+use Rattle.orc_team.proofs.CameBack.{Kept, Learnt, kept_all, learnt_all, seen_after}
 use Rattle.orc_team.proofs.Learned.{none_at_start, none_since, since, zero_last}
 use Rattle.orc_team.proofs.Numbered.{All-of_map, desks_from, each_number, numbered_next}
-use Rattle.orc_team.proofs.Teams.{AllByRecursion-next, Pairwise-length}
+use Rattle.orc_team.proofs.Teams.{AllByRecursion-next, AllByRecursion-second, Pairwise-length}
 use Rattle.orc_team.specs.Learning.{IsOther, LearnsAll, SameWorker}
 use Rattle.orc_team.specs.Seats.{AreNumbered}
 use Rattle.orc_team.specs.Site.{Site}
@@ -29,13 +29,14 @@ use Rattle.orc_workers.proofs.CameBack.{all_below, crowd_in_run}
 use Rattle.orc_workers.proofs.Learned.{still_last}
 use Rattle.orc_workers.proofs.Resting.{ends_last}
 use Rattle.orc_stages.specs.declared.replies.StageDesk.{StageDesk}
-use Rattle.orc_stages.specs.declared.rooms.Room.{Room}
+use Rattle.orc_stages.specs.declared.replies.StageReply.{StageReply}
+use Rattle.orc_team.specs.declared.rooms.Room.{Room}
 use Rattle.orc_stages.specs.Desks.{ArePasses, view_at, seen_at}
 use Rattle.orc_stages.specs.Learning.{AreKnown, stage_site}
-use Rattle.orc_stages.specs.Team.{DidWork, IsReady, StageWorker, ToldByReplies}
+use Rattle.orc_stages.specs.Team.{DidWork, StageWorker, ToldByReplies}
 use Rattle.orc_stages.specs.Caller.{CallerActs, CallerMoved, spare_at}
 use Rattle.orc_stages.specs.Ran.{CallerRan, in_run, unseen}
-use Rattle.orc_stages.specs.Run.{AllCameBack, CallerMovedFor, HasRoomForMoves, IsNew}
+use Rattle.orc_stages.specs.Run.{AllCameBack, Begins, CallerMovedFor, HasRoomForMoves, IsNew}
 use Rattle.orc_stages.proofs.Shares.{shares_stretch}
 use Rattle.orc_stages.proofs.Told.{Laws, OthersDid, others_first, shares_among, shares_after, shares_until, told_first, told_until}
 use Rattle.orc_stages.proofs.Crew.{Moved, SameDesk, moved_for, moves_at, nth_next, posts_at, spare_behind, spare_is}
@@ -46,23 +47,14 @@ AllBelow q queues posters stages k = (i : ℕ) → AllByRecursion (λ e. IsWorke
 
 -- a worker as its own passes tell of it, and with the room that it has
 record Tells {Q P A : Type 0} (q : QueueOf Q P A) (queues : List Q) (lines : List Line) (posters stages : ℕ) (w : StageWorker P) : Type 0 where
-  told : ToldByReplies (in_run (view_at q queues) posters stages) lines posters w.agent w.replies.posts.items w.replies.moves.items unseen (seen_at q w.desk.passes.items)
+  told : ToldByReplies (in_run (view_at q queues) posters stages) lines posters w.agent w.replies.posts.items w.replies.takes.items unseen (seen_at q w.desk.passes.items)
   room : HasRoomForMoves posters lines w
 
 -- a worker as journals tell of it that all have seen
 record IsTold {Q P A : Type 0} (q : QueueOf Q P A) (queues : List Q) (lines : List Line) (posters stages : ℕ) (k : ℕ → List A) (w : StageWorker P) : Type 0 where
-  told : ToldByReplies (in_run (view_at q queues) posters stages) lines posters w.agent w.replies.posts.items w.replies.moves.items unseen k
+  told : ToldByReplies (in_run (view_at q queues) posters stages) lines posters w.agent w.replies.posts.items w.replies.takes.items unseen k
   room : HasRoomForMoves posters lines w
   seen : (i : ℕ) → seen_at q w.desk.passes.items i ≡ k i
-
-record Begins {Q P A : Type 0} (q : QueueOf Q P A) (queues : List Q) (lines : List Line) (posters : ℕ) (w : StageWorker P) : Type 0 where
-  new : IsNew q queues w.desk.passes.items
-  room : HasRoomForMoves posters lines w
-  none : w.replies.moves.items ≡ []
-
-both : {X : Type 0} (F G H : X → Type 0) (xs : List X) → ((x : X) → F x → G x → H x) → AllByRecursion F xs → AllByRecursion G xs → AllByRecursion H xs
-both F G H [] f a b = tt
-both F G H (x ∷ xs) f a b = (f x a.0 b.0, both F G H xs f a.1 b.1)
 
 module _ {Q P A : Type 0} (q : QueueOf Q P A) (queues : List Q) (lines : List Line) (posters stages : ℕ) (laws : Laws (view_at q queues) (IsWorker posters stages))
   where
@@ -71,17 +63,17 @@ module _ {Q P A : Type 0} (q : QueueOf Q P A) (queues : List Q) (lines : List Li
 
     worked : (w v : StageWorker P) → Begins q queues lines posters w → DidWork q queues lines posters w v → Tells q queues lines posters stages v
     worked w v b d = record {
-      told = told_first V lines posters stages v.agent v.replies.posts.items v.replies.moves.items (seen_at q w.desk.passes.items) (seen_at q v.desk.passes.items) laws b.new d.told;
+      told = told_first V lines posters stages v.agent v.replies.posts.items v.replies.takes.items (seen_at q w.desk.passes.items) (seen_at q v.desk.passes.items) laws b.new d.told;
       room = λ high.
-          let room : length lines ≤ length w.replies.moves.items + w.replies.moves.spare = b.room (omega (arith, high, d.agent_is)) in
+          let room : length lines ≤ length w.replies.takes.items + w.replies.takes.spare = b.room (omega (arith, high, d.agent_is)) in
           omega (arith, room, d.spare, ap length b.none);
     }
 
     -- what learning leaves
     has_room : (w v : StageWorker P) → SameWorker w v → HasRoomForMoves posters lines w → HasRoomForMoves posters lines v
     has_room w v s room = λ high.
-        let before : length lines ≤ length w.replies.moves.items + w.replies.moves.spare = room (omega (arith, high, s.agent_is)) in
-        omega (arith, before, ap (λ (r : Room). length r.moves.items + r.moves.spare) s.replies_are)
+        let before : length lines ≤ length w.replies.takes.items + w.replies.takes.spare = room (omega (arith, high, s.agent_is)) in
+        omega (arith, before, ap (λ (r : Room StageReply). length r.takes.items + r.takes.spare) s.replies_are)
 
     others_then : (k : ℕ → List A) → AllBelow q queues posters stages k → (w v : StageWorker P) → Learnt (stage_site q queues) k w v → (i : ℕ)
         → OthersDid (V i) (IsWorker posters stages) w.agent (seen_at q w.desk.passes.items i) (k i)
@@ -91,12 +83,12 @@ module _ {Q P A : Type 0} (q : QueueOf Q P A) (queues : List Q) (lines : List Li
         → IsTold q queues lines posters stages k v
     learned k below w v t l =
         let X : ℕ → View A QueueEntry QueueRefused = in_run V posters stages in
-        let now : ToldByReplies X lines posters w.agent w.replies.posts.items w.replies.moves.items unseen k =
-        told_until V lines posters stages w.agent w.replies.posts.items w.replies.moves.items (seen_at q w.desk.passes.items) k laws (others_then k below w v l) t.told in
-        let a : ToldByReplies X lines posters v.agent w.replies.posts.items w.replies.moves.items unseen k =
-        subst (λ (x : ℕ). ToldByReplies X lines posters x w.replies.posts.items w.replies.moves.items unseen k) (sym l.same.agent_is) now in
+        let now : ToldByReplies X lines posters w.agent w.replies.posts.items w.replies.takes.items unseen k =
+        told_until V lines posters stages w.agent w.replies.posts.items w.replies.takes.items (seen_at q w.desk.passes.items) k laws (others_then k below w v l) t.told in
+        let a : ToldByReplies X lines posters v.agent w.replies.posts.items w.replies.takes.items unseen k =
+        subst (λ (x : ℕ). ToldByReplies X lines posters x w.replies.posts.items w.replies.takes.items unseen k) (sym l.same.agent_is) now in
         record {
-          told = subst (λ (x : Room). ToldByReplies X lines posters v.agent x.posts.items x.moves.items unseen k) (sym l.same.replies_are) a;
+          told = subst (λ (x : Room StageReply). ToldByReplies X lines posters v.agent x.posts.items x.takes.items unseen k) (sym l.same.replies_are) a;
           room = has_room w v l.same t.room;
           seen = λ i. (l.whole i).is;
         }
@@ -108,8 +100,7 @@ module _ {Q P A : Type 0} (q : QueueOf Q P A) (queues : List Q) (lines : List Li
     -- workers ws at first, vs after their work, us after the caller learned, ts after it moved, and zs after it learned again
     module _ (e0 e1 e2 e3 : StageDesk P) (outs : ListWithRoom ℕ) (ws vs us ts zs : List (StageWorker P)) (below1 : AllBelow q queues posters stages (seen_at q e1.passes.items))
         (below3 : AllBelow q queues posters stages (seen_at q e3.passes.items)) (new : IsNew q queues e0.passes.items) (num : AreNumbered 1 ws) (many : length ws ≡ posters + stages)
-        (fresh : AllByRecursion (λ (w : StageWorker P). IsNew q queues w.desk.passes.items) ws) (room : AllByRecursion (HasRoomForMoves posters lines) ws)
-        (none : AllByRecursion (λ (w : StageWorker P). w.replies.moves.items ≡ []) ws) (did : Pairwise (DidWork q queues lines posters) ws vs)
+        (begins : AllByRecursion (Begins q queues lines posters) ws) (did : Pairwise (DidWork q queues lines posters) ws vs)
         (learn1 : LearnsAll (stage_site q queues) 0 e0 e1 vs us) (same1 : Pairwise SameWorker vs us) (moved : CallerMovedFor q queues lines posters e1.passes.items e2.passes.items us ts outs)
         (enough : length lines ≤ length outs.items + outs.spare) (learn3 : LearnsAll (stage_site q queues) 0 e2 e3 ts zs) (same3 : Pairwise SameWorker ts zs)
         (passes : ArePasses q 0 queues e3.passes.items) (known : AreKnown q queues (suc (posters + stages)) e3.passes.items) (others : AllByRecursion (IsOther (stage_site q queues) 0) zs) where
@@ -124,13 +115,6 @@ module _ {Q P A : Type 0} (q : QueueOf Q P A) (queues : List Q) (lines : List Li
 
       two : Pairwise (Learnt site (seen_at q e3.passes.items)) ts zs
       two = learnt_all site 0 e2 e3 ts zs learn3 same3
-
-      begins : AllByRecursion (Begins q queues lines posters) ws
-      begins =
-          both (λ (w : StageWorker P). IsNew q queues w.desk.passes.items × HasRoomForMoves posters lines w) (λ (w : StageWorker P). w.replies.moves.items ≡ []) (Begins q queues lines posters) ws
-          (λ w a b. record { new = a.0; room = a.1; none = b })
-          (both (λ (w : StageWorker P). IsNew q queues w.desk.passes.items) (HasRoomForMoves posters lines) (λ (w : StageWorker P).
-          IsNew q queues w.desk.passes.items × HasRoomForMoves posters lines w) ws (λ w a b. (a, b)) fresh room) none
 
       told : AllByRecursion (IsTold q queues lines posters stages (seen_at q e1.passes.items)) us
       told =
@@ -193,19 +177,19 @@ module _ {Q P A : Type 0} (q : QueueOf Q P A) (queues : List Q) (lines : List Li
           let w = find (IsTold q queues lines posters stages (seen_at q e1.passes.items)) 1 i us num_us told (omega (arith, low, long_us)) in
           let is : w.worker.agent ≡ suc i = w.agent_is ∙ omega arith in
           let posts_is : posts_at us i ≡ w.worker.replies.posts.items = nth_is (λ (x : StageWorker P). x.replies.posts.items) us i w.worker w.is in
-          let moves_is : moves_at us i ≡ w.worker.replies.moves.items = nth_is (λ (x : StageWorker P). x.replies.moves.items) us i w.worker w.is in
+          let moves_is : moves_at us i ≡ w.worker.replies.takes.items = nth_is (λ (x : StageWorker P). x.replies.takes.items) us i w.worker w.is in
           let posts : posts_at zs i ≡ w.worker.replies.posts.items =
-          nth_next (λ (x : StageWorker P). x.replies.posts.items) SameWorker ts zs (λ x y s. ap (λ (r : Room). r.posts.items) s.replies_are) same3 i
+          nth_next (λ (x : StageWorker P). x.replies.posts.items) SameWorker ts zs (λ x y s. ap (λ (r : Room StageReply). r.posts.items) s.replies_are) same3 i
           ∙ (nth_next (λ (x : StageWorker P). x.replies.posts.items) SameDesk us ts (λ x y s. ap (λ (r : ListWithRoom PostReply). r.items) s.posts_are) moves.desks i ∙ posts_is) in
-          let here : ToldByReplies X lines posters (suc i) w.worker.replies.posts.items w.worker.replies.moves.items unseen (seen_at q e1.passes.items) =
-          subst (λ (x : ℕ). ToldByReplies X lines posters x w.worker.replies.posts.items w.worker.replies.moves.items unseen (seen_at q e1.passes.items)) is w.holds.told in
-          let more : ToldByReplies X lines posters (suc i) w.worker.replies.posts.items w.worker.replies.moves.items unseen (seen_at q e3.passes.items) =
-          told_until V lines posters stages (suc i) w.worker.replies.posts.items w.worker.replies.moves.items (seen_at q e1.passes.items) (seen_at q e3.passes.items) laws
+          let here : ToldByReplies X lines posters (suc i) w.worker.replies.posts.items w.worker.replies.takes.items unseen (seen_at q e1.passes.items) =
+          subst (λ (x : ℕ). ToldByReplies X lines posters x w.worker.replies.posts.items w.worker.replies.takes.items unseen (seen_at q e1.passes.items)) is w.holds.told in
+          let more : ToldByReplies X lines posters (suc i) w.worker.replies.posts.items w.worker.replies.takes.items unseen (seen_at q e3.passes.items) =
+          told_until V lines posters stages (suc i) w.worker.replies.posts.items w.worker.replies.takes.items (seen_at q e1.passes.items) (seen_at q e3.passes.items) laws
           (λ n. record { later = all_later n; own = own_kept (suc i) (omega arith) (omega (arith, low)) n; below = below3 n }) here in
           rw (posts, moves_is) more
 
       moves_zs : (i : ℕ) → moves_at zs i ≡ moves_at ts i
-      moves_zs i = nth_next (λ (x : StageWorker P). x.replies.moves.items) SameWorker ts zs (λ x y s. ap (λ (r : Room). r.moves.items) s.replies_are) same3 i
+      moves_zs i = nth_next (λ (x : StageWorker P). x.replies.takes.items) SameWorker ts zs (λ x y s. ap (λ (r : Room StageReply). r.takes.items) s.replies_are) same3 i
 
       caller_ran : CallerRan (in_run V posters stages) lines stages m.more outs.items (seen_at q e3.passes.items)
       caller_ran = record {
@@ -236,11 +220,11 @@ module _ {Q P A : Type 0} (q : QueueOf Q P A) (queues : List Q) (lines : List Li
       room_at : (i : ℕ) → i < stages → length lines ≤ length (moves_at us (posters + i)) + spare_at us (posters + i)
       room_at i low =
           let w = find (IsTold q queues lines posters stages (seen_at q e1.passes.items)) 1 (posters + i) us num_us told (omega (arith, low, long_us)) in
-          let some : length lines ≤ length w.worker.replies.moves.items + w.worker.replies.moves.spare = w.holds.room (omega (arith, w.agent_is)) in
+          let some : length lines ≤ length w.worker.replies.takes.items + w.worker.replies.takes.spare = w.holds.room (omega (arith, w.agent_is)) in
           omega (
             arith,
             some,
-            ap length (nth_is (λ (x : StageWorker P). x.replies.moves.items) us (posters + i) w.worker w.is),
+            ap length (nth_is (λ (x : StageWorker P). x.replies.takes.items) us (posters + i) w.worker w.is),
             spare_is us (posters + i) w.worker w.is,
           )
 
@@ -264,6 +248,7 @@ module _ {Q P A : Type 0} (q : QueueOf Q P A) (queues : List Q) (lines : List Li
         known = known;
         none_first = laws.none;
         numbered = num_zs;
+        many = long_zs;
         idle = desks_from (λ by (desk : StageDesk P). ArePasses q by queues desk.passes.items) 1 zs num_zs
             (AllByRecursion-map (IsOther site 0) (λ w. ArePasses q w.agent queues w.desk.passes.items) (λ w o. o.is_desk) zs others);
         seen = All-of_map (λ (w : StageWorker P). w.desk) (λ desk. (i : ℕ) → seen_at q desk.passes.items i ≡ seen_at q e3.passes.items i) zs
@@ -299,8 +284,8 @@ below_of q queues posters stages d known i = all_below agent_of_entry (suc (post
 pub others_after : {Q P A : Type 0} (q : QueueOf Q P A) (queues : List Q) (lines : List Line) (posters : ℕ) (ws vs : List (StageWorker P))
     → Pairwise (DidWork q queues lines posters) ws vs → AllByRecursion (IsOther (stage_site q queues) 0) vs
 others_after q queues lines posters ws vs did =
-    others_of (stage_site q queues) 0 (DidWork q queues lines posters)
-    (λ w v d. record { is_desk = d.passes; other = λ e. absurd (omega (arith, e, d.no_caller)) }) ws vs did
+    AllByRecursion-second (IsOther (stage_site q queues) 0) (DidWork q queues lines posters) ws vs
+    (λ w v d. record { is_desk = d.passes; other = λ e. absurd (omega (arith, e, d.no_caller)) }) did
 
 other_still : {Q P A : Type 0} (q : QueueOf Q P A) (queues : List Q) (w v : StageWorker P) → IsOther (stage_site q queues) 0 w → SameDesk w v → IsOther (stage_site q queues) 0 v
 other_still {P = P} q queues w v o s = record {
@@ -315,8 +300,3 @@ pub others_moved : {Q P A : Type 0} (q : QueueOf Q P A) (queues : List Q) (lines
 others_moved q queues lines posters old new ws vs outs m o =
     let desks = (moved_for m.moved.more (length m.front) (length m.before) m.front m.before m.after ws vs m.is_before m.is_after refl refl m.moved.moved).desks in
     AllByRecursion-next (IsOther (stage_site q queues) 0) (IsOther (stage_site q queues) 0) SameDesk ws vs (other_still q queues) o desks
-
-pub none_moved : {Q P A : Type 0} (q : QueueOf Q P A) (queues : List Q) (lines : List Line) (posters : ℕ) (ws : List (StageWorker P))
-    → AllByRecursion (IsReady q queues lines posters) ws → AllByRecursion (λ (w : StageWorker P). w.replies.moves.items ≡ []) ws
-none_moved {P = P} q queues lines posters ws h =
-    AllByRecursion-map (IsReady q queues lines posters) (λ (w : StageWorker P). w.replies.moves.items ≡ []) (λ w r. r.no_moves) ws h

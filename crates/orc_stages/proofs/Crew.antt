@@ -11,12 +11,12 @@ abbrev pub posts_at : {P : Type 0} → List (StageWorker P) → ℕ → List Pos
 posts_at {P = P} ws i = nth_of (λ (w : StageWorker P). w.replies.posts.items) ws i
 
 abbrev pub moves_at : {P : Type 0} → List (StageWorker P) → ℕ → List StageReply
-moves_at {P = P} ws i = nth_of (λ (w : StageWorker P). w.replies.moves.items) ws i
+moves_at {P = P} ws i = nth_of (λ (w : StageWorker P). w.replies.takes.items) ws i
 
 -- the room of the worker at a place
-pub spare_is : {P : Type 0} (ws : List (StageWorker P)) (i : ℕ) (w : StageWorker P) → slice_get ws i ≡ Some w → spare_at ws i ≡ w.replies.moves.spare
+pub spare_is : {P : Type 0} (ws : List (StageWorker P)) (i : ℕ) (w : StageWorker P) → slice_get ws i ≡ Some w → spare_at ws i ≡ w.replies.takes.spare
 spare_is [] i w e = let n : ⊥ = cc in absurd n
-spare_is {P} (v ∷ ws) zero w e = let same : v ≡ w = cc in ap (λ (u : StageWorker P). u.replies.moves.spare) same
+spare_is {P} (v ∷ ws) zero w e = let same : v ≡ w = cc in ap (λ (u : StageWorker P). u.replies.takes.spare) same
 spare_is (v ∷ ws) (suc i) w e = spare_is ws i w e
 
 -- items that stay the same, place by place
@@ -91,7 +91,7 @@ pub record Moved {P : Type 0} (more : ℕ → List StageReply) (posters stages :
 moved_behind : {P : Type 0} (more : ℕ → List StageReply) (front before after : List (StageWorker P)) → AllMovedFor more before after
     → Moved more (length front) (length before) (front ++ before) (front ++ after)
 moved_behind {P} more front before after m =
-    let moves : StageWorker P → List StageReply = λ w. w.replies.moves.items in
+    let moves : StageWorker P → List StageReply = λ w. w.replies.takes.items in
     record {
       desks = same_desks front before after (moved_desks more before after m);
       kept = λ i low. nth_front moves front after i low ∙ sym (nth_front moves front before i low);

@@ -38,42 +38,45 @@ own_step false a (Took by job at) es h =
     cases (by == a) h
 own_step put a (Empty by) es h = h
 
+-- an entry with such a job is its own agent's, where no other agent has one
+own_joins : (put : Bool) (w by job : ℕ) (e : QueueEntry) (es : List QueueEntry) → ((xs : List QueueEntry) → jobs_of put (e ∷ xs) ≡ job ∷ jobs_of put xs)
+    → ((a : ℕ) → a ≢ w → jobs_of put (cond (by == a) (e ∷ filter (is_own_move a) es) (filter (is_own_move a) es)) ≡ [])
+    → jobs_of put es ≡ jobs_of put (filter (is_own_move w) es)
+    → job ∷ jobs_of put es ≡ jobs_of put (cond (by == w) (e ∷ filter (is_own_move w) es) (filter (is_own_move w) es))
+own_joins put w by job e es with_job h rest =
+    let F : List QueueEntry = filter (is_own_move w) es in
+    let cases : (b : Bool) → (by == w) ≡ b → job ∷ jobs_of put es ≡ jobs_of put (cond b (e ∷ F) F) = elim [
+      | true ↦ λ x. ap (λ z. job ∷ z) rest ∙ sym (with_job F)
+      | false ↦ λ x.
+          let own : List QueueEntry = filter (is_own_move by) es in
+          let here : jobs_of put (e ∷ own) ≡ [] = rw (eq-yes by by refl) at (h by (eq-false by w x)) in
+          let first : job ∷ jobs_of put own ≡ [] = sym (with_job own) ∙ here in
+          let n : ⊥ = cc in
+          absurd n
+    ] in
+    cases (by == w) refl
+
+-- and another changes nothing
+own_skips : (put : Bool) (w by : ℕ) (e : QueueEntry) (es : List QueueEntry) → ((xs : List QueueEntry) → jobs_of put (e ∷ xs) ≡ jobs_of put xs)
+    → jobs_of put es ≡ jobs_of put (filter (is_own_move w) es)
+    → jobs_of put es ≡ jobs_of put (cond (by == w) (e ∷ filter (is_own_move w) es) (filter (is_own_move w) es))
+own_skips put w by e es no_job rest =
+    let F : List QueueEntry = filter (is_own_move w) es in
+    let cases : (b : Bool) → jobs_of put es ≡ jobs_of put (cond b (e ∷ F) F) = elim [ true ↦ rest ∙ sym (no_job F) | false ↦ rest ] in
+    cases (by == w)
+
 -- where one agent alone has such entries, its own are all
 pub jobs_only : (put : Bool) (w : ℕ) (es : List QueueEntry) → ((a : ℕ) → a ≢ w → jobs_of put (filter (is_own_move a) es) ≡ [])
     → jobs_of put es ≡ jobs_of put (filter (is_own_move w) es)
 jobs_only put w [] h = refl
 jobs_only true w (Put by job at ∷ es) h =
-    let rest = jobs_only true w es (λ a other. own_step true a (Put by job at) es (h a other)) in
-    let F : List QueueEntry = filter (is_own_move w) es in
-    let cases : (b : Bool) → (by == w) ≡ b → job ∷ jobs_of true es ≡ jobs_of true (cond b (Put by job at ∷ F) F) = elim [
-      | true ↦ λ e. ap (λ z. job ∷ z) rest
-      | false ↦ λ e.
-          let here : job ∷ jobs_of true (filter (is_own_move by) es) ≡ [] = rw (eq-yes by by refl) at (h by (eq-false by w e)) in
-          let n : ⊥ = cc in
-          absurd n
-    ] in
-    cases (by == w) refl
+    own_joins true w by job (Put by job at) es (λ xs. refl) h (jobs_only true w es (λ a other. own_step true a (Put by job at) es (h a other)))
 jobs_only false w (Put by job at ∷ es) h =
-    let rest = jobs_only false w es (λ a other. own_step false a (Put by job at) es (h a other)) in
-    let F : List QueueEntry = filter (is_own_move w) es in
-    let cases : (b : Bool) → jobs_of false es ≡ jobs_of false (cond b (Put by job at ∷ F) F) = elim [ true ↦ rest | false ↦ rest ] in
-    cases (by == w)
+    own_skips false w by (Put by job at) es (λ xs. refl) (jobs_only false w es (λ a other. own_step false a (Put by job at) es (h a other)))
 jobs_only true w (Took by job at ∷ es) h =
-    let rest = jobs_only true w es (λ a other. own_step true a (Took by job at) es (h a other)) in
-    let F : List QueueEntry = filter (is_own_move w) es in
-    let cases : (b : Bool) → jobs_of true es ≡ jobs_of true (cond b (Took by job at ∷ F) F) = elim [ true ↦ rest | false ↦ rest ] in
-    cases (by == w)
+    own_skips true w by (Took by job at) es (λ xs. refl) (jobs_only true w es (λ a other. own_step true a (Took by job at) es (h a other)))
 jobs_only false w (Took by job at ∷ es) h =
-    let rest = jobs_only false w es (λ a other. own_step false a (Took by job at) es (h a other)) in
-    let F : List QueueEntry = filter (is_own_move w) es in
-    let cases : (b : Bool) → (by == w) ≡ b → job ∷ jobs_of false es ≡ jobs_of false (cond b (Took by job at ∷ F) F) = elim [
-      | true ↦ λ e. ap (λ z. job ∷ z) rest
-      | false ↦ λ e.
-          let here : job ∷ jobs_of false (filter (is_own_move by) es) ≡ [] = rw (eq-yes by by refl) at (h by (eq-false by w e)) in
-          let n : ⊥ = cc in
-          absurd n
-    ] in
-    cases (by == w) refl
+    own_joins false w by job (Took by job at) es (λ xs. refl) h (jobs_only false w es (λ a other. own_step false a (Took by job at) es (h a other)))
 jobs_only put w (Empty by ∷ es) h = jobs_only put w es (λ a other. own_step put a (Empty by) es (h a other))
 
 -- an agent that has no entry

@@ -111,7 +111,7 @@ module _ {Q P A : Type 0} (q : QueueOf Q P A) (queues : List Q) (lines : List Li
   moves_keyed (suc i) = elim (le-cases stages i) as (λ _. AllByRecursion (λ (r : StageReply). r.stage ≡ suc i) (moves_at ws (posters + i))) [
     | inl high ↦
         subst (AllByRecursion (λ (r : StageReply). r.stage ≡ suc i))
-        (sym (nth_out (λ (w : StageWorker P). w.replies.moves.items) ws (posters + i) (omega (arith, high, many)))) tt
+        (sym (nth_out (λ (w : StageWorker P). w.replies.takes.items) ws (posters + i) (omega (arith, high, many)))) tt
     | inr low ↦
         let s = (stage_at i low).ran in
         let own : AllByRecursion (λ (r : StageReply). r.stage ≡ suc i) (c.own i) =
@@ -136,10 +136,10 @@ module _ {Q P A : Type 0} (q : QueueOf Q P A) (queues : List Q) (lines : List Li
       ∙ (blocks_add (post_block ws) (suc posters) stages
       ∙ (ap (λ z. blocks (post_block ws) (suc posters) ++ z) rest ∙ append-nil (blocks (post_block ws) (suc posters))))))
 
-  moves_blocks : all_of (λ (w : StageWorker P). w.replies.moves.items) ws ≡ blocks (move_block posters ws) (suc stages)
+  moves_blocks : all_of (λ (w : StageWorker P). w.replies.takes.items) ws ≡ blocks (move_block posters ws) (suc stages)
   moves_blocks =
       let nth : ℕ → List StageReply = λ i. moves_at ws i in
-      all_blocks (λ (w : StageWorker P). w.replies.moves.items) ws
+      all_blocks (λ (w : StageWorker P). w.replies.takes.items) ws
       ∙ (ap (blocks nth) many
       ∙ (blocks_add nth posters stages
       ∙ (ap (λ z. z ++ blocks (λ i. nth (posters + i)) stages) (blocks_none nth posters (λ i low. (poster_at i low).none))
@@ -189,7 +189,7 @@ module _ {Q P A : Type 0} (q : QueueOf Q P A) (queues : List Q) (lines : List Li
 
   -- there are no more replies than there is room for
   pub few_replies : (length (all_of (λ (w : StageWorker P). w.replies.posts.items) ws) ≤ length lines)
-      × (length (all_of (λ (w : StageWorker P). w.replies.moves.items) ws) ≤ stages * length lines)
+      × (length (all_of (λ (w : StageWorker P). w.replies.takes.items) ws) ≤ stages * length lines)
   few_replies =
       let posts : length (blocks (post_block ws) (suc posters)) ≡ length lines =
       all_posts V lines posters stages (blocks (post_block ws) (suc posters)) (λ i. c.work (posters + i)) c.own outs k some short ran in
@@ -203,7 +203,7 @@ module _ {Q P A : Type 0} (q : QueueOf Q P A) (queues : List Q) (lines : List Li
       (omega (arith, posts, ap length posts_blocks), omega (arith, each, cons, ap length moves_blocks))
 
   pub over : (desks : List (StageDesk P)) (posts : List PostReply) (moves : List StageReply) → desks ≡ desk ∷ map (λ (w : StageWorker P). w.desk) ws
-      → posts ≡ all_of (λ (w : StageWorker P). w.replies.posts.items) ws → moves ≡ all_of (λ (w : StageWorker P). w.replies.moves.items) ws
+      → posts ≡ all_of (λ (w : StageWorker P). w.replies.posts.items) ws → moves ≡ all_of (λ (w : StageWorker P). w.replies.takes.items) ws
       → AreIdle q queues 0 desks × (length desks ≡ suc (posters + stages)) × HaveSeen q (first_seen q desks) desks
       × IsPipeline V lines posters stages posts moves outs (first_seen q desks)
   over desks posts moves a b d = rw (a, b ∙ posts_blocks, d ∙ moves_blocks) (

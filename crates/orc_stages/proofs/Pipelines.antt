@@ -338,32 +338,21 @@ module _ {A : Type 0} (x : ℕ → View A QueueEntry QueueRefused) (lines : List
   fewer_tooks i =
       omega (arith, ap length (all_jobs i), length-append (jobs_of false (h i)) (map (λ (z : ℕ × ℕ). z.0) (waiting_after [] (h i))))
 
+  -- no more are moved by a stage than were put into its queue
+  moved_of_put : (i : ℕ) → i < stages → length (jobs_of true (h i)) ≤ length lines → length (work i ++ own i) ≤ length lines
+  moved_of_put i low few =
+      let moves : List StageReply = work i ++ own i in
+      omega (arith, few, fewer_tooks i, ap length (tooks_are i low), length-map moves (λ (r : StageReply). r.line))
+
   few_puts : (i : ℕ) → i ≤ stages → length (jobs_of true (h i)) ≤ length lines
   few_puts zero low = first_few
   few_puts (suc i) low =
       let less : i < stages = omega (arith, low) in
-      let moves : List StageReply = work i ++ own i in
-      omega (
-        arith,
-        few_puts i (omega (arith, low)),
-        fewer_tooks i,
-        ap length (tooks_are i less),
-        length-map moves (λ (r : StageReply). r.line),
-        ap length (puts_are i less),
-        kept_few moves,
-      )
+      let few = moved_of_put i less (few_puts i (omega (arith, low))) in
+      omega (arith, few, ap length (puts_are i less), kept_few (work i ++ own i))
 
-  -- and no more are moved by a stage
   pub few_moves : (i : ℕ) → i < stages → length (work i ++ own i) ≤ length lines
-  few_moves i low =
-      let moves : List StageReply = work i ++ own i in
-      omega (
-        arith,
-        few_puts i (omega (arith, low)),
-        fewer_tooks i,
-        ap length (tooks_are i low),
-        length-map moves (λ (r : StageReply). r.line),
-      )
+  few_moves i low = moved_of_put i low (few_puts i (omega (arith, low)))
 
   few_positions : (i : ℕ) → i ≤ stages → puts_in (h i) < 2 ^ 62
   few_positions i low = omega (arith, puts_counted (h i), few_puts i low, short)

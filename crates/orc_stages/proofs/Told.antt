@@ -1,5 +1,5 @@
 -- What an agent did, told from the beginning of all journals, beside all agents of the run, and past what others did later.
-use Rattle.std.proofs.Common.{◌≡◌, ℕ, List, [], ◌∷◌, ◌++◌, true, refl, ap, sym, ◌∙◌}
+use Rattle.std.proofs.Common.{◌≡◌, ℕ, List, [], ◌++◌, true, refl, ap, sym, ◌∙◌}
 use Rattle.std.specs.List.{AllByRecursion}
 use mathlib.Core.List.{IsPrefix}
 use Rattle.orc_history.specs.Journals.{own_of}
@@ -10,14 +10,14 @@ use Rattle.orc_history.specs.declared.set.SetEntry.{SetEntry}
 use Rattle.orc_history.specs.declared.set.ListRefused.{ListRefused}
 use Rattle.orc_jobs.specs.declared.line.Line.{Line}
 use Rattle.orc_board.specs.declared.replies.PostReply.{PostReply}
-use Rattle.orc_board.specs.Stretches.{View, Row, Stretch, Did, Stands, of_queue, of_set, nothing, beside, all_beside}
+use Rattle.orc_board.specs.Stretches.{View, Stretch, Did, of_queue, nothing, beside}
 use Rattle.orc_board.specs.Follows.{IsWorker}
-use Rattle.orc_board.proofs.Shares.{Did-nothing, DidAll-before, DidAll-more}
-use Rattle.orc_board.proofs.Wholes.{Below, Stands-beside}
+use Rattle.orc_board.proofs.Shares.{DidAll-before, DidAll-more}
+use Rattle.orc_board.proofs.Wholes.{Below, DidAll-beside}
 use Rattle.orc_team.proofs.Learned.{Grows, none_since, since}
 use Rattle.orc_workers.proofs.Learned.{quiet, still_last}
 use Rattle.orc_stages.specs.declared.replies.StageReply.{StageReply}
-use Rattle.orc_stages.specs.Stage.{QueueShare, DidShares}
+use Rattle.orc_stages.specs.Stage.{QueueShare}
 use Rattle.orc_stages.specs.Desks.{Acts}
 use Rattle.orc_stages.specs.Team.{ToldByReplies}
 use Rattle.orc_stages.specs.Ran.{in_run, unseen}
@@ -26,24 +26,6 @@ use Rattle.orc_stages.proofs.Shares.{self}
 -- a set beside a queue of which nothing is known, and in which nothing happens
 abbrev no_set : View ℕ SetEntry ListRefused
 no_set = record { history = λ j. []; licence = λ agent why j from to. ⊥; crowd = λ agent. ⊥ }
-
-abbrev alone : QueueShare → Row
-alone share = record { queues = λ rush. share; set = nothing }
-
--- the same beside more agents
-did_beside : {A : Type 0} (x : View A QueueEntry QueueRefused) (C : ℕ → Type 0) → Below x.crowd C → (agent : ℕ) (share : QueueShare) (j k : List A)
-    → Did of_queue x agent share j k → Did of_queue (beside x C) agent share j k
-did_beside {A} x C few agent share j k d =
-    let both : Stands (all_beside (λ rush. x) C) (beside no_set C) agent (alone share) (λ rush. j) [] (λ rush. k) [] =
-    Stands-beside (λ rush. x) no_set C (λ rush. few) (λ a h. absurd h) agent (alone share) (λ rush. j) (λ rush. k) [] []
-    (record { queues = λ rush. d; set = Did-nothing of_set no_set agent [] }) in
-    both.queues true
-
-shares_beside : {A : Type 0} (x : View A QueueEntry QueueRefused) (C : ℕ → Type 0) → Below x.crowd C → (agent : ℕ) (shares : List QueueShare) (j k : List A)
-    → DidShares x agent shares j k → DidShares (beside x C) agent shares j k
-shares_beside x C few agent [] j k c = did_beside x C few agent nothing j k c
-shares_beside x C few agent (share ∷ shares) j k (i, one, c) =
-    (i, did_beside x C few agent share j i one, shares_beside x C few agent shares i k c)
 
 -- from the beginning to a journal whose history is empty
 from_start : {A : Type 0} (x : View A QueueEntry QueueRefused) (agent : ℕ) (j : List A) → x.history [] ≡ [] → x.history j ≡ []
@@ -74,7 +56,7 @@ pub shares_first : {A : Type 0} (x : ℕ → View A QueueEntry QueueRefused) (C 
     → Laws x C → ((i : ℕ) → (x i).history (j i) ≡ []) → Acts x agent acts j k → Acts (λ i. beside (x i) C) agent acts unseen k
 shares_first x C agent acts j k laws new c = λ i.
     DidAll-before of_queue (beside (x i) C) agent self (acts i) [] (j i) (k i) (from_start (beside (x i) C) agent (j i) (laws.none i) (new i))
-    (shares_beside (x i) C (laws.few i) agent (acts i) (j i) (k i) (c i))
+    (DidAll-beside of_queue (x i) C (laws.few i) agent self (acts i) (j i) (k i) (c i))
 
 -- behind what others did first
 pub shares_after : {A : Type 0} (x : ℕ → View A QueueEntry QueueRefused) (C : ℕ → Type 0) (agent : ℕ) (acts : ℕ → List QueueShare) (j k l : ℕ → List A)
@@ -85,7 +67,7 @@ shares_after x C agent acts j k l laws o c = λ i.
 -- beside more agents
 pub shares_among : {A : Type 0} (x : ℕ → View A QueueEntry QueueRefused) (C : ℕ → Type 0) (agent : ℕ) (acts : ℕ → List QueueShare) (j k : ℕ → List A)
     → Laws x C → Acts x agent acts j k → Acts (λ i. beside (x i) C) agent acts j k
-shares_among x C agent acts j k laws c = λ i. shares_beside (x i) C (laws.few i) agent (acts i) (j i) (k i) (c i)
+shares_among x C agent acts j k laws c = λ i. DidAll-beside of_queue (x i) C (laws.few i) agent self (acts i) (j i) (k i) (c i)
 
 -- past what others did later
 pub shares_until : {A : Type 0} (x : ℕ → View A QueueEntry QueueRefused) (C : ℕ → Type 0) (agent : ℕ) (acts : ℕ → List QueueShare) (j k l : ℕ → List A)

@@ -17,8 +17,8 @@ pub record MovedFor {P : Type 0} (more : List StageReply) (w v : StageWorker P) 
   pub agent_is : v.agent ≡ w.agent
   pub desk_is : v.desk ≡ w.desk
   pub posts_are : v.replies.posts ≡ w.replies.posts
-  pub moves_are : v.replies.moves.items ≡ w.replies.moves.items ++ more
-  pub spare : length v.replies.moves.items + v.replies.moves.spare ≡ length w.replies.moves.items + w.replies.moves.spare
+  pub moves_are : v.replies.takes.items ≡ w.replies.takes.items ++ more
+  pub spare : length v.replies.takes.items + v.replies.takes.spare ≡ length w.replies.takes.items + w.replies.takes.spare
 
 -- so each of these workers, the one at a place with the replies of that place
 abbrev pub AllMovedFor : {P : Type 0} → (ℕ → List StageReply) → List (StageWorker P) → List (StageWorker P) → Type 0
@@ -30,7 +30,7 @@ AllMovedFor more (w ∷ ws) (v ∷ vs) = MovedFor (more 0) w v × AllMovedFor (�
 -- how much room the worker at a place has left
 abbrev pub spare_at : {P : Type 0} → List (StageWorker P) → ℕ → ℕ
 spare_at [] i = 0
-spare_at (w ∷ ws) zero = w.replies.moves.spare
+spare_at (w ∷ ws) zero = w.replies.takes.spare
 spare_at (w ∷ ws) (suc i) = spare_at ws i
 
 -- the caller as the stages of these numbers: what it put into each queue, and what it then took from it; these replies are those of

@@ -39,6 +39,11 @@ ArePasses q agent [] (p ∷ ps) = ⊥
 ArePasses q agent (queue ∷ queues) [] = ⊥
 ArePasses q agent (queue ∷ queues) (p ∷ ps) = q.usable queue p × (q.agent_of queue p ≡ agent) × ArePasses q agent queues ps
 
+-- the first of these passes is one of this queue, and of this agent
+abbrev pub HasAgent : {Q P A : Type 0} → QueueOf Q P A → Q → ℕ → List P → Type 0
+HasAgent q queue agent [] = ⊥
+HasAgent q queue agent (p ∷ ps) = q.agent_of queue p ≡ agent
+
 -- in each queue an agent did these shares between the journals j and k
 abbrev pub Acts : {A : Type 0} → (ℕ → View A QueueEntry QueueRefused) → ℕ → (ℕ → List QueueShare) → (ℕ → List A) → (ℕ → List A) → Type 0
 Acts x agent acts j k = (i : ℕ) → DidShares (x i) agent (acts i) (j i) (k i)

@@ -6,5 +6,4 @@ pub mod Learning
 pub mod Caller
 pub mod Pipeline
 pub mod Ran
-pub mod Seats
 pub mod Run

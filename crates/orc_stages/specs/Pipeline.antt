@@ -92,3 +92,10 @@ pub record IsPipeline {A : Type 0} (x : ℕ → View A QueueEntry QueueRefused) 
   pub in_order : moves ≡ by_key (λ (r : StageReply). r.stage) (suc stages) moves
   pub moved : (i : ℕ) → i < stages → StageFollows (x i) (x (suc i)) lines posters stages (suc i) (moves_of (suc i) moves) (k i) (k (suc i))
   pub outs_are : outs ≡ jobs_of false ((x stages).history (k stages))
+
+-- of pipelines over these queues: where each job found a place at each stage, all jobs come out, in the order in which they were put
+abbrev pub AllComeOut : {A : Type 0} → (ℕ → View A QueueEntry QueueRefused) → Type 0
+AllComeOut {A = A} x =
+    (lines : List Line) (posters stages : ℕ) (posts : List PostReply) (moves : List StageReply) (outs : List ℕ) (k : ℕ → List A)
+    → IsPipeline x lines posters stages posts moves outs k → AllByRecursion (λ (r : StageReply). r.value ≢ None) moves
+    → outs ≡ jobs_of true ((x 0).history (k 0))

@@ -9,11 +9,12 @@ use Rattle.orc_jobs.specs.declared.line.Line.{Line}
 use Rattle.orc_jobs.specs.Line.{jobs_in}
 use Rattle.orc_board.specs.declared.replies.PostReply.{PostReply}
 use Rattle.orc_board.specs.Stretches.{View, beside}
-use Rattle.orc_board.specs.Follows.{AreInOrder, IsWorker, LastIsEmpty, ZeroLast, posts_of}
+use Rattle.orc_board.specs.Follows.{AreInOrder, IsWorker, LastIsEmpty, ZeroLast, by_key, posts_of}
 use Rattle.orc_stages.specs.declared.replies.StageReply.{StageReply}
 use Rattle.orc_stages.specs.Stage.{QueueShare}
 use Rattle.orc_stages.specs.Desks.{Acts, PosterActs, StageActs}
 use Rattle.orc_stages.specs.Caller.{CallerActs}
+use Rattle.orc_stages.specs.Pipeline.{IsPipeline, moves_of}
 
 abbrev pub unseen : {A : Type 0} → ℕ → List A
 unseen i = []
@@ -60,3 +61,11 @@ pub record Ran {A : Type 0} (x : ℕ → View A QueueEntry QueueRefused) (lines 
   pub caller : CallerRan (in_run x posters stages) lines stages own outs k
   pub ended : (i : ℕ) → i < stages → LastIsEmpty 0 ((x i).history (k i)) ⊎ (length lines ≤ length (work i ++ own i))
   pub outs_ended : LastIsEmpty 0 ((x stages).history (k stages)) ⊎ (length lines ≤ length outs)
+
+-- such runs over these queues form pipelines, whose replies of stages are those of the workers and then the caller's, stage by stage
+abbrev pub RunsArePipelines : {A : Type 0} → (ℕ → View A QueueEntry QueueRefused) → Type 0
+RunsArePipelines {A = A} x =
+    (lines : List Line) (posters stages : ℕ) (posts : List PostReply) (work own : ℕ → List StageReply) (moves : List StageReply) (outs : List ℕ)
+    (k : ℕ → List A) → 1 ≤ posters → length lines ≤ 65535 → Ran x lines posters stages posts work own outs k
+    → moves ≡ by_key (λ (r : StageReply). r.stage) (suc stages) moves → ((i : ℕ) → i < stages → moves_of (suc i) moves ≡ work i ++ own i)
+    → IsPipeline x lines posters stages posts moves outs k

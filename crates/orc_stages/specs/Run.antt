@@ -75,7 +75,13 @@ IsRunOf q queues lines posters desks done =
 
 -- a worker that has room for as many moves as there are lines, if it is a stage's
 abbrev pub HasRoomForMoves : {P : Type 0} → ℕ → List Line → StageWorker P → Type 0
-HasRoomForMoves posters lines w = posters < w.agent → length lines ≤ length w.replies.moves.items + w.replies.moves.spare
+HasRoomForMoves posters lines w = posters < w.agent → length lines ≤ length w.replies.takes.items + w.replies.takes.spare
+
+-- a worker that begins: its passes have seen no entry, it has moved nothing, and it has that room
+pub record Begins {Q P A : Type 0} (q : QueueOf Q P A) (queues : List Q) (lines : List Line) (posters : ℕ) (w : StageWorker P) : Type 0 where
+  pub new : IsNew q queues w.desk.passes.items
+  pub room : HasRoomForMoves posters lines w
+  pub none : w.replies.takes.items ≡ []
 
 -- of these workers the caller passed over those of posters, and moved what was left for the others, the stages
 pub record CallerMovedFor {Q P A : Type 0} (q : QueueOf Q P A) (queues : List Q) (lines : List Line) (posters : ℕ) (old new : List P) (ws vs : List (StageWorker P))
@@ -96,14 +102,15 @@ pub record AllCameBack {Q P A : Type 0} (q : QueueOf Q P A) (queues : List Q) (l
   pub known : AreKnown q queues (suc (posters + stages)) passes
   pub none_first : (i : ℕ) → (view_at q queues i).history [] ≡ []
   pub numbered : AreNumbered 1 ws
+  pub many : length ws ≡ posters + stages
   pub idle : AreIdle q queues 1 (map (λ (w : StageWorker P). w.desk) ws)
   pub seen : HaveSeen q (seen_at q passes) (map (λ (w : StageWorker P). w.desk) ws)
   pub work : ℕ → List StageReply
   pub own : ℕ → List StageReply
   pub told : (i : ℕ) → i < length ws
       → ToldByReplies (in_run (view_at q queues) posters stages) lines posters (suc i) (nth_of (λ (w : StageWorker P). w.replies.posts.items) ws i) (work i) unseen (seen_at q passes)
-  pub of_posters : (i : ℕ) → i < posters → nth_of (λ (w : StageWorker P). w.replies.moves.items) ws i ≡ work i
-  pub of_stages : (i : ℕ) → i < stages → nth_of (λ (w : StageWorker P). w.replies.moves.items) ws (posters + i) ≡ work (posters + i) ++ own i
+  pub of_posters : (i : ℕ) → i < posters → nth_of (λ (w : StageWorker P). w.replies.takes.items) ws i ≡ work i
+  pub of_stages : (i : ℕ) → i < stages → nth_of (λ (w : StageWorker P). w.replies.takes.items) ws (posters + i) ≡ work (posters + i) ++ own i
   pub moved : CallerRan (in_run (view_at q queues) posters stages) lines stages own outs (seen_at q passes)
   pub zero_last : (i : ℕ) → ZeroLast agent_of_entry ((view_at q queues i).history (seen_at q passes i))
   pub ended : (i : ℕ) → i < stages → LastIsEmpty 0 ((view_at q queues i).history (seen_at q passes i)) ⊎ (length lines ≤ length (work (posters + i) ++ own i))

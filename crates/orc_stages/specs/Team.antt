@@ -12,13 +12,13 @@ use Rattle.orc_board.specs.Follows.{LastIsEmpty, own_records}
 use Rattle.orc_stages.specs.declared.replies.StageReply.{StageReply}
 use Rattle.orc_team.specs.declared.team.Worker.{Worker}
 use Rattle.orc_stages.specs.declared.replies.StageDesk.{StageDesk}
-use Rattle.orc_stages.specs.declared.rooms.Room.{Room}
+use Rattle.orc_team.specs.declared.rooms.Room.{Room}
 use Rattle.orc_stages.specs.Stage.{QueueShare}
 use Rattle.orc_stages.specs.Desks.{ArePasses, Acts, PosterActs, StageActs, view_at, seen_at}
 
 -- a poster, or the worker of a stage
 abbrev pub StageWorker : Type 0 → Type 0
-StageWorker P = Worker (StageDesk P) Room
+StageWorker P = Worker (StageDesk P) (Room StageReply)
 
 -- a worker that may begin: no caller, with a pass of each queue, and with room for all that it may reply
 pub record IsReady {Q P A : Type 0} (q : QueueOf Q P A) (queues : List Q) (lines : List Line) (posters : ℕ) (w : StageWorker P) : Type 0 where
@@ -28,9 +28,9 @@ pub record IsReady {Q P A : Type 0} (q : QueueOf Q P A) (queues : List Q) (lines
   pub few : (2 ≤ length queues) × (length queues ≤ 7)
   pub passes : ArePasses q w.agent queues w.desk.passes.items
   pub no_posts : w.replies.posts.items ≡ []
-  pub no_moves : w.replies.moves.items ≡ []
+  pub no_moves : w.replies.takes.items ≡ []
   pub post_room : w.agent ≤ posters → length (own_records posters w.agent (length lines)) ≤ w.replies.posts.spare
-  pub move_room : posters < w.agent → jobs_in lines ≤ w.replies.moves.spare
+  pub move_room : posters < w.agent → jobs_in lines ≤ w.replies.takes.spare
 
 -- what a poster or a stage did between the journals j and k, as its replies tell; a stage is that of its number behind the posters
 pub record ToldByReplies {A : Type 0} (x : ℕ → View A QueueEntry QueueRefused) (lines : List Line) (posters agent : ℕ) (posts : List PostReply)
@@ -46,5 +46,5 @@ pub record DidWork {Q P A : Type 0} (q : QueueOf Q P A) (queues : List Q) (lines
   pub agent_is : v.agent ≡ w.agent
   pub no_caller : 1 ≤ v.agent
   pub passes : ArePasses q v.agent queues v.desk.passes.items
-  pub told : ToldByReplies (view_at q queues) lines posters v.agent v.replies.posts.items v.replies.moves.items (seen_at q w.desk.passes.items) (seen_at q v.desk.passes.items)
-  pub spare : length v.replies.moves.items + v.replies.moves.spare ≡ w.replies.moves.spare
+  pub told : ToldByReplies (view_at q queues) lines posters v.agent v.replies.posts.items v.replies.takes.items (seen_at q w.desk.passes.items) (seen_at q v.desk.passes.items)
+  pub spare : length v.replies.takes.items + v.replies.takes.spare ≡ w.replies.takes.spare

@@ -87,8 +87,8 @@ fn move_between<R: Wait, Q: SharedQueue>(
     requires good { AreGood lines.now }
     requires stage { (1 ≤ stage) × (stage ≤ 6) }
     ensures passes { ArePasses Q.SharedQueue agent (queue.now ∷ more.now) (pass.new ∷ rest.new) }
-    ensures moved { MovedBetween Q.SharedQueue queue.now more.now lines.now stage agent pass.old rest.old pass.new rest.new worker.old.replies.moves worker.new.replies.moves }
-    ensures kept { worker.new ≡ record worker.old { replies = record worker.old.replies { moves = worker.new.replies.moves } } }
+    ensures moved { MovedBetween Q.SharedQueue queue.now more.now lines.now stage agent pass.old rest.old pass.new rest.new worker.old.replies.takes worker.new.replies.takes }
+    ensures kept { worker.new ≡ record worker.old { replies = record worker.old.replies { takes = worker.new.replies.takes } } }
 {
     let _ = agent;
     let Some((next, _)) = more.split_first() else {
@@ -105,6 +105,6 @@ fn move_between<R: Wait, Q: SharedQueue>(
         pass_of_next,
         stage,
         lines,
-        &mut worker.replies.moves,
+        &mut worker.replies.takes,
     );
 }

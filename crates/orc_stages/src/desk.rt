@@ -53,14 +53,14 @@ pub(crate) fn run_stage_at<R: Wait, Q: SharedQueue, G: Gate>(
     stage: u32,
     lines: &Lines,
     gate: &G,
-    before: &AtomicU64,
-    after: &AtomicU64,
+    putting: &[AtomicU64],
     replies: &mut StageList,
 )
     requires passes { ArePasses Q.SharedQueue agent queues.now passes.old }
     requires two { skip + 1 < length queues.now }
     requires good { AreGood lines.now }
     requires stage { (1 ≤ stage) × (stage ≤ 6) }
+    requires counts { length putting.now ≡ 7 }
     requires none { replies.old.items ≡ [] }
     requires room { jobs_in lines.now ≤ replies.old.spare }
     ensures passes { ArePasses Q.SharedQueue agent queues.now passes.new }
@@ -83,14 +83,13 @@ pub(crate) fn run_stage_at<R: Wait, Q: SharedQueue, G: Gate>(
             stage,
             lines,
             gate,
-            before,
-            after,
+            putting,
             replies,
         );
         return;
     }
     run_between(
-        rt, queue, more, pass, rest, agent, stage, lines, gate, before, after, replies,
+        rt, queue, more, pass, rest, agent, stage, lines, gate, putting, replies,
     )
 }
 
@@ -105,14 +104,14 @@ fn run_between<R: Wait, Q: SharedQueue, G: Gate>(
     stage: u32,
     lines: &Lines,
     gate: &G,
-    before: &AtomicU64,
-    after: &AtomicU64,
+    putting: &[AtomicU64],
     replies: &mut StageList,
 )
     requires passes { ArePasses Q.SharedQueue agent (queue.now ∷ more.now) (pass.old ∷ rest.old) }
     requires two { 0 < length more.now }
     requires good { AreGood lines.now }
     requires stage { (1 ≤ stage) × (stage ≤ 6) }
+    requires counts { length putting.now ≡ 7 }
     requires none { replies.old.items ≡ [] }
     requires room { jobs_in lines.now ≤ replies.old.spare }
     ensures passes { ArePasses Q.SharedQueue agent (queue.now ∷ more.now) (pass.new ∷ rest.new) }
@@ -135,8 +134,8 @@ fn run_between<R: Wait, Q: SharedQueue, G: Gate>(
         stage,
         lines,
         gate,
-        before,
-        after,
+        &putting[stage as usize - 1],
+        &putting[stage as usize],
         replies,
     );
 }

@@ -14,21 +14,28 @@ fn post_item<R: Wait, Q: SharedQueue>(
     rt: &R,
     queue: &Q,
     pass: &mut Q::Pass,
+    poster: u32,
     index: u32,
     line: &Line,
-) -> PostWord
+) -> PostReply
     requires usable { Q.usable queue.now pass.old }
     ensures usable { Q.usable queue.now pass.new }
     ensures agent { Q.agent_of queue.now pass.new ≡ Q.agent_of queue.now pass.old }
-    ensures posted { PostsItem Q.SharedQueue queue.now pass.old pass.new index line.now result }
+    ensures reply { (result.poster ≡ poster) × (result.line ≡ index) }
+    ensures posted { PostsItem Q.SharedQueue queue.now pass.old pass.new index line.now result.what }
 {
-    match line {
+    let what = match line {
         Line::Post { .. } | Line::Rush { .. } => match put_job(rt, queue, pass, u64::from(index)) {
             Ok(at) => PostWord::Posted(at),
             Err(QueueRefused::Positions) => PostWord::Positions,
             Err(_) => PostWord::NoNode,
         },
         Line::Drop { .. } => PostWord::Skipped,
+    };
+    PostReply {
+        poster,
+        line: index,
+        what,
     }
 }
 
@@ -58,11 +65,14 @@ pub fn post_items<R: Wait, Q: SharedQueue, G: Gate>(
     for index in 0..lines.len() {
         if index as u32 % posters == poster - 1 {
             gate.before(poster, replies.len() as u64);
-            replies.push(PostReply {
+            replies.push(post_item(
+                rt,
+                queue,
+                pass,
                 poster,
-                line: index as u32,
-                what: post_item(rt, queue, pass, index as u32, lines.get(index)),
-            });
+                index as u32,
+                lines.get(index),
+            ));
         }
     }
 }

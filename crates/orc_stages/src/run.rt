@@ -1,22 +1,21 @@
 //! A whole run of a pipeline.
-ghost use Rattle.std.specs.Prelude.{ℕ, ◌≡◌, ◌+◌, ◌-◌, ◌*◌, ◌≤◌, [], length, IfOk, OnErr, vec_len, vec_capacity};
-ghost use Rattle.std.specs.List.{AllByRecursion};
+ghost use Rattle.std.specs.Prelude.{ℕ, ◌≡◌, ◌+◌, ◌-◌, ◌*◌, ◌≤◌, [], length, IfOk, OnErr, vec_len};
 ghost use Rattle.orc_jobs.specs.GoodLines.{AreGood};
-ghost use Rattle.orc_team.specs.Seats.{AreNumbered, all_of};
+ghost use Rattle.orc_team.specs.Seats.{AreSeated, IsEmptyRoom, all_of};
 ghost use Rattle.orc_stages.specs.Desks.{ArePasses};
 ghost use Rattle.orc_stages.specs.Learning.{AreFor};
-ghost use Rattle.orc_stages.specs.Seats.{IsRoom};
 ghost use Rattle.orc_stages.specs.Team.{DidWork, IsReady};
-ghost use Rattle.orc_stages.specs.Run.{AreFresh, AreIdle, HaveSeenTheSame, IsRunOf, HasRoomForMoves, IsNew, CallerMovedFor, AllCameBack};
+ghost use Rattle.orc_stages.specs.Run.{AllCameBack, AreFresh, AreIdle, Begins, CallerMovedFor, HaveSeenTheSame, IsNew, IsRunOf};
 
 use crate::at_queues::{AtQueues, tell_laws};
-use crate::rooms::{reserve_moves, reserve_room};
-use crate::{OutList, Room, StageDesk, StageList, StageWorker, move_all, run_worker};
+use crate::{OutList, StageDesk, StageList, StageReply, StageWorker, move_all, run_worker};
 use orc_board::{Gate, PostList};
 use orc_fault::NoMemory;
 use orc_history::LearnQueue;
 use orc_jobs::Lines;
-use orc_team::{Reserved, hand_back, learn_from_team, reserve, run_workers, seat};
+use orc_team::{
+    Reserved, Room, hand_back, learn_from_team, reserve, reserve_room, run_workers, seat,
+};
 use std::alloc::Global;
 use std::sync::Wait;
 use std::sync::atomic::AtomicU64;
@@ -75,9 +74,9 @@ where
     ensures kept { OnErr result (desks.new ≡ desks.old) }
 {
     let many = lines.len();
-    let room = |agent: usize| -> Result<Room, NoMemory>
-        ensures { IfOk result (IsRoom posters many agent) }
-    { reserve_room(alloc, posters, agent, many) };
+    let room = |agent: usize| -> Result<Room<StageReply>, NoMemory>
+        ensures { IfOk result (IsEmptyRoom posters many many agent) }
+    { reserve_room(alloc, posters, agent, many, many) };
     let Reserved {
         rooms,
         waiting,
@@ -96,10 +95,25 @@ where
     let Ok(()) = desks.push(desk) else {
         unreachable!()
     };
-    let mut replies = Room { posts, moves };
+    let mut replies = Room {
+        posts,
+        takes: moves,
+    };
     hand_back(workers, desks, &mut replies);
-    let Room { posts, moves } = replies;
-    Ok(StagesDone { posts, moves, outs })
+    let Room { posts, takes } = replies;
+    Ok(StagesDone {
+        posts,
+        moves: takes,
+        outs,
+    })
+}
+
+// Takes room for the moves of so many stages, of each for so many lines.
+fn reserve_moves(alloc: Global, stages: usize, lines: usize) -> Result<StageList, NoMemory>
+    requires few { (stages ≤ 6) × (lines ≤ 65535) }
+    ensures { IfOk result (λ l. (l.items ≡ []) × (l.spare ≡ stages * lines)) }
+{
+    StageList::new(alloc, stages * lines)
 }
 
 // Runs the workers, and then moves what is left. All memory has been taken before.
@@ -120,19 +134,14 @@ where
     requires good { AreGood lines.now }
     requires queues { (2 ≤ length queues.now) × (length queues.now ≤ 7) }
     requires agents { AreFor Q.SharedQueue Q.agents (posters + length queues.now) queues.now }
-    requires room { (vec_len done ≡ 0) × (done.items ≡ []) × (vec_len waiting ≤ vec_capacity done) }
     requires desk { ArePasses Q.SharedQueue 0 queues.now desk.passes.items }
     requires new { IsNew Q.SharedQueue queues.now desk.passes.items }
     requires outs { (outs.items ≡ []) × (length lines.now ≤ outs.spare) }
-    requires ready { AllByRecursion (IsReady Q.SharedQueue queues.now lines.now posters) waiting.items }
-    requires begin { AllByRecursion (λ w. IsNew Q.SharedQueue queues.now w.desk.passes.items) waiting.items }
-    requires numbered { AreNumbered 1 waiting.items }
-    requires count { vec_len waiting + 1 ≡ posters + length queues.now }
-    requires enough { AllByRecursion (HasRoomForMoves posters lines.now) waiting.items }
+    requires team { AreSeated (IsReady Q.SharedQueue queues.now lines.now posters) (Begins Q.SharedQueue queues.now lines.now posters)
+        (posters + (length queues.now - 1)) waiting done }
     ensures back { AllCameBack Q.SharedQueue queues.now lines.now posters (length queues.now - 1) result.desk.passes.items result.workers.items result.outs.items }
-    ensures many { length result.workers.items ≡ posters + (length queues.now - 1) }
     ensures few { (length (all_of (λ w. w.replies.posts.items) result.workers.items) ≤ length lines.now)
-        × (length (all_of (λ w. w.replies.moves.items) result.workers.items) ≤ (length queues.now - 1) * length lines.now) }
+        × (length (all_of (λ w. w.replies.takes.items) result.workers.items) ≤ (length queues.now - 1) * length lines.now) }
 {
     let putting = [
         AtomicU64::new(u64::from(posters)),

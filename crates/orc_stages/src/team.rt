@@ -3,16 +3,16 @@ ghost use Rattle.std.specs.Prelude.{◌≡◌, length};
 ghost use Rattle.orc_stages.specs.Team.{IsReady, DidWork};
 
 use crate::desk::{run_poster_at, run_stage_at};
-use crate::{Room, StageDesk};
+use crate::{StageDesk, StageReply};
 use orc_board::Gate;
 use orc_history::SharedQueue;
 use orc_jobs::Lines;
-use orc_team::Worker;
+use orc_team::{Room, Worker};
 use std::sync::Wait;
 use std::sync::atomic::AtomicU64;
 
 /// Poster p is agent p, and the worker of stage s is agent s behind the posters.
-pub type StageWorker<P> = Worker<StageDesk<P>, Room>;
+pub type StageWorker<P> = Worker<StageDesk<P>, Room<StageReply>>;
 
 /// Lets this worker work on the thread that calls: as a poster, or as its stage. `putting` counts for each of seven queues how many
 /// workers still put into it: all posters for the first, and one for each other; the worker takes one from it at its end.
@@ -63,9 +63,8 @@ pub fn run_worker<R: Wait, Q: SharedQueue, G: Gate>(
         stage,
         lines,
         gate,
-        &putting[place],
-        &putting[place + 1],
-        &mut replies.moves,
+        putting,
+        &mut replies.takes,
     );
     Worker {
         agent,

@@ -2,7 +2,7 @@
 use Rattle.std.proofs.Common.{◌≡◌, ℕ, List, [], ◌∷◌, ap, ◌∙◌}
 use Rattle.std.specs.List.{AllByRecursion}
 use Rattle.orc_history.specs.Lists.{Pairwise}
-use Rattle.orc_team.specs.Learning.{HasSeenAll, IsOther, LearnsAll, SameWorker, own_in}
+use Rattle.orc_team.specs.Learning.{HasSeenAll, LearnsAll, SameWorker, own_in}
 use Rattle.orc_team.specs.Site.{Site}
 use Rattle.orc_team.specs.declared.team.Worker.{Worker}
 
@@ -15,14 +15,6 @@ abbrev pub Kept : {D : Type 0} → (s : Site D) → Journals s → Journals s �
 Kept s k1 k2 a = (c : s.Container) → own_in s c a (k2 c) ≡ own_in s c a (k1 c)
 
 module _ {D T : Type 0} (s : Site D) where
-  -- workers that have become what is not the caller are others than it
-  pub others_of : (me : ℕ) (R : Worker D T → Worker D T → Type 0) → ((w v : Worker D T) → R w v → IsOther s me v) → (ws vs : List (Worker D T))
-      → Pairwise R ws vs → AllByRecursion (IsOther s me) vs
-  others_of me R f [] [] p = tt
-  others_of me R f [] (v ∷ vs) p = absurd p
-  others_of me R f (w ∷ ws) [] p = absurd p
-  others_of me R f (w ∷ ws) (v ∷ vs) p = (f w v p.0, others_of me R f ws vs p.1)
-
   -- what learning twice over has made of a worker
   pub record Learnt (k : Journals s) (w v : Worker D T) : Type 0 where
     pub whole : (c : s.Container) → HasSeenAll (λ (x : Worker D T). x.agent) (λ (x : Worker D T). s.journal c x.desk) (own_in s c) (k c) w v

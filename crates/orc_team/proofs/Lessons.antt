@@ -1,11 +1,11 @@
 -- Learning from all others twice over.
 use Rattle.std.proofs.Common.{◌≡◌, ℕ, length, arith, length-append, List, [], ◌∷◌, ◌++◌, inl, inr, refl, ap, sym, ◌∙◌, subst, append-nil}
 use mathlib.Core.List.{IsPrefix}
+use Rattle.std.specs.List.{AllByRecursion}
 use Rattle.orc_history.specs.Journals.{LearnsEntries, own_of}
-use Rattle.orc_history.specs.Lists.{Pairwise}
-use Rattle.orc_team.specs.Learning.{IsHeard, HasSeenAll, IsSeen, Learned, LearnedAll}
+use Rattle.orc_team.specs.Learning.{IsHeard, HasSeenAll, Learned, LearnedAll}
 use Rattle.orc_board.proofs.Shares.{prefix_trans}
-use Rattle.orc_team.proofs.Teams.{Pairwise-right, Pairwise-through}
+use Rattle.orc_team.proofs.Teams.{AllByRecursion-second, Pairwise-through}
 
 pub prefix_refl : {X : Type 0} (xs : List X) → IsPrefix xs xs
 prefix_refl xs = ([], append-nil xs)
@@ -72,7 +72,7 @@ Learned-at {W} {A} {E} history agent_of agent journal me a b x y y2 z w v ws vs 
       );
       again = λ s.
           let still : y ≡ x = learned_again history agent_of a b x (journal w) y y2 l s.0 in
-          let r = rest.again (subst (λ u. Pairwise (IsSeen agent journal own u) ws vs) (sym still) s.1) in (
+          let r = rest.again (subst (λ u. AllByRecursion (λ n. IsPrefix (journal n) u) ws) (sym still) s.1) in (
             r.0 ∙ still,
             (
               record {
@@ -94,10 +94,7 @@ pub Learned-twice : {W A E : Type 0} (agent : W → ℕ) (journal : W → List A
     → Learned agent journal own me y z us vs
     → LearnedAll agent journal own me x z ws vs
 Learned-twice agent journal own me x y z ws us vs one two =
-    let seen : Pairwise (IsSeen agent journal own y) us vs
-    = Pairwise-right (IsHeard agent journal own y) (IsHeard agent journal own z) (IsSeen agent journal own y) ws us vs
-    (λ w u v h k. h.seen) one.each two.each in
-    let r = two.again seen in
+    let r = two.again (AllByRecursion-second (λ u. IsPrefix (journal u) y) (IsHeard agent journal own y) ws us (λ w u h. h.seen) one.each) in
     record {
       grows = prefix_trans x y z one.grows two.grows;
       own_is = two.own_is ∙ one.own_is;

@@ -5,3 +5,4 @@ pub mod Blocks
 pub mod Seats
 pub mod Learned
 pub mod CameBack
+pub mod Replies

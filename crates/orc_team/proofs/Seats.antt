@@ -1,9 +1,10 @@
 -- How many desks, rooms and workers a team has, and one worker more at its desk.
-use Rattle.std.proofs.Common.{◌≡◌, ℕ, suc, ◌+◌, ◌-◌, ◌≤◌, List, [], ◌∷◌, ◌++◌, length, map, refl, ap, sym, ◌∙◌, arith, append_assoc, length-append}
-use Rattle.std.specs.List.{remove}
-use Rattle.orc_team.specs.Seats.{all_of, seated}
+use Rattle.std.proofs.Common.{◌≡◌, ℕ, suc, ◌+◌, ◌-◌, ◌≤◌, List, [], ◌∷◌, ◌++◌, Vec, length, map, refl, ap, sym, ◌∙◌, subst, arith, append_assoc, length-append, vec_capacity}
+use Rattle.std.specs.List.{AllByRecursion, remove}
+use Rattle.orc_team.specs.Seats.{AreNumbered, AreSeated, EachFrom, all_of, seated}
 use Rattle.orc_team.specs.declared.team.Worker.{Worker}
 use Rattle.orc_team.proofs.Blocks.{all_of-snoc}
+use Rattle.orc_team.proofs.Numbered.{EachFrom-rest, seated_all, seated_numbered}
 
 -- of two lists of one length, all but the last of each
 pub one_less_each : (a b fewer_a fewer_b x y : ℕ) → fewer_a + 1 ≡ a → fewer_b + 1 ≡ b → a ≡ b → fewer_a ≡ x → fewer_b ≡ y → x ≡ y
@@ -51,21 +52,32 @@ one_fewer : {X : Type 0} (all rest : List X) (n : ℕ) → rest ≡ remove all 0
 one_fewer [] rest n e h = absurd (omega (arith, h))
 one_fewer (x ∷ xs) rest n e h = let many : length xs ≡ n = omega (arith, h) in ap length e ∙ many
 
--- at all desks but the caller's a worker sits with a room of its own
-pub record Seats {D T : Type 0} (rest : List D) (given : List T) (ws : List (Worker D T)) (n : ℕ) : Type 0 where
-  pub desks : length rest ≡ n
-  pub rooms : length given ≡ length rest
-  pub workers : length ws ≡ n
-
-pub seats_of : {D T : Type 0} (all rest : List D) (rooms : List T) (ws : List (Worker D T)) (l n : ℕ) → rest ≡ remove all 0
-    → length all ≡ 1 + n → l ≡ 1 + n → length rooms ≡ l - 1 → ws ≡ seated 1 rest rooms → Seats rest rooms ws n
-seats_of all rest rooms ws l n is many len few at =
-    let r : length rest ≡ n = one_fewer all rest n is many in
-    let m : length rooms ≡ length rest = omega (arith, len, few, r) in
-    record { desks = r; rooms = m; workers = seated_many 1 rest rooms ws at m ∙ r }
-
-pub room_done : (waiting len n l room : ℕ) → waiting ≡ len → len ≡ n → l ≡ 1 + n → l - 1 ≤ room → waiting ≤ room
-room_done waiting len n l room a b c d = omega (arith, a, b, c, d)
+-- where a worker sits at each desk but the first, with a room of its own, the team may begin
+pub seats_ready : {D T Z : Type 0} (F : ℕ → D → Type 0) (M : ℕ → T → Type 0) (R N : Worker D T → Type 0) (n l : ℕ) (all rest : List D)
+    (rooms : List T) (waiting done : Vec (Worker D T) Z)
+    → ((k : ℕ) (d : D) (r : T) → 1 ≤ k → k ≤ n → F k d → M k r
+    → R (record { agent = k; desk = d; replies = r }) × N (record { agent = k; desk = d; replies = r }))
+    → EachFrom F 0 all → rest ≡ remove all 0 → length all ≡ 1 + n → l ≡ 1 + n → EachFrom M 1 rooms → length rooms ≡ l - 1
+    → done.items ≡ [] → l - 1 ≤ vec_capacity done → waiting.items ≡ seated 1 rest rooms → AreSeated R N n waiting done
+seats_ready {D} {T} F M R N n l all rest rooms waiting done f fresh is many len made few none room at =
+    let desks : length rest ≡ n = one_fewer all rest n is many in
+    let same : length rooms ≡ length rest = omega (arith, len, few, desks) in
+    let workers : length waiting.items ≡ n = seated_many 1 rest rooms waiting.items at same ∙ desks in
+    let high : 1 + length rest ≤ suc n = omega (arith, desks) in
+    let left : EachFrom F 1 rest = EachFrom-rest F 0 all rest is fresh in
+    let ready : AllByRecursion R (seated 1 rest rooms) =
+    seated_all F M R 1 (suc n) 1 rest rooms (λ k d r low less x y. (f k d r low (omega (arith, less)) x y).0) (omega arith) high left made in
+    let new : AllByRecursion N (seated 1 rest rooms) =
+    seated_all F M N 1 (suc n) 1 rest rooms (λ k d r low less x y. (f k d r low (omega (arith, less)) x y).1) (omega arith) high left made in
+    let numbered : AreNumbered 1 (seated 1 rest rooms) = seated_numbered 1 rest rooms in
+    record {
+      ready = subst (λ (ws : List (Worker D T)). AllByRecursion R ws) (sym at) ready;
+      new = subst (λ (ws : List (Worker D T)). AllByRecursion N ws) (sym at) new;
+      numbered = subst (λ (ws : List (Worker D T)). AreNumbered 1 ws) (sym at) numbered;
+      count = workers;
+      nobody_is_done = none;
+      room = omega (arith, done.ok.0, ap length none, waiting.ok.0, workers, len, room);
+    }
 
 -- all desks have room where the caller's and the others were
 pub places_fit : (len cap cap_1 cap_2 cap_3 len_2 items_2 len_3 workers items_3 n : ℕ) → len ≤ cap → len ≡ 1 + n → cap_1 ≡ cap → cap_2 ≡ cap_1

@@ -1,6 +1,6 @@
 -- Lists of workers, popped from the end and pushed at the end.
 use denote.Param.Members.{Shared}
-use Rattle.std.proofs.Common.{◌≡◌, List, [], ◌∷◌, ◌++◌, ap, length, refl, suc, sym, ◌∙◌, subst, append_assoc}
+use Rattle.std.proofs.Common.{◌≡◌, Bool, false, true, List, [], ◌∷◌, ◌++◌, ap, length, refl, suc, sym, ◌∙◌, subst, append_assoc}
 use Rattle.std.specs.List.{AllByRecursion}
 use Rattle.orc_history.specs.Lists.{Pairwise}
 use Rattle.orc_team.specs.Team.{Team, Worked}
@@ -35,14 +35,13 @@ AllByRecursion-next P Q R [] (y ∷ ys) f p r = absurd r
 AllByRecursion-next P Q R (x ∷ xs) [] f p r = absurd r
 AllByRecursion-next P Q R (x ∷ xs) (y ∷ ys) f p r = (f x y p.0 r.0, AllByRecursion-next P Q R xs ys f p.1 r.1)
 
-pub Pairwise-right : {X : Type 0} (R S T : X → X → Type 0) (xs ys zs : List X) → ((x y z : X) → R x y → S y z → T y z) → Pairwise R xs ys
-    → Pairwise S ys zs → Pairwise T ys zs
-Pairwise-right R S T [] [] [] f r s = tt
-Pairwise-right R S T [] [] (z ∷ zs) f r s = absurd s
-Pairwise-right R S T [] (y ∷ ys) zs f r s = absurd r
-Pairwise-right R S T (x ∷ xs) [] zs f r s = absurd r
-Pairwise-right R S T (x ∷ xs) (y ∷ ys) [] f r s = absurd s
-Pairwise-right R S T (x ∷ xs) (y ∷ ys) (z ∷ zs) f r s = (f x y z r.0 s.0, Pairwise-right R S T xs ys zs f r.1 s.1)
+-- what each pair gives of its second
+pub AllByRecursion-second : {X : Type 0} (P : X → Type 0) (R : X → X → Type 0) (xs ys : List X) → ((x y : X) → R x y → P y) → Pairwise R xs ys
+    → AllByRecursion P ys
+AllByRecursion-second P R [] [] f r = tt
+AllByRecursion-second P R [] (y ∷ ys) f r = absurd r
+AllByRecursion-second P R (x ∷ xs) [] f r = absurd r
+AllByRecursion-second P R (x ∷ xs) (y ∷ ys) f r = (f x y r.0, AllByRecursion-second P R xs ys f r.1)
 
 pub Pairwise-through : {X : Type 0} (R S T : X → X → Type 0) (xs ys zs : List X) → ((x y z : X) → R x y → S y z → T x z) → Pairwise R xs ys
     → Pairwise S ys zs → Pairwise T xs zs
@@ -66,3 +65,8 @@ pub team_did : {X F : Type 0} (g : Shared F (X × Unit {0}) X) (work : F) (R : X
     → ((x y : X) → Worked g work x y → R x y) → before ≡ [] → Team (Worked g work) waiting before after → Pairwise R waiting after
 team_did g work R waiting before after did none t =
     subst (λ xs. Pairwise R waiting xs) (sym (t.is ∙ ap (λ xs. xs ++ t.new) none)) (Pairwise-map (Worked g work) R waiting t.new did t.each)
+
+-- what is said of each of two holds of both
+pub for_both : (P : Bool → Type 0) → P false → P true → (b : Bool) → P b
+for_both P f t false = f
+for_both P f t true = t

@@ -1,4 +1,5 @@
 -- What a pass learns from others, and a desk from the desks of a team.
+use Rattle.std.specs.List.{AllByRecursion}
 use Rattle.std.specs.Prelude.{◌≡◌, ◌≢◌, ℕ, List}
 use mathlib.Core.List.{IsPrefix}
 use Rattle.orc_history.specs.Journals.{LearnsEntries, own_of}
@@ -22,16 +23,12 @@ module _ {W A E : Type 0} (agent : W → ℕ) (journal : W → List A) (own : �
     pub is : journal v ≡ list
     pub own_is : own (agent w) list ≡ own (agent w) (journal w)
 
-  -- what the pass has seen stands in the list
-  abbrev pub IsSeen : List A → W → W → Type 0
-  IsSeen list w v = IsPrefix (journal w) list
-
   -- one pass has learned from each of the others once; had it seen all before, then nothing is new and all have seen it
   pub record Learned (me : ℕ) (before after : List A) (ws vs : List W) : Type 0 where
     pub grows : IsPrefix before after
     pub own_is : own me after ≡ own me before
     pub each : Pairwise (IsHeard after) ws vs
-    pub again : Pairwise (IsSeen before) ws vs → (after ≡ before) × Pairwise (HasSeenAll after) ws vs
+    pub again : AllByRecursion (λ w. IsPrefix (journal w) before) ws → (after ≡ before) × Pairwise (HasSeenAll after) ws vs
 
   -- one pass has learned from all others twice over
   pub record LearnedAll (me : ℕ) (before after : List A) (ws vs : List W) : Type 0 where

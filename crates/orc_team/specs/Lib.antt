@@ -2,3 +2,4 @@ pub mod Team
 pub mod Site
 pub mod Seats
 pub mod Learning
+pub mod Replies

@@ -27,25 +27,7 @@ fn learn_once<C: Workplace, T>(
     learn_once(here, me, desk, rest);
 }
 
-/// The desk learns from that of each of the others twice over: all have then seen the same.
-pub fn learn_all<C: Workplace, T>(
-    here: &C,
-    me: u32,
-    desk: &mut C::Desk,
-    others: &mut [Worker<C::Desk, T>],
-)
-    requires desk { (C.site here.now).usable me desk.old }
-    requires others { AllByRecursion (IsOther (C.site here.now) me) others.old }
-    ensures desk { (C.site here.now).usable me desk.new }
-    ensures others { AllByRecursion (IsOther (C.site here.now) me) others.new }
-    ensures same { Pairwise SameWorker others.old others.new }
-    ensures learned { LearnsAll (C.site here.now) me desk.old desk.new others.old others.new }
-{
-    learn_once(here, me, desk, others);
-    learn_once(here, me, desk, others)
-}
-
-/// The same for the workers of a vector.
+/// The desk learns from that of each of these workers twice over: all have then seen the same.
 pub fn learn_from_team<C: Workplace, T>(
     here: &C,
     me: u32,
@@ -60,5 +42,7 @@ pub fn learn_from_team<C: Workplace, T>(
     ensures len { vec_len others.new ≡ vec_len others.old }
     ensures learned { LearnsAll (C.site here.now) me desk.old desk.new others.old.items others.new.items }
 {
-    learn_all(here, me, desk, others.as_mut_slice());
+    let workers = others.as_mut_slice();
+    learn_once(here, me, desk, workers);
+    learn_once(here, me, desk, workers)
 }

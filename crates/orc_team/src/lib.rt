@@ -9,8 +9,8 @@ mod team;
 mod workplace;
 
 pub use gathering::Gather;
-pub use learning::{learn_all, learn_from_team};
-pub use rooms::{Reserved, reserve};
+pub use learning::learn_from_team;
+pub use rooms::{Reserved, Room, reserve, reserve_room};
 pub use seating::{hand_back, seat};
 pub use team::{Worker, run_workers};
 pub use workplace::Workplace;

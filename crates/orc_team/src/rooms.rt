@@ -1,8 +1,9 @@
 //! The memory of a team, all of which is taken before its first worker starts.
-ghost use Rattle.std.specs.Prelude.{◌≡◌, IfOk, vec_len};
-ghost use Rattle.orc_team.specs.Seats.{AreRooms, IsReserved};
+ghost use Rattle.std.specs.Prelude.{◌≡◌, ◌<◌, ◌≤◌, Bool, IfOk, vec_len};
+ghost use Rattle.orc_team.specs.Seats.{AreRooms, IsEmptyRoom, IsReserved, items_of, reply_of, spare_of};
 
-use crate::Worker;
+use crate::{Gather, Worker};
+use orc_board::{PostList, ReplyList};
 use orc_fault::NoMemory;
 use std::alloc::Global;
 
@@ -15,6 +16,31 @@ pub struct Reserved<D, T> {
     pub waiting: Vec<Worker<D, T>>,
     /// Room for the workers that are done.
     pub done: Vec<Worker<D, T>>,
+}
+
+/// Room for the replies of one worker, a poster or one that takes jobs. It serves for the replies of all as well.
+#[derive(Drop)]
+pub struct Room<X> {
+    /// What came of its lines; one that takes jobs has none.
+    pub posts: PostList,
+    /// What came of the jobs that it took; a poster has none.
+    pub takes: ReplyList<X>,
+}
+
+impl<X: Drop> Gather for Room<X> {
+    ghost Kind = { Bool };
+
+    ghost Reply = { reply_of X };
+
+    ghost items = { items_of };
+
+    ghost spare = { spare_of };
+
+    fn gather(&mut self, more: Self) {
+        let Room { posts, takes } = more;
+        self.posts.append(posts);
+        self.takes.append(takes);
+    }
 }
 
 /// Takes the memory of a team with so many workers, each with the room that `room` makes for its number.
@@ -49,4 +75,32 @@ fn reserve_rooms<T: Drop, F: Fn(usize) -> Result<T, NoMemory>>(
         rooms.push(made)?;
     }
     Ok(rooms)
+}
+
+/// Takes room for the replies of a poster to so many lines, or for those of another worker to so many jobs.
+pub fn reserve_room<X: Drop>(
+    alloc: Global,
+    posters: u32,
+    agent: usize,
+    lines: usize,
+    jobs: usize,
+) -> Result<Room<X>, NoMemory>
+    ensures { IfOk result (IsEmptyRoom posters lines jobs agent) }
+{
+    let (post_room, take_room) = rooms_of(agent, posters, lines, jobs);
+    let posts = PostList::new(alloc, post_room)?;
+    let takes = ReplyList::new(alloc, take_room)?;
+    Ok(Room { posts, takes })
+}
+
+// For how many posts and takes an agent needs room.
+fn rooms_of(agent: usize, posters: u32, lines: usize, jobs: usize) -> (usize, usize)
+    ensures poster { agent ≤ posters → result.0 ≡ lines }
+    ensures other { posters < agent → result.1 ≡ jobs }
+{
+    if agent <= posters as usize {
+        (lines, 0)
+    } else {
+        (0, jobs)
+    }
 }

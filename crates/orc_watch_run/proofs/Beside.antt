@@ -1,12 +1,11 @@
 -- What a worker did, beside the agents of its run, from the beginning of the journal, and with what its pass learned.
-use Rattle.std.proofs.Common.{◌≡◌, ℕ, List, [], ◌∷◌, ◌++◌, Option, Some, None, ap, inl, inr, length, map, refl, sym, ◌∙◌}
+use Rattle.std.proofs.Common.{◌≡◌, ℕ, List, [], ◌++◌, ap, length, map, refl, sym, ◌∙◌}
 use mathlib.Core.List.{IsPrefix}
 use Rattle.std.specs.List.{AllByRecursion}
 use Rattle.orc_board.proofs.Shares.{Did-just, DidAll-before, DidAll-more}
-use Rattle.orc_board.proofs.ListFacts.{AllByRecursion-map}
-use Rattle.orc_board.proofs.Wholes.{Below}
+use Rattle.orc_board.proofs.Wholes.{Below, DidAll-beside}
 use Rattle.orc_board.specs.Follows.{own_records}
-use Rattle.orc_board.specs.Stretches.{Did, Licensed, MayStand, Stretch, View, beside, nothing}
+use Rattle.orc_board.specs.Stretches.{Stretch, View, beside}
 use Rattle.orc_cell.specs.declared.refused.CellRefused.{CellRefused}
 use Rattle.orc_history.specs.Journals.{own_of}
 use Rattle.orc_pairs_rule.specs.CellHistory.{agent_of_entry}
@@ -15,32 +14,8 @@ use Rattle.orc_watch.specs.declared.line.WatchLine.{WatchLine}
 use Rattle.orc_watch.specs.declared.reply.WatchReply.{WatchReply}
 use Rattle.orc_watch_run.specs.CameBack.{IsTold}
 use Rattle.orc_watch_run.specs.CellView.{of_cell}
-use Rattle.orc_watch_run.specs.Follows.{CellShare, DidShares, Watching}
+use Rattle.orc_watch_run.specs.Follows.{CellShare, Watching}
 use Rattle.orc_team.proofs.Learned.{Grows, learned_stretch}
-
-licensed_beside : {A : Type 0} (x : View A CellEntry CellRefused) (C : ℕ → Type 0) (agent : ℕ) (why : Option CellRefused) (j k : List A)
-    → Licensed x agent why j k → Licensed (beside x C) agent why j k
-licensed_beside x C agent None j k h = tt
-licensed_beside x C agent (Some why) j k h = h
-
-did_beside : {A : Type 0} (x : View A CellEntry CellRefused) (C : ℕ → Type 0) → Below x.crowd C → (agent : ℕ) (share : CellShare) (j k : List A)
-    → Did of_cell x agent share j k → Did of_cell (beside x C) agent share j k
-did_beside x C f agent share j k d = record {
-  stretch = record {
-    later = d.stretch.later;
-    part = d.stretch.part;
-    is = d.stretch.is;
-    own_is = d.stretch.own_is;
-    others = AllByRecursion-map (MayStand of_cell x agent) (MayStand of_cell (beside x C) agent)
-        (λ e h. elim h as (λ _. MayStand of_cell (beside x C) agent e) [ inl a ↦ inl a | inr b ↦ inr (f (agent_of_entry e) b) ]) d.stretch.part d.stretch.others;
-  };
-  licence = licensed_beside x C agent share.refused j k d.licence;
-}
-
-shares_beside : {A : Type 0} (x : View A CellEntry CellRefused) (C : ℕ → Type 0) → Below x.crowd C → (agent : ℕ) (shares : List CellShare) (j k : List A)
-    → DidShares x agent shares j k → DidShares (beside x C) agent shares j k
-shares_beside x C f agent [] j k c = did_beside x C f agent nothing j k c
-shares_beside x C f agent (share ∷ shares) j k (i, one, c) = (i, did_beside x C f agent share j i one, shares_beside x C f agent shares i k c)
 
 -- the journal at the start, whose history is empty
 pub start : {A : Type 0} (x : View A CellEntry CellRefused) (agent : ℕ) (j : List A) → x.history [] ≡ [] → x.history j ≡ [] → Stretch of_cell x agent [] [] j
@@ -55,7 +30,7 @@ told_first x C lines workers agent replies j k few none new w order = record {
     shares = w.shares;
     table = w.table;
     did = DidAll-before of_cell (beside x C) agent (λ (share : CellShare). share) w.shares [] j k (start (beside x C) agent j none new)
-        (shares_beside x C few agent w.shares j k w.did);
+        (DidAll-beside of_cell x C few agent (λ (share : CellShare). share) w.shares j k w.did);
   };
   in_file_order = order;
 }

@@ -27,10 +27,10 @@ use Rattle.orc_watch_run.specs.Learning.{LawsTell, cell_site}
 use Rattle.orc_watch_run.specs.Passes.{IsUsablePassOf}
 use Rattle.orc_watch_run.specs.Team.{DidWork, Watcher}
 use Rattle.orc_watch_run.proofs.Beside.{told_first, told_more}
-use Rattle.orc_team.proofs.CameBack.{Journals, Kept, Learnt, kept_all, learnt_all, others_of, seen_after}
+use Rattle.orc_team.proofs.CameBack.{Journals, Kept, Learnt, kept_all, learnt_all, seen_after}
 use Rattle.orc_team.proofs.Learned.{Grows, since, zero_last}
 use Rattle.orc_team.proofs.Numbered.{All-of_map, desks_from, each_number, numbered_next}
-use Rattle.orc_team.proofs.Teams.{AllByRecursion-next, Pairwise-length}
+use Rattle.orc_team.proofs.Teams.{AllByRecursion-next, AllByRecursion-second, Pairwise-length}
 use Rattle.orc_team.specs.Learning.{IsOther, LearnsAll, SameWorker}
 use Rattle.orc_team.specs.Seats.{AreNumbered}
 use Rattle.orc_team.specs.Site.{Site}
@@ -85,8 +85,8 @@ tells_first m links C lines workers (w ∷ ws) (v ∷ vs) laws new did = (
 pub others_after : {L D P S : Type 0} (m : LinksOf L D P S PairsNote) (links : L) (lines : List WatchLine) (workers : ℕ) (ws vs : List (Watcher P))
     → Pairwise (DidWork m links lines workers) ws vs → AllByRecursion (IsOther (cell_site m links) 0) vs
 others_after m links lines workers ws vs did =
-    others_of (cell_site m links) 0 (DidWork m links lines workers)
-    (λ w v d. record { is_desk = d.is_pass; other = λ e. absurd (omega (arith, e, d.no_caller)) }) ws vs did
+    AllByRecursion-second (IsOther (cell_site m links) 0) (DidWork m links lines workers) ws vs
+    (λ w v d. record { is_desk = d.is_pass; other = λ e. absurd (omega (arith, e, d.no_caller)) }) did
 
 told_at : {P A : Type 0} (x : View A CellEntry CellRefused) (C : ℕ → Type 0) (lines : List WatchLine) (workers : ℕ) (k : List A) (journal : P → List A)
     (ws : List (Watcher P)) → AllByRecursion (λ (w : Watcher P). journal w.desk ≡ k) ws → AllByRecursion (Tells x C journal lines workers) ws
@@ -151,6 +151,7 @@ came_back {P = P} {S = S} m links lines workers p0 p1 p2 p3 a b ws vs us ts laws
     record {
       caller = pass;
       numbered = num3;
+      many = Pairwise-length SameWorker us ts same2 ∙ long;
       usable = desks_from (IsUsablePassOf m links) 1 ts num3
           (AllByRecursion-map (IsOther site 0) (λ w. IsUsablePassOf m links w.agent w.desk) (λ w o. o.is_desk) ts others);
       seen = All-of_map (λ (w : Watcher P). w.desk) (λ p. m.journal p ≡ j3) ts at3;

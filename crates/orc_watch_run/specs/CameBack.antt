@@ -32,6 +32,7 @@ module _ {L D P S : Type 0} (members : LinksOf L D P S PairsNote) (links : L) wh
   pub record AllCameBack (lines : List WatchLine) (workers : ℕ) (p : P) (left right : ℕ) (ws : List (Watcher P)) : Type 0 where
     pub caller : IsUsablePassOf members links 0 p
     pub numbered : AreNumbered 1 ws
+    pub many : length ws ≡ workers
     pub usable : AreUsable members links 1 (map (λ (w : Watcher P). w.desk) ws)
     pub seen : HaveSeen members links (members.journal p) (map (λ (w : Watcher P). w.desk) ws)
     pub told : AllByRecursion

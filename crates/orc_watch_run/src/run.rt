@@ -1,8 +1,7 @@
 //! A whole run.
 
-ghost use Rattle.std.specs.Prelude.{◌≡◌, ◌+◌, ◌≤◌, [], IfOk, OnErr, length, vec_capacity, vec_len};
-ghost use Rattle.std.specs.List.{AllByRecursion};
-ghost use Rattle.orc_team.specs.Seats.{AreNumbered, all_of};
+ghost use Rattle.std.specs.Prelude.{◌≡◌, ◌+◌, ◌≤◌, IfOk, OnErr, length, vec_len};
+ghost use Rattle.orc_team.specs.Seats.{AreSeated, all_of};
 ghost use Rattle.orc_watch_run.specs.CameBack.{AllCameBack, IsNew};
 ghost use Rattle.orc_watch_run.specs.Passes.{AreFresh, AreUsable, FollowsPasses, HaveSeenTheSame, IsFreshPass};
 ghost use Rattle.orc_watch_run.specs.Team.{DidWork, IsReady, IsRoom};
@@ -114,15 +113,10 @@ fn run_team<R: Threads + Wait + Sync, L: Links<Rule = Pairs> + Sync, G: Gate + S
 where
     L::Pass: Send,
     requires workers { 1 ≤ workers }
-    requires room { (vec_len done ≡ 0) × (done.items ≡ []) × (vec_len waiting ≤ vec_capacity done) }
     requires pass { IsFreshPass L.Links cell.now.links 0 pass }
-    requires ready { AllByRecursion (IsReady L.Links cell.now.links lines.now workers) waiting.items }
-    requires begin { AllByRecursion (IsNew L.Links cell.now.links) waiting.items }
-    requires numbered { AreNumbered 1 waiting.items }
-    requires count { length waiting.items ≡ workers }
+    requires team { AreSeated (IsReady L.Links cell.now.links lines.now workers) (IsNew L.Links cell.now.links) workers waiting done }
     requires agents { L.agents cell.now.links ≡ 1 + workers }
     ensures back { AllCameBack L.Links cell.now.links lines.now workers result.pass result.now_left result.now_right result.workers.items }
-    ensures many { length result.workers.items ≡ workers }
     ensures few { length (all_of (λ w. w.replies.items) result.workers.items) ≤ length lines.now }
 {
     let work = |worker: Worker<L::Pass, WatchList>| -> Worker<L::Pass, WatchList>

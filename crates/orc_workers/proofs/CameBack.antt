@@ -16,14 +16,14 @@ use Rattle.orc_jobs.specs.declared.line.Line.{Line}
 use Rattle.orc_board.specs.declared.replies.PostReply.{PostReply}
 use Rattle.orc_board.specs.declared.replies.TakeReply.{TakeReply}
 use Rattle.orc_board.specs.declared.desk.Desk.{Desk}
-use Rattle.orc_team.proofs.CameBack.{Journals, Kept, Learnt, kept_all, learnt_all, others_of, seen_after}
+use Rattle.orc_team.proofs.CameBack.{Journals, Kept, Learnt, kept_all, learnt_all, seen_after}
 use Rattle.orc_team.proofs.Learned.{Grows, none_since, since, zero_last}
 use Rattle.orc_team.proofs.Numbered.{All-of_map, desks_from, each_number, numbered_next}
-use Rattle.orc_team.proofs.Teams.{AllByRecursion-next, Pairwise-length}
+use Rattle.orc_team.proofs.Teams.{AllByRecursion-next, AllByRecursion-second, Pairwise-length, for_both}
 use Rattle.orc_team.specs.Learning.{IsOther, LearnsAll, SameWorker}
 use Rattle.orc_team.specs.Seats.{AreNumbered}
 use Rattle.orc_team.specs.Site.{Site}
-use Rattle.orc_workers.specs.declared.rooms.Room.{Room}
+use Rattle.orc_team.specs.declared.rooms.Room.{Room}
 use Rattle.orc_board.specs.Desk.{IsDesk, seen_in}
 use Rattle.orc_board.specs.Stretches.{View, queue_views, set_view, beside, all_beside, pick, just, of_queue, of_set, Stands, empty_row}
 use Rattle.orc_board.specs.Table.{TakeEnds}
@@ -194,7 +194,7 @@ tells_more {A = A} {B = B} q s queue rush set C lines posters k w v laws below t
     subst (λ (x : ℕ). IsTold qc sc lines posters (seen_in q v.desk) (s.journal v.desk.set) x w.replies.posts.items w.replies.takes.items)
     (sym l.same.agent_is) b in
     record {
-      told = subst (λ (x : Room). IsTold qc sc lines posters (seen_in q v.desk) (s.journal v.desk.set) v.agent x.posts.items x.takes.items)
+      told = subst (λ (x : Room TakeReply). IsTold qc sc lines posters (seen_in q v.desk) (s.journal v.desk.set) v.agent x.posts.items x.takes.items)
           (sym l.same.replies_are) d;
     }
 
@@ -202,8 +202,8 @@ pub others_after : {Q S P R A B : Type 0} (q : QueueOf Q P A) (s : SetOf S R B) 
     (ws vs : List (BoardWorker P R))
     → Pairwise (DidWork q s queue rush set lines posters) ws vs → AllByRecursion (IsOther (board_site q s queue rush set) 0) vs
 others_after q s queue rush set lines posters ws vs did =
-    others_of (board_site q s queue rush set) 0 (DidWork q s queue rush set lines posters)
-    (λ w v d. record { is_desk = d.desk; other = λ e. absurd (omega (arith, e, d.no_caller)) }) ws vs did
+    AllByRecursion-second (IsOther (board_site q s queue rush set) 0) (DidWork q s queue rush set lines posters) ws vs
+    (λ w v d. record { is_desk = d.desk; other = λ e. absurd (omega (arith, e, d.no_caller)) }) did
 
 tells_first : {Q S P R A B : Type 0} (q : QueueOf Q P A) (s : SetOf S R B) (queue rush : Q) (set : S) (C : ℕ → Type 0) (lines : List Line) (posters : ℕ)
     (ws vs : List (BoardWorker P R))
@@ -309,6 +309,7 @@ came_back {P = P} {R = R} {A = A} {B = B} q s queue rush set lines posters taker
       known = known;
       none_first = laws.queues_none;
       numbered = num3;
+      many = Pairwise-length SameWorker us ts same2 ∙ long;
       idle = desks_from (IsDesk q s queue rush set) 1 ts num3
           (AllByRecursion-map (IsOther site 0) (λ w. IsDesk q s queue rush set w.agent w.desk) (λ w o. o.is_desk) ts others);
       seen = All-of_map (λ (w : BoardWorker P R). w.desk) (λ desk. ((b : Bool) → seen_in q desk b ≡ x3 b) × (s.journal desk.set ≡ y3)) ts at3;
@@ -346,11 +347,6 @@ all_below by agents posters takers es is h =
 pub crowd_in_run : (crowd : ℕ → Type 0) (agents posters takers : ℕ) → agents ≡ 1 + (posters + takers) → ((a : ℕ) → crowd a → a < agents)
     → Below crowd (IsWorker posters takers)
 crowd_in_run crowd agents posters takers is f a h = omega (arith, is, f a h)
-
--- what is said of each of two holds of both
-pub for_both : (P : Bool → Type 0) → P false → P true → (b : Bool) → P b
-for_both P f t false = f
-for_both P f t true = t
 
 -- what is said of each of the two queues and of the set holds of each container
 pub for_each : (P : Option Bool → Type 0) → P (Some false) → P (Some true) → P None → (c : Option Bool) → P c

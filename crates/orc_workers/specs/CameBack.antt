@@ -40,6 +40,7 @@ pub record AllCameBack {Q S P R A B : Type 0} (q : QueueOf Q P A) (s : SetOf S R
   pub known : LawsTell q s queue rush set (suc (posters + takers)) (suc (posters + takers)) (suc (posters + takers)) desk
   pub none_first : (b : Bool) → q.history (pick queue rush b) [] ≡ []
   pub numbered : AreNumbered 1 ws
+  pub many : length ws ≡ posters + takers
   pub idle : AreIdle q s queue rush set 1 (map (λ (w : BoardWorker P R). w.desk) ws)
   pub seen : HaveSeen q s (seen_in q desk) (s.journal desk.set) (map (λ (w : BoardWorker P R). w.desk) ws)
   pub told : AllByRecursion

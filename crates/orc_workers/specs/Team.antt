@@ -12,15 +12,15 @@ use Rattle.orc_jobs.specs.GoodLines.{AreGood}
 use Rattle.orc_board.specs.declared.replies.PostReply.{PostReply}
 use Rattle.orc_board.specs.declared.replies.TakeReply.{TakeReply}
 use Rattle.orc_board.specs.declared.desk.Desk.{Desk}
+use Rattle.orc_team.specs.declared.rooms.Room.{Room}
 use Rattle.orc_team.specs.declared.team.Worker.{Worker}
-use Rattle.orc_workers.specs.declared.rooms.Room.{Room}
 use Rattle.orc_board.specs.Desk.{IsDesk, seen_in}
 use Rattle.orc_board.specs.Stretches.{View, queue_views, set_view}
 use Rattle.orc_board.specs.Follows.{Posting, TakingRest, LastIsEmpty, own_records}
 
 -- a poster or a taker
 abbrev pub BoardWorker : Type 0 → Type 0 → Type 0
-BoardWorker P R = Worker (Desk P R) Room
+BoardWorker P R = Worker (Desk P R) (Room TakeReply)
 
 -- a worker that may begin: no caller, at a desk of its own, with room for all that it may reply
 pub record IsReady {Q S P R A B : Type 0} (q : QueueOf Q P A) (s : SetOf S R B) (queue rush : Q) (set : S) (lines : List Line) (posters : ℕ)

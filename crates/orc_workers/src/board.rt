@@ -1,25 +1,24 @@
 //! A whole run.
-ghost use Rattle.std.specs.Prelude.{◌≡◌, ◌+◌, ◌≤◌, Bool, [], length, IfOk, OnErr, vec_len, vec_capacity};
-ghost use Rattle.std.specs.List.{AllByRecursion};
+ghost use Rattle.std.specs.Prelude.{◌≡◌, ◌+◌, ◌≤◌, Bool, [], length, IfOk, OnErr, vec_len};
 ghost use Rattle.orc_history.specs.QueueHistory.{IsLegalQueue, waiting_after};
 ghost use Rattle.orc_history.specs.SetHistory.{IsLegalSet};
 ghost use Rattle.orc_jobs.specs.GoodLines.{AreGood};
 ghost use Rattle.orc_board.specs.Reportable.{AreReportable};
 ghost use Rattle.orc_workers.specs.Desks.{IsFreshDesk, AreFresh, AreIdle, HaveSeenTheSame, RepliesFollow, queue_history, set_history};
-ghost use Rattle.orc_team.specs.Seats.{AreNumbered, all_of};
-ghost use Rattle.orc_workers.specs.Seats.{IsRoom};
+ghost use Rattle.orc_team.specs.Seats.{AreSeated, IsEmptyRoom, all_of};
 ghost use Rattle.orc_workers.specs.Team.{DidWork, IsReady};
 ghost use Rattle.orc_workers.specs.CameBack.{IsNew, AllCameBack};
 
 use crate::at_board::{AtBoard, tell_laws};
-use crate::rooms::{Room, reserve_room};
 use crate::team::{BoardWorker, run_worker};
 use crate::work::count_jobs;
-use orc_board::{Desk, Gate, PostList, Replies, TakeList, take_rest};
+use orc_board::{Desk, Gate, PostList, Replies, TakeList, TakeReply, take_rest};
 use orc_fault::NoMemory;
 use orc_history::{LearnQueue, LearnSet};
 use orc_jobs::Lines;
-use orc_team::{Reserved, hand_back, learn_from_team, reserve, run_workers, seat};
+use orc_team::{
+    Reserved, Room, hand_back, learn_from_team, reserve, reserve_room, run_workers, seat,
+};
 use std::alloc::Global;
 use std::sync::Wait;
 use std::sync::atomic::AtomicU64;
@@ -81,8 +80,8 @@ where
 {
     let many = lines.len();
     let jobs = count_jobs(lines);
-    let room = |agent: usize| -> Result<Room, NoMemory>
-        ensures { IfOk result (IsRoom posters many jobs agent) }
+    let room = |agent: usize| -> Result<Room<TakeReply>, NoMemory>
+        ensures { IfOk result (IsEmptyRoom posters many jobs agent) }
     { reserve_room(alloc, posters, agent, many, jobs) };
     let Reserved {
         rooms,
@@ -137,19 +136,15 @@ where
     requires posters { 1 ≤ posters }
     requires good { AreGood lines.now }
     requires first { (Q.first queue.now ≡ 0) × (Q.first rush.now ≡ 0) }
-    requires room { (vec_len done ≡ 0) × (done.items ≡ []) × (vec_len waiting ≤ vec_capacity done) }
     requires desk { IsFreshDesk Q.SharedQueue S.SharedSet queue.now rush.now set.now 0 desk }
     requires none { takes.items ≡ [] }
     requires enough { length lines.now ≤ takes.spare }
-    requires ready { AllByRecursion (IsReady Q.SharedQueue S.SharedSet queue.now rush.now set.now lines.now posters) waiting.items }
-    requires begin { AllByRecursion (IsNew Q.SharedQueue S.SharedSet queue.now rush.now set.now) waiting.items }
-    requires numbered { AreNumbered 1 waiting.items }
-    requires count { length waiting.items ≡ posters + takers }
+    requires team { AreSeated (IsReady Q.SharedQueue S.SharedSet queue.now rush.now set.now lines.now posters)
+        (IsNew Q.SharedQueue S.SharedSet queue.now rush.now set.now) (posters + takers) waiting done }
     requires agents { (Q.agents queue.now ≡ 1 + (posters + takers)) × (Q.agents rush.now ≡ 1 + (posters + takers))
         × (S.agents set.now ≡ 1 + (posters + takers)) }
     ensures back { AllCameBack Q.SharedQueue S.SharedSet queue.now rush.now set.now lines.now posters takers
         result.desk result.takes.items result.workers.items }
-    ensures many { length result.workers.items ≡ posters + takers }
     ensures few { (length (all_of (λ w. w.replies.posts.items) result.workers.items) ≤ length lines.now)
         × (length result.takes.items + length (all_of (λ w. w.replies.takes.items) result.workers.items) ≤ length lines.now) }
 {

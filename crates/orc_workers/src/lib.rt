@@ -4,7 +4,6 @@
 mod at_board;
 mod board;
 mod desks;
-mod rooms;
 mod team;
 mod work;
 

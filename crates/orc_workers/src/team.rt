@@ -1,17 +1,16 @@
 //! The work of one worker.
 ghost use Rattle.orc_workers.specs.Team.{DidWork, IsReady};
 
-use crate::rooms::Room;
 use crate::work::{run_poster, run_taker};
-use orc_board::{Desk, Gate};
+use orc_board::{Desk, Gate, TakeReply};
 use orc_history::{SharedQueue, SharedSet};
 use orc_jobs::Lines;
-use orc_team::Worker;
+use orc_team::{Room, Worker};
 use std::sync::Wait;
 use std::sync::atomic::AtomicU64;
 
 // A poster or a taker.
-pub(crate) type BoardWorker<A, B> = Worker<Desk<A, B>, Room>;
+pub(crate) type BoardWorker<A, B> = Worker<Desk<A, B>, Room<TakeReply>>;
 
 // Runs this worker on the thread that calls.
 pub(crate) fn run_worker<R: Wait, Q: SharedQueue, S: SharedSet, G: Gate>(

@@ -1,17 +1,16 @@
 use Rattle.std.proofs.Common.{rules, ◌≡◌, ◌≤◌, ◌+◌, ◌-◌, ◌*◌, ◌++◌, ◌∷◌, [], suc, ℕ, ap, sym, ◌∙◌, length, map, arith, List, false, true}
 use Rattle.orc_board.specs.declared.replies.PostReply.{PostReply}
-use Rattle.orc_team.specs.Seats.{all_of}
+use Rattle.orc_team.specs.Seats.{IsEmptyRoom, all_of}
 use Rattle.orc_team.proofs.Numbered.{EachFrom-map, EachFrom-rest}
-use Rattle.orc_team.proofs.Seats.{places_fit, seats_of}
-use Rattle.orc_workers.proofs.CameBack.{for_both}
+use Rattle.orc_team.proofs.Seats.{places_fit, seats_ready}
+use Rattle.orc_team.proofs.Teams.{for_both}
 use Rattle.orc_stages.specs.Learning.{stage_site}
-use Rattle.orc_stages.specs.Run.{IsNewDesk}
-use Rattle.orc_stages.specs.Seats.{IsRoom}
-use Rattle.orc_stages.specs.Team.{StageWorker}
+use Rattle.orc_stages.specs.Run.{Begins, IsNewDesk}
+use Rattle.orc_stages.specs.Team.{IsReady, StageWorker}
 use Rattle.orc_stages.specs.declared.replies.StageDesk.{StageDesk}
 use Rattle.orc_stages.specs.declared.replies.StageReply.{StageReply}
 use Rattle.orc_stages.proofs.Over.{over}
-use Rattle.orc_stages.proofs.Seated.{seats_ready}
+use Rattle.orc_stages.proofs.Seated.{ready_at}
 use Rattle.orc_stages.proofs.run.run_stages.Goals as goal
 
 pub seat-waiting-requires-clause-agents : goal.seat-waiting-requires-clause-agents
@@ -20,117 +19,36 @@ seat-waiting-requires-clause-agents g c =
     EachFrom-map F (stage_site g.Q.SharedQueue c.args.queues.now).usable (λ k d f. f.passes) 1 _
     (EachFrom-rest F 0 _ _ c.remove-desk.ensures.items c.requires.desks)
 
-pub run_seated-desk-requires-clause-room : goal.run_seated-desk-requires-clause-room
-run_seated-desk-requires-clause-room g c κs within =
+pub run_seated-desk-requires-clause-team : goal.run_seated-desk-requires-clause-team
+run_seated-desk-requires-clause-team g c κs within =
     let q = g.Q.SharedQueue in
     let queues = c.args.queues.now in
+    let lines = c.args.lines.now in
     let posters = c.args.posters in
     let stages : ℕ = length queues - 1 in
-    let run : suc (posters + stages) ≡ posters + length queues = omega (arith, c.requires.queues.0) in
-    let one : 1 + (posters + stages) ≡ posters + length queues = omega (arith, c.requires.queues.0) in
-    let s = seats_of c.args.desks.now.items c.remove-desk.new.self.items c.in_ok-rooms.field-0.rooms.items c.seat-waiting.result.items c.len.result
-    (posters + stages) c.remove-desk.ensures.items (sym c.args.desks.now.ok.0 ∙ (c.requires.count ∙ sym one)) (c.len.ensures ∙ (c.requires.count ∙ sym one))
-    c.in_ok-rooms.ensures.all c.seat-waiting.ensures.seated in
-    let none = c.in_ok-rooms.ensures.nobody_is_done in (
-      c.in_ok-rooms.field-0.done.ok.0 ∙ ap length none,
-      none,
-      omega (arith, c.seat-waiting.result.ok.0, s.workers, c.len.ensures, c.requires.count, run, c.in_ok-rooms.ensures.done_room),
-    )
-
-pub run_seated-desk-requires-clause-ready : goal.run_seated-desk-requires-clause-ready
-run_seated-desk-requires-clause-ready g c κs within =
-    let q = g.Q.SharedQueue in
-    let queues = c.args.queues.now in
-    let posters = c.args.posters in
-    let stages : ℕ = length queues - 1 in
-    let run : suc (posters + stages) ≡ posters + length queues = omega (arith, c.requires.queues.0) in
-    let one : 1 + (posters + stages) ≡ posters + length queues = omega (arith, c.requires.queues.0) in
-    let s = seats_of c.args.desks.now.items c.remove-desk.new.self.items c.in_ok-rooms.field-0.rooms.items c.seat-waiting.result.items c.len.result
-    (posters + stages) c.remove-desk.ensures.items (sym c.args.desks.now.ok.0 ∙ (c.requires.count ∙ sym one)) (c.len.ensures ∙ (c.requires.count ∙ sym one))
-    c.in_ok-rooms.ensures.all c.seat-waiting.ensures.seated in
-    let many : suc (length c.remove-desk.new.self.items) ≡ posters + length queues = ap (λ (n : ℕ). suc n) s.desks ∙ run in
-    let r = seats_ready q queues c.args.lines.now posters c.len-many.result c.args.desks.now.items c.remove-desk.new.self.items _ _ c.requires.good
-    c.requires.queues.0 c.requires.queues.1 c.len-many.ensures c.requires.desks c.remove-desk.ensures.items many
-    (EachFrom-map _ (IsRoom posters c.len-many.result) (λ k x d. search rules) 1 _ c.in_ok-rooms.ensures.rooms) c.seat-waiting.ensures.seated in
-    r.ready
-
-pub run_seated-desk-requires-clause-begin : goal.run_seated-desk-requires-clause-begin
-run_seated-desk-requires-clause-begin g c κs within =
-    let q = g.Q.SharedQueue in
-    let queues = c.args.queues.now in
-    let posters = c.args.posters in
-    let stages : ℕ = length queues - 1 in
-    let run : suc (posters + stages) ≡ posters + length queues = omega (arith, c.requires.queues.0) in
-    let one : 1 + (posters + stages) ≡ posters + length queues = omega (arith, c.requires.queues.0) in
-    let s = seats_of c.args.desks.now.items c.remove-desk.new.self.items c.in_ok-rooms.field-0.rooms.items c.seat-waiting.result.items c.len.result
-    (posters + stages) c.remove-desk.ensures.items (sym c.args.desks.now.ok.0 ∙ (c.requires.count ∙ sym one)) (c.len.ensures ∙ (c.requires.count ∙ sym one))
-    c.in_ok-rooms.ensures.all c.seat-waiting.ensures.seated in
-    let many : suc (length c.remove-desk.new.self.items) ≡ posters + length queues = ap (λ (n : ℕ). suc n) s.desks ∙ run in
-    let r = seats_ready q queues c.args.lines.now posters c.len-many.result c.args.desks.now.items c.remove-desk.new.self.items _ _ c.requires.good
-    c.requires.queues.0 c.requires.queues.1 c.len-many.ensures c.requires.desks c.remove-desk.ensures.items many
-    (EachFrom-map _ (IsRoom posters c.len-many.result) (λ k x d. search rules) 1 _ c.in_ok-rooms.ensures.rooms) c.seat-waiting.ensures.seated in
-    r.begin
-
-pub run_seated-desk-requires-clause-numbered : goal.run_seated-desk-requires-clause-numbered
-run_seated-desk-requires-clause-numbered g c κs within =
-    let q = g.Q.SharedQueue in
-    let queues = c.args.queues.now in
-    let posters = c.args.posters in
-    let stages : ℕ = length queues - 1 in
-    let run : suc (posters + stages) ≡ posters + length queues = omega (arith, c.requires.queues.0) in
-    let one : 1 + (posters + stages) ≡ posters + length queues = omega (arith, c.requires.queues.0) in
-    let s = seats_of c.args.desks.now.items c.remove-desk.new.self.items c.in_ok-rooms.field-0.rooms.items c.seat-waiting.result.items c.len.result
-    (posters + stages) c.remove-desk.ensures.items (sym c.args.desks.now.ok.0 ∙ (c.requires.count ∙ sym one)) (c.len.ensures ∙ (c.requires.count ∙ sym one))
-    c.in_ok-rooms.ensures.all c.seat-waiting.ensures.seated in
-    let many : suc (length c.remove-desk.new.self.items) ≡ posters + length queues = ap (λ (n : ℕ). suc n) s.desks ∙ run in
-    let r = seats_ready q queues c.args.lines.now posters c.len-many.result c.args.desks.now.items c.remove-desk.new.self.items _ _ c.requires.good
-    c.requires.queues.0 c.requires.queues.1 c.len-many.ensures c.requires.desks c.remove-desk.ensures.items many
-    (EachFrom-map _ (IsRoom posters c.len-many.result) (λ k x d. search rules) 1 _ c.in_ok-rooms.ensures.rooms) c.seat-waiting.ensures.seated in
-    r.numbered
-
-pub run_seated-desk-requires-clause-count : goal.run_seated-desk-requires-clause-count
-run_seated-desk-requires-clause-count g c κs within =
-    let q = g.Q.SharedQueue in
-    let queues = c.args.queues.now in
-    let posters = c.args.posters in
-    let stages : ℕ = length queues - 1 in
-    let run : suc (posters + stages) ≡ posters + length queues = omega (arith, c.requires.queues.0) in
-    let one : 1 + (posters + stages) ≡ posters + length queues = omega (arith, c.requires.queues.0) in
-    let s = seats_of c.args.desks.now.items c.remove-desk.new.self.items c.in_ok-rooms.field-0.rooms.items c.seat-waiting.result.items c.len.result
-    (posters + stages) c.remove-desk.ensures.items (sym c.args.desks.now.ok.0 ∙ (c.requires.count ∙ sym one)) (c.len.ensures ∙ (c.requires.count ∙ sym one))
-    c.in_ok-rooms.ensures.all c.seat-waiting.ensures.seated in
-    omega (arith, c.seat-waiting.result.ok.0, s.workers, run)
-
-pub run_seated-desk-requires-clause-enough : goal.run_seated-desk-requires-clause-enough
-run_seated-desk-requires-clause-enough g c κs within =
-    let q = g.Q.SharedQueue in
-    let queues = c.args.queues.now in
-    let posters = c.args.posters in
-    let stages : ℕ = length queues - 1 in
-    let run : suc (posters + stages) ≡ posters + length queues = omega (arith, c.requires.queues.0) in
-    let one : 1 + (posters + stages) ≡ posters + length queues = omega (arith, c.requires.queues.0) in
-    let s = seats_of c.args.desks.now.items c.remove-desk.new.self.items c.in_ok-rooms.field-0.rooms.items c.seat-waiting.result.items c.len.result
-    (posters + stages) c.remove-desk.ensures.items (sym c.args.desks.now.ok.0 ∙ (c.requires.count ∙ sym one)) (c.len.ensures ∙ (c.requires.count ∙ sym one))
-    c.in_ok-rooms.ensures.all c.seat-waiting.ensures.seated in
-    let many : suc (length c.remove-desk.new.self.items) ≡ posters + length queues = ap (λ (n : ℕ). suc n) s.desks ∙ run in
-    let r = seats_ready q queues c.args.lines.now posters c.len-many.result c.args.desks.now.items c.remove-desk.new.self.items _ _ c.requires.good
-    c.requires.queues.0 c.requires.queues.1 c.len-many.ensures c.requires.desks c.remove-desk.ensures.items many
-    (EachFrom-map _ (IsRoom posters c.len-many.result) (λ k x d. search rules) 1 _ c.in_ok-rooms.ensures.rooms) c.seat-waiting.ensures.seated in
-    r.room
+    let M = IsEmptyRoom posters c.len-many.result c.len-many.result in
+    let run : posters + length queues ≡ 1 + (posters + stages) = omega (arith, c.requires.queues.0) in
+    seats_ready (IsNewDesk q queues) M (IsReady q queues lines posters) (Begins q queues lines posters) (posters + stages) c.len.result
+    c.args.desks.now.items _ _ _ _
+    (λ k d r low high desk room. ready_at q queues lines posters c.len-many.result k d r c.requires.good c.requires.queues.0 c.requires.queues.1
+    c.len-many.ensures low (omega (arith, high, run)) desk room)
+    c.requires.desks c.remove-desk.ensures.items (sym c.args.desks.now.ok.0 ∙ (c.requires.count ∙ run)) (c.len.ensures ∙ (c.requires.count ∙ run))
+    (EachFrom-map _ M (λ k r d. search rules) 1 _ c.in_ok-rooms.ensures.rooms) c.in_ok-rooms.ensures.all c.in_ok-rooms.ensures.nobody_is_done
+    c.in_ok-rooms.ensures.done_room c.seat-waiting.ensures.seated
 
 pub hand_back-requires : goal.hand_back-requires
 hand_back-requires g c =
     let W : Type 0 = StageWorker g.row.Q-Pass.Denot in
     let posts : length (all_of (λ (w : W). w.replies.posts.items) c.run_seated-desk.result.workers.items) ≤ c.in_ok-posts.posts.spare =
     omega (arith, c.run_seated-desk.ensures.few.0, c.in_ok-posts.ensures.1, c.len-many.ensures) in
-    let moves : length (all_of (λ (w : W). w.replies.moves.items) c.run_seated-desk.result.workers.items) ≤ c.in_ok-moves.moves.spare =
+    let moves : length (all_of (λ (w : W). w.replies.takes.items) c.run_seated-desk.result.workers.items) ≤ c.in_ok-moves.moves.spare =
     omega (arith, c.run_seated-desk.ensures.few.1, c.in_ok-moves.ensures.1, ap (λ (n : ℕ). (length c.args.queues.now - 1) * n) c.len-many.ensures) in
     record {
       desks = places_fit c.args.desks.now.len c.args.desks.now.cap c.remove-desk.new.self.cap c.seat-waiting.new.desks.cap c.push.new.self.cap
           c.seat-waiting.new.desks.len _ c.push.new.self.len c.run_seated-desk.result.workers.len _ _ c.args.desks.now.ok.1
           (omega (arith, c.requires.count, c.requires.queues.0)) c.remove-desk.ensures.capacity c.seat-waiting.ensures.desks c.in-Ok.ensures.capacity
           c.seat-waiting.new.desks.ok.0 (ap length c.seat-waiting.ensures.none) c.in-Ok.ensures.len c.run_seated-desk.result.workers.ok.0
-          c.run_seated-desk.ensures.many;
+          c.run_seated-desk.ensures.back.many;
       replies = for_both _ posts moves;
     }
 
@@ -152,8 +70,8 @@ returns g c =
     ∙ ap (λ (xs : List PostReply). xs ++ all_of (λ (w : StageWorker g.row.Q-Pass.Denot). w.replies.posts.items) c.run_seated-desk.result.workers.items)
     c.in_ok-posts.ensures.0 in
     let moves = c.hand_back.ensures.replies true
-    ∙ ap (λ (xs : List StageReply). xs ++ all_of (λ (w : StageWorker g.row.Q-Pass.Denot). w.replies.moves.items) c.run_seated-desk.result.workers.items)
+    ∙ ap (λ (xs : List StageReply). xs ++ all_of (λ (w : StageWorker g.row.Q-Pass.Denot). w.replies.takes.items) c.run_seated-desk.result.workers.items)
     c.in_ok-moves.ensures.0 in
     let end = over q queues c.args.lines.now posters stages c.run_seated-desk.result.desk c.run_seated-desk.result.workers.items
-    c.run_seated-desk.result.outs.items c.requires.posters c.requires.good.few c.run_seated-desk.ensures.many c.run_seated-desk.ensures.back _ _ _ desks posts moves in
+    c.run_seated-desk.result.outs.items c.requires.posters c.requires.good.few c.run_seated-desk.ensures.back.many c.run_seated-desk.ensures.back _ _ _ desks posts moves in
     record { idle = end.0; all = end.1 ∙ run; seen = end.2; pipeline = end.3; kept = tt }

@@ -1,4 +1,4 @@
-use Rattle.std.proofs.Common.{rules, ℕ, arith, subst, ◌∷◌, []}
+use Rattle.std.proofs.Common.{rules, ℕ, subst, ◌∷◌, []}
 use Rattle.orc_board.specs.Stretches.{Stretch, beside}
 use Rattle.orc_pairs_rule.specs.declared.entry.CellEntry.TheVariants.{Seen}
 use Rattle.orc_watch_run.specs.CellView.{cell_view, of_cell}
@@ -11,12 +11,12 @@ use Rattle.orc_watch_run.proofs.Over.{replies_few}
 use Rattle.orc_watch_run.proofs.run.run_team.Goals as goal
 
 pub run_workers-team-requires-clause-ready : goal.run_workers-team-requires-clause-ready
-run_workers-team-requires-clause-ready g c κs within = AllByRecursion-map _ _ (λ w ready. search rules) _ c.requires.ready
+run_workers-team-requires-clause-ready g c κs within = AllByRecursion-map _ _ (λ w ready. search rules) _ c.requires.team.ready
 
 pub learn_from_team-requires-clause-others : goal.learn_from_team-requires-clause-others
 learn_from_team-requires-clause-others g c =
     others_after g.L.Links c.args.cell.now.links c.args.lines.now c.args.workers _ _
-    (team_did _ _ _ _ _ _ (λ w v d. search rules) c.requires.room.1 c.run_workers-team.ensures.team)
+    (team_did _ _ _ _ _ _ (λ w v d. search rules) c.requires.team.nobody_is_done c.run_workers-team.ensures.team)
 
 pub returns-clause-back : goal.returns-clause-back
 returns-clause-back g c =
@@ -38,25 +38,12 @@ returns-clause-back g c =
     (g.L.Links.journal c.read_parts-now_left.new.p)) e1.desk.agent_is c.read_parts-now_left.ensures.seen in
     came_back g.L.Links d c.args.lines.now workers c.args.pass p1 c.read_parts-now_left.new.p p3 _ _ _ _ _ _
     laws (all_in_run (g.L.Links.agents d) workers _ c.requires.agents known1.below) (all_in_run (g.L.Links.agents d) workers _ c.requires.agents known3.below)
-    c.requires.pass.new c.requires.numbered c.requires.count c.requires.begin
-    (team_did _ _ _ _ _ _ (λ w v d. search rules) c.requires.room.1 c.run_workers-team.ensures.team)
+    c.requires.pass.new c.requires.team.numbered c.requires.team.count c.requires.team.new
+    (team_did _ _ _ _ _ _ (λ w v d. search rules) c.requires.team.nobody_is_done c.run_workers-team.ensures.team)
     e1.learned e1.same read e3.learned e3.same e3.desk known3 e3.others
-
-pub returns-clause-many : goal.returns-clause-many
-returns-clause-many g c =
-    omega (
-      arith,
-      c.learn_from_team-2.new.others.ok.0,
-      c.learn_from_team-2.ensures.len,
-      c.learn_from_team.ensures.len,
-      c.run_workers-team.ensures.len,
-      c.requires.room.0,
-      c.args.waiting.ok.0,
-      c.requires.count,
-    )
 
 pub returns-clause-few : goal.returns-clause-few
 returns-clause-few g c =
     let back = returns-clause-back g c in
     replies_few (beside (cell_view g.L.Links c.args.cell.now.links) (IsInRun c.args.workers)) c.args.lines.now c.args.workers _ _ c.requires.workers
-    back.numbered (returns-clause-many g c) back.told
+    back.numbered back.many back.told

@@ -2,60 +2,25 @@ use Rattle.std.proofs.Common.{rules, ◌≡◌, ◌≤◌, ◌++◌, ◌∷◌, 
 use Rattle.orc_watch.specs.declared.reply.WatchReply.{WatchReply}
 use Rattle.orc_team.specs.Seats.{all_of}
 use Rattle.orc_team.proofs.Numbered.{EachFrom-map, EachFrom-rest}
-use Rattle.orc_team.proofs.Seats.{places_fit, room_done, seats_of}
+use Rattle.orc_team.proofs.Seats.{places_fit, seats_ready}
 use Rattle.orc_watch_run.specs.Passes.{IsFreshPass, IsUsablePassOf}
-use Rattle.orc_watch_run.specs.Team.{IsRoom, Watcher}
+use Rattle.orc_watch_run.specs.CameBack.{IsNew}
+use Rattle.orc_watch_run.specs.Team.{IsReady, IsRoom, Watcher}
 use Rattle.orc_watch_run.proofs.Over.{over_of}
-use Rattle.orc_watch_run.proofs.Rooms.{seats_ready}
+use Rattle.orc_watch_run.proofs.Rooms.{ready_at}
 use Rattle.orc_watch_run.proofs.run.run_watch.Goals as goal
 
-pub run_team-pass-requires-clause-room : goal.run_team-pass-requires-clause-room
-run_team-pass-requires-clause-room g c κs within =
-    let s = seats_of c.args.passes.now.items c.remove-pass.new.self.items c.in_ok-rooms.field-0.rooms.items c.seat-waiting.result.items c.len.result _
-    c.remove-pass.ensures.items (sym c.args.passes.now.ok.0 ∙ c.requires.count) (c.len.ensures ∙ c.requires.count) c.in_ok-rooms.ensures.all
-    c.seat-waiting.ensures.seated in
-    let none = c.in_ok-rooms.ensures.nobody_is_done in (
-      c.in_ok-rooms.field-0.done.ok.0 ∙ ap length none,
-      none,
-      room_done _ _ _ _ _ c.seat-waiting.result.ok.0 s.workers (c.len.ensures ∙ c.requires.count) c.in_ok-rooms.ensures.done_room,
-    )
-
-pub run_team-pass-requires-clause-count : goal.run_team-pass-requires-clause-count
-run_team-pass-requires-clause-count g c κs within =
-    let s = seats_of c.args.passes.now.items c.remove-pass.new.self.items c.in_ok-rooms.field-0.rooms.items c.seat-waiting.result.items c.len.result _
-    c.remove-pass.ensures.items (sym c.args.passes.now.ok.0 ∙ c.requires.count) (c.len.ensures ∙ c.requires.count) c.in_ok-rooms.ensures.all
-    c.seat-waiting.ensures.seated in
-    s.workers
-
-pub run_team-pass-requires-clause-ready : goal.run_team-pass-requires-clause-ready
-run_team-pass-requires-clause-ready g c κs within =
-    let s = seats_of c.args.passes.now.items c.remove-pass.new.self.items c.in_ok-rooms.field-0.rooms.items c.seat-waiting.result.items c.len.result _
-    c.remove-pass.ensures.items (sym c.args.passes.now.ok.0 ∙ c.requires.count) (c.len.ensures ∙ c.requires.count) c.in_ok-rooms.ensures.all
-    c.seat-waiting.ensures.seated in
-    let r = seats_ready g.L.Links c.args.cell.now.links c.args.lines.now c.args.workers c.len-many.result c.args.passes.now.items c.remove-pass.new.self.items _ _
-    c.requires.few c.len-many.ensures c.requires.passes c.remove-pass.ensures.items s.desks
-    (EachFrom-map _ (λ k r. IsRoom c.len-many.result r) (λ k r d. search rules) 1 _ c.in_ok-rooms.ensures.rooms) c.seat-waiting.ensures.seated in
-    r.ready
-
-pub run_team-pass-requires-clause-begin : goal.run_team-pass-requires-clause-begin
-run_team-pass-requires-clause-begin g c κs within =
-    let s = seats_of c.args.passes.now.items c.remove-pass.new.self.items c.in_ok-rooms.field-0.rooms.items c.seat-waiting.result.items c.len.result _
-    c.remove-pass.ensures.items (sym c.args.passes.now.ok.0 ∙ c.requires.count) (c.len.ensures ∙ c.requires.count) c.in_ok-rooms.ensures.all
-    c.seat-waiting.ensures.seated in
-    let r = seats_ready g.L.Links c.args.cell.now.links c.args.lines.now c.args.workers c.len-many.result c.args.passes.now.items c.remove-pass.new.self.items _ _
-    c.requires.few c.len-many.ensures c.requires.passes c.remove-pass.ensures.items s.desks
-    (EachFrom-map _ (λ k r. IsRoom c.len-many.result r) (λ k r d. search rules) 1 _ c.in_ok-rooms.ensures.rooms) c.seat-waiting.ensures.seated in
-    r.begin
-
-pub run_team-pass-requires-clause-numbered : goal.run_team-pass-requires-clause-numbered
-run_team-pass-requires-clause-numbered g c κs within =
-    let s = seats_of c.args.passes.now.items c.remove-pass.new.self.items c.in_ok-rooms.field-0.rooms.items c.seat-waiting.result.items c.len.result _
-    c.remove-pass.ensures.items (sym c.args.passes.now.ok.0 ∙ c.requires.count) (c.len.ensures ∙ c.requires.count) c.in_ok-rooms.ensures.all
-    c.seat-waiting.ensures.seated in
-    let r = seats_ready g.L.Links c.args.cell.now.links c.args.lines.now c.args.workers c.len-many.result c.args.passes.now.items c.remove-pass.new.self.items _ _
-    c.requires.few c.len-many.ensures c.requires.passes c.remove-pass.ensures.items s.desks
-    (EachFrom-map _ (λ k r. IsRoom c.len-many.result r) (λ k r d. search rules) 1 _ c.in_ok-rooms.ensures.rooms) c.seat-waiting.ensures.seated in
-    r.numbered
+pub run_team-pass-requires-clause-team : goal.run_team-pass-requires-clause-team
+run_team-pass-requires-clause-team g c κs within =
+    let links = c.args.cell.now.links in
+    let lines = c.args.lines.now in
+    let workers = c.args.workers in
+    seats_ready (IsFreshPass g.L.Links links) (λ k r. IsRoom c.len-many.result r) (IsReady g.L.Links links lines workers) (IsNew g.L.Links links) workers
+    c.len.result c.args.passes.now.items _ _ _ _
+    (λ k p r low high pass room. ready_at g.L.Links links lines workers c.len-many.result k p r c.requires.few c.len-many.ensures low high pass room)
+    c.requires.passes c.remove-pass.ensures.items (sym c.args.passes.now.ok.0 ∙ c.requires.count) (c.len.ensures ∙ c.requires.count)
+    (EachFrom-map _ (λ k r. IsRoom c.len-many.result r) (λ k r d. search rules) 1 _ c.in_ok-rooms.ensures.rooms) c.in_ok-rooms.ensures.all
+    c.in_ok-rooms.ensures.nobody_is_done c.in_ok-rooms.ensures.done_room c.seat-waiting.ensures.seated
 
 pub seat-waiting-requires-clause-agents : goal.seat-waiting-requires-clause-agents
 seat-waiting-requires-clause-agents g c =
@@ -67,7 +32,7 @@ hand_back-requires g c = record {
   desks = places_fit c.args.passes.now.len c.args.passes.now.cap c.remove-pass.new.self.cap c.seat-waiting.new.desks.cap c.push.new.self.cap
       c.seat-waiting.new.desks.len _ c.push.new.self.len c.run_team-pass.result.workers.len _ _ c.args.passes.now.ok.1 c.requires.count
       c.remove-pass.ensures.capacity c.seat-waiting.ensures.desks c.in-Ok.ensures.capacity c.seat-waiting.new.desks.ok.0
-      (ap length c.seat-waiting.ensures.none) c.in-Ok.ensures.len c.run_team-pass.result.workers.ok.0 c.run_team-pass.ensures.many;
+      (ap length c.seat-waiting.ensures.none) c.in-Ok.ensures.len c.run_team-pass.result.workers.ok.0 c.run_team-pass.ensures.back.many;
   replies =
       let few : length (all_of (λ (w : Watcher g.row.L-Pass.Denot). w.replies.items) c.run_team-pass.result.workers.items) ≤ c.in_ok-replies.replies.spare =
       omega (arith, c.run_team-pass.ensures.few, c.in_ok-replies.ensures.1, c.len-many.ensures) in
@@ -86,5 +51,5 @@ returns g c =
     ∙ ap (λ (xs : List WatchReply). xs ++ all_of (λ (w : Watcher g.row.L-Pass.Denot). w.replies.items) c.run_team-pass.result.workers.items)
     c.in_ok-replies.ensures.0 in
     let over = over_of g.L.Links c.args.cell.now.links c.args.lines.now c.args.workers c.run_team-pass.result.pass c.run_team-pass.result.now_left
-    c.run_team-pass.result.now_right c.run_team-pass.result.workers.items _ _ c.run_team-pass.ensures.back c.run_team-pass.ensures.many passes replies in
+    c.run_team-pass.result.now_right c.run_team-pass.result.workers.items _ _ c.run_team-pass.ensures.back c.run_team-pass.ensures.back.many passes replies in
     record { usable = over.usable; all = over.all; seen = over.seen; follows = over.follows; kept = tt }

@@ -1,5 +1,5 @@
 use Rattle.orc_board.specs.Stretches.{pick}
-use Rattle.orc_workers.proofs.CameBack.{for_both}
+use Rattle.orc_team.proofs.Teams.{for_both}
 use Rattle.orc_workers.proofs.at_board.tell_laws.Goals as goal
 
 pub returns : goal.returns

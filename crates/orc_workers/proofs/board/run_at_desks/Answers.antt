@@ -1,17 +1,17 @@
-use Rattle.std.proofs.Common.{rules, ◌≡◌, ◌≤◌, ◌++◌, ◌∷◌, [], ap, sym, ◌∙◌, length, map, arith, List, false, true}
+use Rattle.std.proofs.Common.{rules, ◌≡◌, ◌+◌, ◌≤◌, ◌++◌, ◌∷◌, [], ap, sym, ◌∙◌, length, map, arith, List, false, true}
 use Rattle.orc_board.specs.declared.desk.Desk.{Desk}
 use Rattle.orc_board.specs.declared.replies.PostReply.{PostReply}
 use Rattle.orc_board.specs.declared.replies.TakeReply.{TakeReply}
 use Rattle.orc_board.specs.Desk.{IsDesk}
-use Rattle.orc_team.specs.Seats.{all_of}
+use Rattle.orc_team.specs.Seats.{IsEmptyRoom, all_of}
 use Rattle.orc_team.proofs.Numbered.{EachFrom-map, EachFrom-rest}
-use Rattle.orc_team.proofs.Seats.{places_fit, room_done, seats_of}
+use Rattle.orc_team.proofs.Seats.{places_fit, seats_ready}
 use Rattle.orc_workers.specs.Desks.{IsFreshDesk}
-use Rattle.orc_workers.specs.Seats.{IsRoom}
-use Rattle.orc_workers.specs.Team.{BoardWorker}
-use Rattle.orc_workers.proofs.CameBack.{for_both}
+use Rattle.orc_workers.specs.CameBack.{IsNew}
+use Rattle.orc_workers.specs.Team.{BoardWorker, IsReady}
+use Rattle.orc_team.proofs.Teams.{for_both}
 use Rattle.orc_workers.proofs.Over.{over_of}
-use Rattle.orc_workers.proofs.Seated.{seats_ready}
+use Rattle.orc_workers.proofs.Seated.{ready_at}
 use Rattle.orc_workers.proofs.board.run_at_desks.Goals as goal
 
 pub seat-waiting-requires-clause-agents : goal.seat-waiting-requires-clause-agents
@@ -20,50 +20,21 @@ seat-waiting-requires-clause-agents g c =
     EachFrom-map F (IsDesk g.Q.SharedQueue g.S.SharedSet c.args.queue.now c.args.rush.now c.args.set.now) (λ k d f. f.is_desk) 1 _
     (EachFrom-rest F 0 _ _ c.remove-desk.ensures.items c.requires.desks)
 
-pub run_seated-desk-requires-clause-room : goal.run_seated-desk-requires-clause-room
-run_seated-desk-requires-clause-room g c κs within =
-    let s = seats_of c.args.desks.now.items c.remove-desk.new.self.items c.in_ok-rooms.field-0.rooms.items c.seat-waiting.result.items c.len.result _
-    c.remove-desk.ensures.items (sym c.args.desks.now.ok.0 ∙ c.requires.count) (c.len.ensures ∙ c.requires.count) c.in_ok-rooms.ensures.all
-    c.seat-waiting.ensures.seated in
-    let none = c.in_ok-rooms.ensures.nobody_is_done in (
-      c.in_ok-rooms.field-0.done.ok.0 ∙ ap length none,
-      none,
-      room_done _ _ _ _ _ c.seat-waiting.result.ok.0 s.workers (c.len.ensures ∙ c.requires.count) c.in_ok-rooms.ensures.done_room,
-    )
-
-pub run_seated-desk-requires-clause-count : goal.run_seated-desk-requires-clause-count
-run_seated-desk-requires-clause-count g c κs within =
-    let s = seats_of c.args.desks.now.items c.remove-desk.new.self.items c.in_ok-rooms.field-0.rooms.items c.seat-waiting.result.items c.len.result _
-    c.remove-desk.ensures.items (sym c.args.desks.now.ok.0 ∙ c.requires.count) (c.len.ensures ∙ c.requires.count) c.in_ok-rooms.ensures.all
-    c.seat-waiting.ensures.seated in
-    s.workers
-
-pub run_seated-desk-requires-clause-ready : goal.run_seated-desk-requires-clause-ready
-run_seated-desk-requires-clause-ready g c κs within =
-    let r = seats_ready g.Q.SharedQueue g.S.SharedSet c.args.queue.now c.args.rush.now c.args.set.now c.args.lines.now c.args.posters c.len-many.result
-    c.count_jobs-jobs.result c.args.desks.now.items c.remove-desk.new.self.items _ _ c.requires.good c.len-many.ensures c.count_jobs-jobs.ensures
-    c.requires.desks c.remove-desk.ensures.items
-    (EachFrom-map _ (IsRoom c.args.posters c.len-many.result c.count_jobs-jobs.result) (λ k r d. search rules) 1 _ c.in_ok-rooms.ensures.rooms)
-    c.seat-waiting.ensures.seated in
-    r.ready
-
-pub run_seated-desk-requires-clause-begin : goal.run_seated-desk-requires-clause-begin
-run_seated-desk-requires-clause-begin g c κs within =
-    let r = seats_ready g.Q.SharedQueue g.S.SharedSet c.args.queue.now c.args.rush.now c.args.set.now c.args.lines.now c.args.posters c.len-many.result
-    c.count_jobs-jobs.result c.args.desks.now.items c.remove-desk.new.self.items _ _ c.requires.good c.len-many.ensures c.count_jobs-jobs.ensures
-    c.requires.desks c.remove-desk.ensures.items
-    (EachFrom-map _ (IsRoom c.args.posters c.len-many.result c.count_jobs-jobs.result) (λ k r d. search rules) 1 _ c.in_ok-rooms.ensures.rooms)
-    c.seat-waiting.ensures.seated in
-    r.begin
-
-pub run_seated-desk-requires-clause-numbered : goal.run_seated-desk-requires-clause-numbered
-run_seated-desk-requires-clause-numbered g c κs within =
-    let r = seats_ready g.Q.SharedQueue g.S.SharedSet c.args.queue.now c.args.rush.now c.args.set.now c.args.lines.now c.args.posters c.len-many.result
-    c.count_jobs-jobs.result c.args.desks.now.items c.remove-desk.new.self.items _ _ c.requires.good c.len-many.ensures c.count_jobs-jobs.ensures
-    c.requires.desks c.remove-desk.ensures.items
-    (EachFrom-map _ (IsRoom c.args.posters c.len-many.result c.count_jobs-jobs.result) (λ k r d. search rules) 1 _ c.in_ok-rooms.ensures.rooms)
-    c.seat-waiting.ensures.seated in
-    r.numbered
+pub run_seated-desk-requires-clause-team : goal.run_seated-desk-requires-clause-team
+run_seated-desk-requires-clause-team g c κs within =
+    let queue = c.args.queue.now in
+    let rush = c.args.rush.now in
+    let set = c.args.set.now in
+    let posters = c.args.posters in
+    let lines = c.args.lines.now in
+    let M = IsEmptyRoom posters c.len-many.result c.count_jobs-jobs.result in
+    seats_ready (IsFreshDesk g.Q.SharedQueue g.S.SharedSet queue rush set) M (IsReady g.Q.SharedQueue g.S.SharedSet queue rush set lines posters)
+    (IsNew g.Q.SharedQueue g.S.SharedSet queue rush set) (posters + c.args.takers) c.len.result c.args.desks.now.items _ _ _ _
+    (λ k d r low high desk room. ready_at g.Q.SharedQueue g.S.SharedSet queue rush set lines posters c.len-many.result c.count_jobs-jobs.result k d r
+    c.requires.good c.len-many.ensures c.count_jobs-jobs.ensures low desk room)
+    c.requires.desks c.remove-desk.ensures.items (sym c.args.desks.now.ok.0 ∙ c.requires.count) (c.len.ensures ∙ c.requires.count)
+    (EachFrom-map _ M (λ k r d. search rules) 1 _ c.in_ok-rooms.ensures.rooms) c.in_ok-rooms.ensures.all c.in_ok-rooms.ensures.nobody_is_done
+    c.in_ok-rooms.ensures.done_room c.seat-waiting.ensures.seated
 
 pub append-requires : goal.append-requires
 append-requires g c = omega (arith, c.run_seated-desk.ensures.few.1, c.in_ok-takes.ensures.1, c.len-many.ensures)
@@ -79,7 +50,7 @@ hand_back-requires g c =
       desks = places_fit c.args.desks.now.len c.args.desks.now.cap c.remove-desk.new.self.cap c.seat-waiting.new.desks.cap c.push.new.self.cap
           c.seat-waiting.new.desks.len _ c.push.new.self.len c.run_seated-desk.result.workers.len _ _ c.args.desks.now.ok.1 c.requires.count
           c.remove-desk.ensures.capacity c.seat-waiting.ensures.desks c.in-Ok.ensures.capacity c.seat-waiting.new.desks.ok.0
-          (ap length c.seat-waiting.ensures.none) c.in-Ok.ensures.len c.run_seated-desk.result.workers.ok.0 c.run_seated-desk.ensures.many;
+          (ap length c.seat-waiting.ensures.none) c.in-Ok.ensures.len c.run_seated-desk.result.workers.ok.0 c.run_seated-desk.ensures.back.many;
       replies = for_both _ posts takes;
     }
 
@@ -102,7 +73,7 @@ returns g c =
     (c.append.ensures.items ∙ ap (λ (xs : List TakeReply). xs ++ c.run_seated-desk.result.takes.items) c.in_ok-takes.ensures.0) in
     let over = over_of g.Q.SharedQueue g.S.SharedSet c.args.queue.now c.args.rush.now c.args.set.now c.args.lines.now c.args.posters c.args.takers
     c.run_seated-desk.result.desk c.run_seated-desk.result.takes.items c.run_seated-desk.result.workers.items _ _ _
-    c.requires.posters c.requires.good.few (for_both _ c.requires.first.0 c.requires.first.1) c.run_seated-desk.ensures.many c.run_seated-desk.ensures.back desks posts takes in
+    c.requires.posters c.requires.good.few (for_both _ c.requires.first.0 c.requires.first.1) c.run_seated-desk.ensures.back.many c.run_seated-desk.ensures.back desks posts takes in
     record {
       idle = over.idle;
       all = over.all ∙ omega arith;

@@ -6,18 +6,18 @@ use Rattle.orc_workers.specs.Learning.{LawsTell}
 use Rattle.orc_board.proofs.ListFacts.{AllByRecursion-map}
 use Rattle.orc_board.proofs.Wholes.{Below}
 use Rattle.orc_team.proofs.Learned.{none_at_start}
-use Rattle.orc_team.proofs.Teams.{team_did}
-use Rattle.orc_workers.proofs.CameBack.{for_both, Laws, others_after, came_back, rest_last, below_of, crowd_in_run, known_as}
+use Rattle.orc_team.proofs.Teams.{for_both, team_did}
+use Rattle.orc_workers.proofs.CameBack.{Laws, others_after, came_back, rest_last, below_of, crowd_in_run, known_as}
 use Rattle.orc_workers.proofs.Over.{few_replies}
 use Rattle.orc_workers.proofs.board.run_seated.Goals as goal
 
 pub run_workers-workers-requires-clause-ready : goal.run_workers-workers-requires-clause-ready
-run_workers-workers-requires-clause-ready g c κs within = AllByRecursion-map _ _ (λ w ready. search rules) _ c.requires.ready
+run_workers-workers-requires-clause-ready g c κs within = AllByRecursion-map _ _ (λ w ready. search rules) _ c.requires.team.ready
 
 pub learn_from_team-requires-clause-others : goal.learn_from_team-requires-clause-others
 learn_from_team-requires-clause-others g c =
     others_after g.Q.SharedQueue g.S.SharedSet c.args.queue.now c.args.rush.now c.args.set.now c.args.lines.now c.args.posters _ _
-    (team_did _ _ _ _ _ _ (λ w v d. search rules) c.requires.room.1 c.run_workers-workers.ensures.team)
+    (team_did _ _ _ _ _ _ (λ w v d. search rules) c.requires.team.nobody_is_done c.run_workers-workers.ensures.team)
 
 pub returns-clause-back : goal.returns-clause-back
 returns-clause-back g c =
@@ -59,24 +59,12 @@ returns-clause-back g c =
     c.take_rest.ensures.spare in
     came_back g.Q.SharedQueue g.S.SharedSet queue rush set c.args.lines.now c.args.posters c.args.takers c.args.desk d1 c.take_rest.new.desk d3
     c.take_rest.new.replies.items _ _ _ _
-    laws below1 below3 c.requires.desk.queues_new c.requires.desk.set_new c.requires.numbered c.requires.count c.requires.begin
-    (team_did _ _ _ _ _ _ (λ w v d. search rules) c.requires.room.1 c.run_workers-workers.ensures.team)
+    laws below1 below3 c.requires.desk.queues_new c.requires.desk.set_new c.requires.team.numbered c.requires.team.count c.requires.team.new
+    (team_did _ _ _ _ _ _ (λ w v d. search rules) c.requires.team.nobody_is_done c.run_workers-workers.ensures.team)
     e1.learned e1.same taking last e3.learned e3.same e3.desk known e3.others
-
-pub returns-clause-many : goal.returns-clause-many
-returns-clause-many g c =
-    omega (
-      arith,
-      c.learn_from_team-2.new.others.ok.0,
-      c.learn_from_team-2.ensures.len,
-      c.learn_from_team.ensures.len,
-      c.run_workers-workers.ensures.len,
-      c.requires.room.0,
-      c.args.waiting.ok.0,
-      c.requires.count,
-    )
 
 pub returns-clause-few : goal.returns-clause-few
 returns-clause-few g c =
+    let back = returns-clause-back g c in
     few_replies g.Q.SharedQueue g.S.SharedSet c.args.queue.now c.args.rush.now c.args.set.now c.args.lines.now c.args.posters c.args.takers
-    _ _ _ c.requires.posters c.requires.good.few (for_both _ c.requires.first.0 c.requires.first.1) (returns-clause-many g c) (returns-clause-back g c)
+    _ _ _ c.requires.posters c.requires.good.few (for_both _ c.requires.first.0 c.requires.first.1) back.many back
