@@ -28,26 +28,27 @@ pub record IsMadeSo {L D P S N : Type 0} (members : LinksOf L D P S N) (bounds :
   pub begins : members.opening domain ≡ opening_events seed
 
 module _ {L D P S R : Type 0} (members : LinksOf L D P S FifoNote) (bounds : L → Bounds) (rests : L → List P → R → Type 0) where
+  -- these were left of both queues' domains, whose passes had seen these journals
+  pub record LeftOfQueues (posters takers rows : ℕ) (queue rush : R) : Type 0 where
+    pub domains : Bool → L
+    pub made : (rush_too : Bool) → IsMadeSo members bounds (run_bounds rows 2 (agents_of posters takers)) queue_seed (domains rush_too)
+    pub seen : Bool → List S
+    pub left : (rush_too : Bool) → IsLeftOf members rests (domains rush_too) (seen rush_too) (pick queue rush rush_too)
+
   -- the work over this set left both queues' domains and the passes of the set, which have all seen one journal, and the replies follow
   -- it and those that the queues' passes had seen
   pub record WorkedOver {T X A : Type 0} (sets : SetOf T X A) (set : T) (lines : List Line) (posters takers rows : ℕ) (w : Worked R X) : Type 0 where
-    pub queues : Bool → L
-    pub made : (rush : Bool) → IsMadeSo members bounds (run_bounds rows 2 (agents_of posters takers)) queue_seed (queues rush)
-    pub seen : Bool → List S
-    pub left : (rush : Bool) → IsLeftOf members rests (queues rush) (seen rush) (pick w.queue w.rush rush)
+    pub queues : LeftOfQueues posters takers rows w.queue w.rush
     pub set_seen : List A
     pub all_saw : All (λ p. sets.journal p ≡ set_seen) w.set.items
-    pub ran : Ran (λ rush. queue_on members (queues rush)) (set_view sets set) lines posters takers w.replies.posts.items w.replies.takes.items seen set_seen
+    pub ran : Ran (λ rush. queue_on members (queues.domains rush)) (set_view sets set) lines posters takers w.replies.posts.items w.replies.takes.items queues.seen set_seen
 
   -- the run left both queues' domains and that of a set of this kind, with so many roots, and the replies follow what their passes had seen
   pub record RanOver {M E Y T N U : Type 0} (sets : LinksOf M E Y T N) (set_bounds : M → Bounds) (set_rests : M → List Y → U → Type 0) (seed : Seed N)
       (view : M → View T SetEntry ListRefused) (lines : List Line) (posters takers rows roots : ℕ) (queue rush : R) (set_left : U) (replies : Replies) : Type 0 where
-    pub queues : Bool → L
-    pub made : (rush_too : Bool) → IsMadeSo members bounds (run_bounds rows 2 (agents_of posters takers)) queue_seed (queues rush_too)
-    pub seen : Bool → List S
-    pub left : (rush_too : Bool) → IsLeftOf members rests (queues rush_too) (seen rush_too) (pick queue rush rush_too)
+    pub queues : LeftOfQueues posters takers rows queue rush
     pub set : M
     pub set_made : IsMadeSo sets set_bounds (run_bounds rows roots (agents_of posters takers)) seed set
     pub set_seen : List T
     pub set_is : IsLeftOf sets set_rests set set_seen set_left
-    pub ran : Ran (λ rush_too. queue_on members (queues rush_too)) (view set) lines posters takers replies.posts.items replies.takes.items seen set_seen
+    pub ran : Ran (λ rush_too. queue_on members (queues.domains rush_too)) (view set) lines posters takers replies.posts.items replies.takes.items queues.seen set_seen

@@ -7,6 +7,7 @@ mod ending;
 mod over;
 mod run;
 mod set;
+mod task;
 mod work;
 
 pub use run::{Finished, run_lines};

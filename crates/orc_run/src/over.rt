@@ -7,9 +7,9 @@ ghost use Rattle.orc_at_rest.specs.Domains.{empty_seed};
 ghost use Rattle.orc_run.specs.Sets.{most_buckets};
 ghost use Rattle.orc_run.specs.Over.{RanOver};
 
+use crate::task::Task;
 use crate::work::{Worked, work};
 use orc_any_domain::Domain;
-use orc_at_rest::shape_of;
 use orc_board::{Gate, Replies};
 use orc_chain_rule::Chain;
 use orc_containers::{set_at_rest, set_over, split_set_at_rest, split_set_over};
@@ -17,7 +17,6 @@ use orc_domain::{OrcDomain, OrcRest};
 use orc_fault::NoMemory;
 use orc_fifo_rule::Fifo;
 use orc_heap::Links;
-use orc_jobs::Lines;
 use orc_set::Set;
 use orc_split_rule::Split;
 use orc_split_set::SplitSet;
@@ -45,34 +44,26 @@ pub(crate) fn run_over_lists<
 >(
     rt: &R,
     alloc: Global,
-    lines: &Lines,
-    posters: u32,
-    takers: u32,
-    rows: u32,
+    task: &Task<'_>,
     buckets: u32,
     gate: &G,
 ) -> Result<Left<M::Rest>, NoMemory>
 where
     M::Pass: Send,
-    requires good { AreGood lines.now }
-    requires posters { (1 ≤ posters) × (posters ≤ 8) }
-    requires takers { takers ≤ 7 }
-    requires rows { (2 ≤ rows) × (rows ≤ 65535) }
+    requires good { AreGood task.now.lines.now }
     requires buckets { (1 ≤ buckets) × (buckets ≤ 256) }
     ensures { IfOk result (λ f. RanOver ⟦<OrcDomain<Fifo> as Links>⟧ ⟦<OrcDomain<Fifo> as Domain>⟧.bounds
         ⟦<OrcDomain<Fifo> as Domain>⟧.rests M.Links M.bounds M.rests empty_seed (set_on M.Links)
-        lines.now posters takers rows buckets f.queue f.rush f.set f.replies) }
+        task.now.lines.now task.now.posters task.now.takers task.now.rows buckets f.queue f.rush f.set f.replies) }
 {
-    let shape = shape_of(rows, buckets, 1 + posters + takers);
+    let shape = task.shape(buckets);
     let (set, passes) = set_over::<M>(alloc, &shape)?;
     let Worked {
         queue,
         rush,
         set: passes,
         replies,
-    } = work::<R, OrcDomain<Fifo>, Set<M>, G>(
-        rt, alloc, lines, posters, takers, rows, &set, passes, gate,
-    )?;
+    } = work::<R, OrcDomain<Fifo>, Set<M>, G>(rt, alloc, task, &set, passes, gate)?;
     Ok(Left {
         queue,
         rush,
@@ -89,32 +80,24 @@ pub(crate) fn run_over_split<
 >(
     rt: &R,
     alloc: Global,
-    lines: &Lines,
-    posters: u32,
-    takers: u32,
-    rows: u32,
+    task: &Task<'_>,
     gate: &G,
 ) -> Result<Left<M::Rest>, NoMemory>
 where
     M::Pass: Send,
-    requires good { AreGood lines.now }
-    requires posters { (1 ≤ posters) × (posters ≤ 8) }
-    requires takers { takers ≤ 7 }
-    requires rows { (2 ≤ rows) × (rows ≤ 65535) }
+    requires { AreGood task.now.lines.now }
     ensures { IfOk result (λ f. RanOver ⟦<OrcDomain<Fifo> as Links>⟧ ⟦<OrcDomain<Fifo> as Domain>⟧.bounds
         ⟦<OrcDomain<Fifo> as Domain>⟧.rests M.Links M.bounds M.rests empty_seed (split_on M.Links)
-        lines.now posters takers rows (most_buckets + 1) f.queue f.rush f.set f.replies) }
+        task.now.lines.now task.now.posters task.now.takers task.now.rows (most_buckets + 1) f.queue f.rush f.set f.replies) }
 {
-    let shape = shape_of(rows, MOST_BUCKETS + 1, 1 + posters + takers);
+    let shape = task.shape(MOST_BUCKETS + 1);
     let (set, passes) = split_set_over::<M>(alloc, &shape, MOST_BUCKETS)?;
     let Worked {
         queue,
         rush,
         set: passes,
         replies,
-    } = work::<R, OrcDomain<Fifo>, SplitSet<M>, G>(
-        rt, alloc, lines, posters, takers, rows, &set, passes, gate,
-    )?;
+    } = work::<R, OrcDomain<Fifo>, SplitSet<M>, G>(rt, alloc, task, &set, passes, gate)?;
     Ok(Left {
         queue,
         rush,

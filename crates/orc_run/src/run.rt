@@ -8,6 +8,7 @@ ghost use Rattle.orc_run.specs.declared.set.SetChoice.{SetChoice};
 
 use crate::over::{Left, run_over_lists, run_over_split};
 use crate::set::{SetChoice, SetRest};
+use crate::task::Task;
 use orc_board::{Gate, Replies};
 use orc_chain_rule::Chain;
 use orc_domain::{OrcDomain, OrcRest};
@@ -53,6 +54,12 @@ pub fn run_lines<R: Threads + Wait + Sync, G: Gate + Sync>(
     requires set { IsInRange set }
     ensures { IfOk result (λ f. WorkedThrough lines.now posters takers rows set f) }
 {
+    let task = Task {
+        lines,
+        posters,
+        takers,
+        rows,
+    };
     match set {
         SetChoice::Lists(buckets) => {
             let Left {
@@ -60,9 +67,7 @@ pub fn run_lines<R: Threads + Wait + Sync, G: Gate + Sync>(
                 rush,
                 set,
                 replies,
-            } = run_over_lists::<R, OrcDomain<Chain>, G>(
-                rt, alloc, lines, posters, takers, rows, buckets, gate,
-            )?;
+            } = run_over_lists::<R, OrcDomain<Chain>, G>(rt, alloc, &task, buckets, gate)?;
             Ok(Finished {
                 queue,
                 rush,
@@ -76,9 +81,7 @@ pub fn run_lines<R: Threads + Wait + Sync, G: Gate + Sync>(
                 rush,
                 set,
                 replies,
-            } = run_over_split::<R, OrcDomain<Split>, G>(
-                rt, alloc, lines, posters, takers, rows, gate,
-            )?;
+            } = run_over_split::<R, OrcDomain<Split>, G>(rt, alloc, &task, gate)?;
             Ok(Finished {
                 queue,
                 rush,

@@ -7,14 +7,13 @@ ghost use Rattle.orc_run.specs.Over.{WorkedOver};
 
 use crate::desks::room_for_passes;
 use crate::ending::{Ends, end_queues};
+use crate::task::Task;
 use orc_any_domain::Domain;
-use orc_at_rest::shape_of;
 use orc_board::{Gate, Replies};
 use orc_containers::queue_over;
 use orc_fault::NoMemory;
 use orc_fifo_rule::Fifo;
 use orc_history::LearnSet;
-use orc_jobs::Lines;
 use orc_workers::{fresh_desks, run_at_desks};
 use std::alloc::Global;
 use std::sync::Wait;
@@ -38,10 +37,7 @@ pub(crate) fn work<
 >(
     rt: &R,
     alloc: Global,
-    lines: &Lines,
-    posters: u32,
-    takers: u32,
-    rows: u32,
+    task: &Task<'_>,
     set: &S,
     set_passes: Vec<S::Pass>,
     gate: &G,
@@ -49,25 +45,21 @@ pub(crate) fn work<
 where
     L::Pass: Send,
     S::Pass: Send,
-    requires good { AreGood lines.now }
-    requires posters { (1 ≤ posters) × (posters ≤ 8) }
-    requires takers { takers ≤ 7 }
-    requires rows { (2 ≤ rows) × (rows ≤ 65535) }
+    requires good { AreGood task.now.lines.now }
     requires usable { All (λ p. S.usable set.now p) set_passes.items }
     requires fresh { All (λ p. S.history set.now (S.journal p) ≡ []) set_passes.items }
     requires numbered { (i : ℕ) (p : S.Pass) → i < length set_passes.items → S.agent_of set.now (slice_index_or set_passes.items i p) ≡ i }
-    requires passes { length set_passes.items ≡ agents_of posters takers }
-    requires agents { S.agents set.now ≡ agents_of posters takers }
-    ensures worked { IfOk result (λ w. WorkedOver L.Links L.bounds L.rests S.SharedSet set.now lines.now posters takers rows w) }
+    requires passes { length set_passes.items ≡ agents_of task.now.posters task.now.takers }
+    requires agents { S.agents set.now ≡ agents_of task.now.posters task.now.takers }
+    ensures worked { IfOk result (λ w. WorkedOver L.Links L.bounds L.rests S.SharedSet set.now task.now.lines.now task.now.posters task.now.takers task.now.rows w) }
     ensures usable { IfOk result (λ w. All (λ p. S.usable set.now p) w.set.items) }
     ensures numbered { IfOk result (λ w. (i : ℕ) (p : S.Pass) → i < length w.set.items → S.agent_of set.now (slice_index_or w.set.items i p) ≡ i) }
-    ensures passes { IfOk result (λ w. length w.set.items ≡ agents_of posters takers) }
+    ensures passes { IfOk result (λ w. length w.set.items ≡ agents_of task.now.posters task.now.takers) }
 {
-    let agents = 1 + posters + takers;
-    let shape = shape_of(rows, 2, agents);
+    let shape = task.shape(2);
     let (queue, queue_passes) = queue_over::<L>(alloc, &shape, 0)?;
     let (rush, rush_passes) = queue_over::<L>(alloc, &shape, 0)?;
-    let passes = room_for_passes(alloc, agents as usize)?;
+    let passes = room_for_passes(alloc, shape.agents() as usize)?;
     let mut desks = fresh_desks(
         alloc,
         &queue,
@@ -78,7 +70,16 @@ where
         set_passes,
     )?;
     let replies = run_at_desks(
-        rt, alloc, lines, posters, takers, &queue, &rush, set, &mut desks, gate,
+        rt,
+        alloc,
+        task.lines,
+        task.posters,
+        task.takers,
+        &queue,
+        &rush,
+        set,
+        &mut desks,
+        gate,
     )?;
     let Ends { queue, rush, set } = end_queues(queue, rush, set, desks, passes);
     Ok(Worked {

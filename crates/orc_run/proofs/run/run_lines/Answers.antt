@@ -20,45 +20,47 @@ use Rattle.orc_run.proofs.run.run_lines.Goals as goal
 pub returns-in_ok-queue-in-Lists : goal.returns-in_ok-queue-in-Lists
 returns-in_ok-queue-in-Lists g c =
     let w = c.in_ok-queue-in-Lists.ensures in
+    let q = w.queues in
     let posters = c.args.posters in
     let takers = c.args.takers in
     let b = queue_bounds posters takers c.args.rows in
     let s = run_bounds c.args.rows c.in-Lists.buckets (agents_of posters takers) in
-    let left = λ (rush : Bool). left_of _ _ _ _ (w.left rush).is (w.left rush).saw in
+    let left = λ (rush : Bool). left_of _ _ _ _ (q.left rush).is (q.left rush).saw in
     let set_left = left_of _ _ _ _ w.set_is.is w.set_is.saw in
     of_choice _ _ _ c.in-Lists.is record {
-      queue_journals = λ rush. left_journal _ _ _ (left rush) b (w.made rush).sizes queue_seed (seed_told _ queue_seed (w.made rush).begins);
+      queue_journals = λ rush. left_journal _ _ _ (left rush) b (q.made rush).sizes queue_seed (seed_told _ queue_seed (q.made rush).begins);
       set_journal = left_journal _ _ _ set_left s w.set_made.sizes empty_seed (seed_told _ empty_seed w.set_made.begins);
-      replies = ran_at_rest (set_over (domain_bounds w.set)) (set_over s) w.set_seen _ c.args.lines.now posters takers _ _ w.seen _
-          (λ rush. position_of (run_heap (domain_numbers (w.queues rush)) (domain_opening (w.queues rush))) 0)
-          (λ rush. domain_bounds (w.queues rush)) b (λ rush. first_is _ _ (w.made rush).begins) (λ rush. (w.made rush).sizes)
+      replies = ran_at_rest (set_over (domain_bounds w.set)) (set_over s) w.set_seen _ c.args.lines.now posters takers _ _ q.seen _
+          (λ rush. position_of (run_heap (domain_numbers (q.domains rush)) (domain_opening (q.domains rush))) 0)
+          (λ rush. domain_bounds (q.domains rush)) b (λ rush. first_is _ _ (q.made rush).begins) (λ rush. (q.made rush).sizes)
           (λ rush. (left rush).journal) (ap set_over w.set_made.sizes)
           (record { later = set_left.journal.later; same = ap chain_entries set_left.journal.quiet }) w.ran;
-      queues_reuse = λ rush. left_reuse _ _ _ (left rush) b (w.made rush).sizes;
+      queues_reuse = λ rush. left_reuse _ _ _ (left rush) b (q.made rush).sizes;
       set_reuse = left_reuse _ _ _ set_left s w.set_made.sizes;
-      queues_rest = λ rush. left_rest _ _ _ (left rush) b (w.made rush).sizes fifo_rank fifo_rises;
+      queues_rest = λ rush. left_rest _ _ _ (left rush) b (q.made rush).sizes fifo_rank fifo_rises;
       set_rest = left_rest _ _ _ set_left s w.set_made.sizes chain_rank chain_rises;
     }
 
 pub returns-in_ok-queue-in-Split : goal.returns-in_ok-queue-in-Split
 returns-in_ok-queue-in-Split g c =
     let w = c.in_ok-queue-in-Split.ensures in
+    let q = w.queues in
     let posters = c.args.posters in
     let takers = c.args.takers in
     let b = queue_bounds posters takers c.args.rows in
     let s = run_bounds c.args.rows (most_buckets + 1) (agents_of posters takers) in
-    let left = λ (rush : Bool). left_of _ _ _ _ (w.left rush).is (w.left rush).saw in
+    let left = λ (rush : Bool). left_of _ _ _ _ (q.left rush).is (q.left rush).saw in
     let set_left = left_of _ _ _ _ w.set_is.is w.set_is.saw in
     of_choice _ _ _ c.in-Split.is record {
-      queue_journals = λ rush. left_journal _ _ _ (left rush) b (w.made rush).sizes queue_seed (seed_told _ queue_seed (w.made rush).begins);
+      queue_journals = λ rush. left_journal _ _ _ (left rush) b (q.made rush).sizes queue_seed (seed_told _ queue_seed (q.made rush).begins);
       set_journal = left_journal _ _ _ set_left s w.set_made.sizes empty_seed (seed_told _ empty_seed w.set_made.begins);
-      replies = ran_at_rest (split_over (domain_bounds w.set)) (split_over s) w.set_seen _ c.args.lines.now posters takers _ _ w.seen _
-          (λ rush. position_of (run_heap (domain_numbers (w.queues rush)) (domain_opening (w.queues rush))) 0)
-          (λ rush. domain_bounds (w.queues rush)) b (λ rush. first_is _ _ (w.made rush).begins) (λ rush. (w.made rush).sizes)
+      replies = ran_at_rest (split_over (domain_bounds w.set)) (split_over s) w.set_seen _ c.args.lines.now posters takers _ _ q.seen _
+          (λ rush. position_of (run_heap (domain_numbers (q.domains rush)) (domain_opening (q.domains rush))) 0)
+          (λ rush. domain_bounds (q.domains rush)) b (λ rush. first_is _ _ (q.made rush).begins) (λ rush. (q.made rush).sizes)
           (λ rush. (left rush).journal) (ap split_over w.set_made.sizes)
           (record { later = set_left.journal.later; same = ap split_entries set_left.journal.quiet }) w.ran;
-      queues_reuse = λ rush. left_reuse _ _ _ (left rush) b (w.made rush).sizes;
+      queues_reuse = λ rush. left_reuse _ _ _ (left rush) b (q.made rush).sizes;
       set_reuse = left_reuse _ _ _ set_left s w.set_made.sizes;
-      queues_rest = λ rush. left_rest _ _ _ (left rush) b (w.made rush).sizes fifo_rank fifo_rises;
+      queues_rest = λ rush. left_rest _ _ _ (left rush) b (q.made rush).sizes fifo_rank fifo_rises;
       set_rest = left_rest _ _ _ set_left s w.set_made.sizes split_rank split_rises;
     }
