@@ -1,8 +1,6 @@
 -- Roots of buckets: what names a dummy goes on to do so, and a swing from null makes a root name one.
-use Rattle.std.proofs.Common.{Bool, Err, List, None, Ok, Option, Result, Some, [], ap, append_assoc, arith, false, refl, subst, sym, true, ℕ, ◌++◌, ◌<◌, ◌∙◌, ◌∷◌, ◌≡◌, ◌≢◌, ◌≤◌}
+use Rattle.std.proofs.Common.{Bool, List, None, Option, Some, [], ap, append_assoc, arith, false, refl, subst, sym, true, ℕ, ◌++◌, ◌<◌, ◌∙◌, ◌∷◌, ◌≡◌, ◌≢◌, ◌≤◌}
 use Rattle.std.specs.List.{slice_get}
-use Rattle.std.specs.Prelude.{IfErr, IfOk}
-use Rattle.orc_fault.specs.declared.Spent.{Spent}
 use Rattle.orc_heap.proofs.ByAnswer.{Swings-fresh, Swings-missed, Swings-moved}
 use Rattle.orc_heap.proofs.Calls.{Puts-stood, part_allowed}
 use Rattle.orc_heap.proofs.Pieces.{linked_not_fresh, missed_fresh, unless_other}
@@ -14,7 +12,7 @@ use Rattle.orc_heap.specs.Allowed.{AllAllowed}
 use Rattle.orc_heap.specs.Calls.{Swings, event_of, move_of, unless_node}
 use Rattle.orc_heap.specs.Heap.{Heap, HeapNumbers, link_to, null, shown}
 use Rattle.orc_heap.specs.Journals.{run_heap}
-use Rattle.orc_heap.specs.OwnEvents.{Only, Puts}
+use Rattle.orc_heap.specs.OwnEvents.{Puts}
 use Rattle.orc_heap.specs.Seats.{Seat, heap_of, link_in, place_in}
 use Rattle.orc_heap.specs.declared.events.Act.{Act}
 use Rattle.orc_heap.specs.declared.events.Act.TheVariants.{Look, Miss, Move}
@@ -39,6 +37,7 @@ use Rattle.orc_split_rule.specs.SplitOrder.{dummy_place, key_place, split_order}
 use Rattle.orc_split_rule.specs.declared.split.SplitNote.{SplitNote}
 use Rattle.orc_split_rule.specs.declared.split.SplitNote.TheVariants.{Anchor, Bucket}
 use Rattle.orc_split_set.specs.Rootings.{Anchors, IsRootSet}
+use Rattle.orc_split_set.specs.declared.bucket.Rooted.TheVariants.{Done}
 use Rattle.orc_split_set.proofs.Ordered.{split_ordering}
 
 -- where the root of a bucket names a node, it goes on to name it
@@ -124,12 +123,9 @@ module _ (n : HeapNumbers) (bucket : ℕ) (s t : Seat SplitNote) (id : ℕ) (low
       by_target es None is at plain = absurd (other (rw (is, plain) refl))
       by_target es (Some x) is at plain = (x, record { link = found; at = at; to_is = is })
 
-  pub anchors : (at : At) (from to : Want) (result : Result Bool Spent) → place_in s.slots at ≡ Root bucket → link_in s.slots from ≡ null
-      → link_in s.slots to ≡ link_to id → IfOk result (λ done. Swings at from to (Some Anchor) s done t) → IfErr result (λ e. Only [] s t)
-      → Anchors n bucket s result t
-  anchors at from to (Err e) at_is from_is to_is w none =
-      record { tried = record { own = []; puts = none.puts; no_entries = refl; no_give = refl; slots = none.slots; fresh = none.fresh }; set = tt }
-  anchors at from to (Ok true) at_is from_is to_is w none =
+  pub anchors : (at : At) (from to : Want) (done : Bool) → place_in s.slots at ≡ Root bucket → link_in s.slots from ≡ null
+      → link_in s.slots to ≡ link_to id → Swings at from to (Some Anchor) s done t → Anchors n bucket s Done t
+  anchors at from to true at_is from_is to_is w =
       let e : Event SplitNote = event_of s (Move (Root bucket) null (link_to id)) (Some Anchor) in
       let p : Puts s (e ∷ []) t = subst (λ (x : Event SplitNote). Puts s (x ∷ []) t) (event_is at_is from_is to_is) (Swings-moved w refl) in
       record {
@@ -142,13 +138,13 @@ module _ (n : HeapNumbers) (bucket : ℕ) (s t : Seat SplitNote) (id : ℕ) (low
           fresh = Swings-fresh w refl ∙ (ap (λ (l : Link). unless_node s.fresh l.to) to_is
               ∙ unless_other s.fresh id (linked_not_fresh n s id fresh (value_linked (heap_of n s) id bucket 0 dummy)));
         };
-        set = set_by_move p;
+        tells = set_by_move p;
       }
     where
       event_is : place_in s.slots at ≡ Root bucket → link_in s.slots from ≡ null → link_in s.slots to ≡ link_to id
           → move_of s at from to (Some Anchor) ≡ event_of s (Move (Root bucket) null (link_to id)) (Some Anchor)
       event_is a b c = rw (a, b, c) refl
-  anchors at from to (Ok false) at_is from_is to_is w none =
+  anchors at from to false at_is from_is to_is w =
       let m = Swings-missed w refl in
       let act : Act = Miss (Root bucket) null m.found in
       let p : Puts s (event_of s act None ∷ []) t = subst (λ (q : Place). Puts s (event_of s (Miss q null m.found) None ∷ []) t) at_is
@@ -162,7 +158,7 @@ module _ (n : HeapNumbers) (bucket : ℕ) (s t : Seat SplitNote) (id : ℕ) (low
           slots = w.slots;
           fresh = missed_fresh w refl;
         };
-        set = set_by_miss m.found (λ is. m.other (is ∙ sym from_is)) p;
+        tells = set_by_miss m.found (λ is. m.other (is ∙ sym from_is)) p;
       }
 
 -- a dummy that was linked has its values from then on

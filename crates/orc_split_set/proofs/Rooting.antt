@@ -1,7 +1,6 @@
 -- What comes of a bucket's root, one piece after another.
-use Rattle.std.proofs.Common.{Bool, Err, List, None, Ok, Option, Result, Some, [], ap, arith, cond, inl, inr, refl, subst, sym, true, ℕ, ◌++◌, ◌+◌, ◌<◌, ◌==◌, ◌∙◌, ◌∷◌, ◌≡◌, ◌≤◌, ◌⊎◌, false}
+use Rattle.std.proofs.Common.{Bool, List, None, Option, Some, [], ap, arith, cond, inl, inr, refl, subst, sym, true, ℕ, ◌++◌, ◌+◌, ◌<◌, ◌==◌, ◌∙◌, ◌∷◌, ◌≡◌, ◌≤◌, ◌⊎◌, false}
 use Rattle.std.specs.List.{slice_get, slice_set}
-use Rattle.std.specs.Prelude.{IfOk}
 use Rattle.orc_fault.specs.declared.Spent.{Spent as SpentRow}
 use Rattle.orc_heap.proofs.Calls.{Puts-trans}
 use Rattle.orc_heap.proofs.Hands.{holds_of}
@@ -33,7 +32,7 @@ use Rattle.orc_ordered_search.proofs.Settling.{over_others}
 use Rattle.orc_split_rule.specs.SplitDiscipline.{IsDummy, SplitHolds, SplitMay, greatest}
 use Rattle.orc_split_rule.specs.SplitOrder.{dummy_place}
 use Rattle.orc_split_rule.specs.declared.split.SplitNote.{SplitNote}
-use Rattle.orc_split_set.specs.Rootings.{Anchors, AnchorsAndGoes, HasNewDummy, IsRootSet, RootTells, Roots, rooted_by}
+use Rattle.orc_split_set.specs.Rootings.{Anchors, AnchorTells, AnchorsAndGoes, HasNewDummy, IsRootSet, RootTells, Roots}
 use Rattle.orc_split_set.specs.SplitSearches.{split_reading}
 use Rattle.orc_split_set.specs.declared.bucket.Rooted.{Rooted}
 use Rattle.orc_split_set.specs.declared.bucket.Rooted.TheVariants.{Done, Moved, NoNode, Spent}
@@ -81,16 +80,19 @@ module _ {N : Type 0} (s t u : Seat N) (own ys zs : List (Event N)) (p : Puts s 
       rw (new_is s t u own ys zs p q w) (omega (arith, here, others_later s.agent p.part q.part))
 
 -- by what came of the swing
-pub rooted_tells : (n : HeapNumbers) (bucket agent : ℕ) (part : List (Event SplitNote)) (t : Seat SplitNote) (result : Result Bool SpentRow)
-    → IfOk result (λ done. IsRootSet (heap_of n t) bucket) → RootTells n bucket agent part (rooted_by result) t
-rooted_tells n bucket agent part t (Ok done) set = λ low. set
-rooted_tells n bucket agent part t (Err why) set = tt
+rooted_tells : (n : HeapNumbers) (bucket agent : ℕ) (part : List (Event SplitNote)) (t : Seat SplitNote) (result : Rooted)
+    → AnchorTells n bucket result t → RootTells n bucket agent part result t
+rooted_tells n bucket agent part t Done set = λ low. set
+rooted_tells n bucket agent part t Moved bad = absurd bad
+rooted_tells n bucket agent part t NoNode bad = tt
+rooted_tells n bucket agent part t (Spent why) told = tt
 
 set_if : (n : HeapNumbers) (s t : Seat SplitNote) (own : List (Event SplitNote)) (bucket : ℕ) → 1 ≤ bucket → bucket < greatest n → SplitHolds n s.seen
-    → Puts s own t → AllAllowed (SplitMay n) [] t.seen → (result : Result Bool SpentRow) → IfOk result (λ done. IsRootSet (heap_of n s) bucket)
-    → IfOk result (λ done. IsRootSet (heap_of n t) bucket)
-set_if n s t own bucket low high holds p all (Ok done) set = set_puts n s t own bucket low high holds p all set
-set_if n s t own bucket low high holds p all (Err why) set = tt
+    → Puts s own t → AllAllowed (SplitMay n) [] t.seen → (result : Rooted) → AnchorTells n bucket result s → AnchorTells n bucket result t
+set_if n s t own bucket low high holds p all Done set = set_puts n s t own bucket low high holds p all set
+set_if n s t own bucket low high holds p all Moved bad = bad
+set_if n s t own bucket low high holds p all NoNode bad = bad
+set_if n s t own bucket low high holds p all (Spent why) told = tt
 
 -- a search found the dummy
 module _ (n : HeapNumbers) (bucket : ℕ) (start : Place) (passed : ℕ) (left first : Option Hold) (dummy : Hold) (next : Option Hold) (s t : Seat SplitNote)
@@ -106,18 +108,16 @@ module _ (n : HeapNumbers) (bucket : ℕ) (start : Place) (passed : ℕ) (left f
       in_hand_on (split_ordering n) s.slots left first (Some dummy) next t u tried.own tried.puts all tried.slots
       (present_hand (split_ordering n) start (dummy_place bucket) passed left first s t dummy next f)
 
-  pub found_roots : (u v : Seat SplitNote) (result : Result Bool SpentRow) → 1 ≤ bucket → bucket < greatest n → s.fresh ≡ None
-      → Anchors n bucket t result u → AllGone s.slots u v → SplitHolds n u.seen → AllAllowed (SplitMay n) [] v.seen → (rooted : Rooted) → rooted ≡ rooted_by result
-      → Roots n bucket s rooted v
-  found_roots u v result low high fresh a g holds all rooted is =
+  pub found_roots : (u v : Seat SplitNote) (result : Rooted) → 1 ≤ bucket → bucket < greatest n → s.fresh ≡ None
+      → Anchors n bucket t result u → AllGone s.slots u v → SplitHolds n u.seen → AllAllowed (SplitMay n) [] v.seen → Roots n bucket s result v
+  found_roots u v result low high fresh a g holds all =
       let q = f.behind.quiet in
       let own = f.own ++ a.tried.own in
       let m = made_on (split_reading n) 0 s u v own [] (made_after (split_reading n) 0 s t u f.own a.tried.own [] q a.tried.puts a.tried.no_entries a.tried.no_give) g.puts in
       record {
         own = own;
         call = record { given = 0; at_most = omega arith; made = m; slots = g.slots_are; fresh = g.fresh ∙ (a.tried.fresh ∙ (q.fresh ∙ fresh)) };
-        tells = subst (λ (r : Rooted). RootTells n bucket s.agent m.puts.part r v) (sym is)
-            (rooted_tells n bucket s.agent m.puts.part v result (set_if n u v [] bucket low high holds g.puts all result a.set));
+        tells = rooted_tells n bucket s.agent m.puts.part v result (set_if n u v [] bucket low high holds g.puts all result a.tells);
       }
 
 -- a new dummy is held on
@@ -151,9 +151,7 @@ module _ (n : HeapNumbers) (bucket : ℕ) (dummy : Hold) (id : ℕ) (s u w : Sea
       record {
         own = a.own ++ tried.own;
         call = call;
-        tells = subst (λ (r : Rooted). RootTells n bucket s.agent call.made.puts.part r w) (sym k.result_is)
-            (rooted_tells n bucket s.agent call.made.puts.part w k.anchored
-            (set_if n k.mid w [] bucket low high holds k.gone.puts all k.anchored k.anchors.set));
+        tells = rooted_tells n bucket s.agent call.made.puts.part w rooted (set_if n k.mid w [] bucket low high holds k.gone.puts all rooted k.anchors.tells);
       }
 
   -- the place showed another link

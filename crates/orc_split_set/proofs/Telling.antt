@@ -1,5 +1,5 @@
 -- What a refused try tells of a piece of a call is so of the whole call.
-use Rattle.std.proofs.Common.{Bool, Err, List, Ok, Option, Result, [], append-nil, false, length, refl, subst, sym, true, ℕ, ◌++◌, ◌∙◌, ◌≡◌, ◌≤◌}
+use Rattle.std.proofs.Common.{Bool, Err, List, Ok, Option, Result, [], append-nil, false, length, refl, subst, sym, true, ℕ, ◌++◌, ◌≡◌, ◌≤◌}
 use Rattle.std.specs.Prelude.{IfErr}
 use mathlib.Core.List.{IsPrefix}
 use Rattle.orc_fault.specs.declared.Spent.{Spent as SpentRow}
@@ -20,7 +20,6 @@ use Rattle.orc_split_rule.specs.declared.split.SplitNote.{SplitNote}
 use Rattle.orc_split_set.proofs.Asking.{puts_since}
 use Rattle.orc_split_set.proofs.Passes.{SeenIs, StepsAdd}
 use Rattle.orc_split_set.specs.Growths.{grown_by}
-use Rattle.orc_split_set.specs.Rootings.{rooted_by}
 use Rattle.orc_split_set.specs.SetCalls.{FindsWorn, LacksRow, NewTells, PartTells}
 use Rattle.orc_split_set.specs.SplitSearches.{split_reading}
 use Rattle.orc_split_set.specs.declared.bucket.Rooted.{Rooted}
@@ -101,25 +100,15 @@ module _ {L D P S : Type 0} (m : LinksOf L D P S SplitNote) where
         let a = (m.seat links p).agent in
         within_goes_on m.agent_of a (m.worn links a why) (worn_stays links a why) (m.journal p) (m.journal q) (m.journal r) first second told
 
-    -- what a swing tells that was refused
-    pub told_swing : (p q r : P) → IsPrefix (m.journal q) (m.journal r) → (by : Result Bool SpentRow → Rooted)
-        → ((why : SpentRow) → by (Err why) ≡ Spent why) → ((done : Bool) → NewTells m links (by (Ok done)) p r) → (swung : Result Bool SpentRow)
-        → IfErr swung (λ e. Within (length (m.journal p)) (length (m.journal q)) (m.worn links (m.seat links p).agent e (m.journal q)))
-        → (rooted : Rooted) → rooted ≡ by swung → NewTells m links rooted p r
-    told_swing p q r later by refused done (Ok answer) worn rooted is = subst (λ (x : Rooted). NewTells m links x p r) (sym is) (done answer)
-    told_swing p q r later by refused done (Err why) worn rooted is =
-        subst (λ (x : Rooted). NewTells m links x p r) (sym (is ∙ refused why)) (told_wider p p q r refl ([], append-nil _) later (Spent why) worn)
-
-    pub rooted_told : (p q r : P) → IsPrefix (m.journal q) (m.journal r) → (swung : Result Bool SpentRow)
-        → IfErr swung (λ e. Within (length (m.journal p)) (length (m.journal q)) (m.worn links (m.seat links p).agent e (m.journal q)))
-        → (rooted : Rooted) → rooted ≡ rooted_by swung → NewTells m links rooted p r
-    rooted_told p q r later = told_swing p q r later (λ s. rooted_by s) (λ why. refl) (λ done. tt)
-
+    -- what a swing of the size's root tells that was refused
     pub grown_told : (p q r : P) → IsPrefix (m.journal q) (m.journal r) → (swung : Result Bool SpentRow)
         → IfErr swung (λ e. Within (length (m.journal p)) (length (m.journal q)) (m.worn links (m.seat links p).agent e (m.journal q)))
         → (rooted : Rooted) → rooted ≡ grown_by swung → NewTells m links rooted p r
-    grown_told p q r later = told_swing p q r later (λ s. grown_by s) (λ why. refl) by
+    grown_told p q r later swung worn rooted is = subst (λ (x : Rooted). NewTells m links x p r) (sym is) (by swung worn)
       where
-        by : (done : Bool) → NewTells m links (grown_by (Ok done)) p r
-        by true = tt
-        by false = tt
+        by : (swung : Result Bool SpentRow)
+            → IfErr swung (λ e. Within (length (m.journal p)) (length (m.journal q)) (m.worn links (m.seat links p).agent e (m.journal q)))
+            → NewTells m links (grown_by swung) p r
+        by (Ok true) worn = tt
+        by (Ok false) worn = tt
+        by (Err why) worn = told_wider p p q r refl ([], append-nil _) later (Spent why) worn

@@ -1,6 +1,5 @@
 -- What a call does for its key's bucket before its turns. After Shalev and Shavit 2006.
-use Rattle.std.specs.Prelude.{Bool, Err, IfOk, List, Ok, Option, Result, Some, [], length, ℕ, ◌++◌, ◌≡◌, ◌≢◌, ◌≤◌}
-use Rattle.orc_fault.specs.declared.Spent.{Spent as SpentRow}
+use Rattle.std.specs.Prelude.{List, Option, Some, [], length, ℕ, ◌++◌, ◌≡◌, ◌≢◌, ◌≤◌}
 use Rattle.orc_heap.specs.Allowed.{events_by}
 use Rattle.orc_heap.specs.Heap.{Heap, HeapNumbers}
 use Rattle.orc_heap.specs.Moves.{AllOwn, from_own}
@@ -25,22 +24,22 @@ use Rattle.orc_split_set.specs.declared.bucket.Rooted.TheVariants.{Done, Moved, 
 abbrev pub IsRootSet : Heap → ℕ → Type 0
 IsRootSet h root = (id : ℕ) × LeadsTo h (Root root) (Some id)
 
--- what comes of a bucket's root, by what came of its swing from null
-abbrev pub rooted_by : Result Bool SpentRow → Rooted
-rooted_by (Ok done) = Done
-rooted_by (Err why) = Spent why
+-- what came of a bucket's root by its swing from null to the bucket's dummy: unless that was refused, it isn't null
+abbrev pub AnchorTells : HeapNumbers → ℕ → Rooted → Seat SplitNote → Type 0
+AnchorTells n bucket Done t = IsRootSet (heap_of n t) bucket
+AnchorTells n bucket Moved t = ⊥
+AnchorTells n bucket NoNode t = ⊥
+AnchorTells n bucket (Spent why) t = Unit {0}
 
--- the root of a bucket was swung from null to its dummy: unless that was refused, it isn't null
-pub record Anchors (n : HeapNumbers) (bucket : ℕ) (s : Seat SplitNote) (result : Result Bool SpentRow) (t : Seat SplitNote) : Type 0 where
+-- the swing was tried
+pub record Anchors (n : HeapNumbers) (bucket : ℕ) (s : Seat SplitNote) (result : Rooted) (t : Seat SplitNote) : Type 0 where
   pub tried : Tries (split_reading n) s t
-  pub set : IfOk result (λ done. IsRootSet (heap_of n t) bucket)
+  pub tells : AnchorTells n bucket result t
 
 -- the same, and then the dummy was let go
 pub record AnchorsAndGoes (n : HeapNumbers) (bucket : ℕ) (dummy : Hold) (s : Seat SplitNote) (result : Rooted) (t : Seat SplitNote) : Type 0 where
-  pub anchored : Result Bool SpentRow
   pub mid : Seat SplitNote
-  pub anchors : Anchors n bucket s anchored mid
-  pub result_is : result ≡ rooted_by anchored
+  pub anchors : Anchors n bucket s result mid
   pub gone : LetsGo (Some dummy) mid t
 
 -- the pass has a new dummy in slot 1, and a search found its place

@@ -1,13 +1,11 @@
 //! What a call does before its turns: its key's bucket gets a dummy, and a root that names it.
 
-ghost use Rattle.std.specs.Prelude.{◌≡◌, ◌<◌, ◌≤◌, ◌+◌, ◌++◌, [], ℕ, IfErr, List, None, length};
+ghost use Rattle.std.specs.Prelude.{◌≡◌, ◌<◌, ◌≤◌, ◌+◌, ◌++◌, [], ℕ, List, None};
 ghost use mathlib.Core.List.{IsPrefix};
-ghost use Rattle.orc_fault.specs.declared.Spent.{Spent};
 ghost use Rattle.orc_heap.specs.Seats.{IsIdle, Seat, heap_of};
 ghost use Rattle.orc_heap.specs.Slots.{Holds, id_in};
 ghost use Rattle.orc_heap.specs.declared.events.Event.{Event};
 ghost use Rattle.orc_heap.specs.declared.events.Place.{Place};
-ghost use Rattle.orc_history.specs.Journals.{Within};
 ghost use Rattle.orc_ordered_search.specs.Inserts.{HasRoomFor};
 ghost use Rattle.orc_ordered_search.specs.Searches.{FindsAbsent, Quiet};
 ghost use Rattle.orc_split_rule.specs.SplitDiscipline.{IsDummy, IsSize, greatest};
@@ -17,7 +15,7 @@ ghost use Rattle.orc_heap.specs.Allowed.{events_by};
 ghost use Rattle.orc_heap.specs.Journals.{run_heap};
 ghost use Rattle.orc_split_set.specs.Crowds.{seat_after};
 ghost use Rattle.orc_split_set.specs.Looks.{HasStart, LoadsFew, bucket_now, root_loads};
-ghost use Rattle.orc_split_set.specs.Rootings.{Anchors, AnchorsAndGoes, Prepares, Roots, rooted_by};
+ghost use Rattle.orc_split_set.specs.Rootings.{Anchors, AnchorsAndGoes, Prepares, Roots};
 ghost use Rattle.orc_split_set.specs.SetCalls.{NewTells, PartTells};
 ghost use Rattle.orc_split_set.specs.SplitSearches.{BeginsAt, split_reading};
 
@@ -44,23 +42,8 @@ pub enum Rooted {
     Spent(Spent),
 }
 
-// What came of the root, by what came of its one swing.
-fn rooted_of(anchored: Result<bool, Spent>) -> Rooted
-    ensures { result ≡ rooted_by anchored }
-{
-    match anchored {
-        Ok(_) => Rooted::Done,
-        Err(spent) => Rooted::Spent(spent),
-    }
-}
-
 // Lets the bucket's root name its dummy, if it is null.
-fn anchor<L: Links<Rule = Split>>(
-    links: &L,
-    p: &mut L::Pass,
-    bucket: u32,
-    dummy: &Held,
-) -> Result<bool, Spent>
+fn anchor<L: Links<Rule = Split>>(links: &L, p: &mut L::Pass, bucket: u32, dummy: &Held) -> Rooted
     requires pass { L.belongs links.now p.old }
     requires bucket { (1 ≤ bucket) × (bucket < greatest (L.numbers links.now)) }
     requires dummy { Holds (L.seat links.now p.old).slots dummy.now
@@ -68,16 +51,18 @@ fn anchor<L: Links<Rule = Split>>(
     ensures pass { L.belongs links.now p.new }
     ensures later { IsPrefix (L.journal p.old) (L.journal p.new) }
     ensures anchored { Anchors (L.numbers links.now) bucket (L.seat links.now p.old) result (L.seat links.now p.new) }
-    ensures worn { IfErr result (λ e. Within (length (L.journal p.old)) (length (L.journal p.new))
-        (L.worn links.now (L.seat links.now p.old).agent e (L.journal p.new))) }
+    ensures told { NewTells L.Links links.now result p.old p.new }
 {
-    links.swing(
+    match links.swing(
         p,
         &At::Root(bucket),
         &Want::Null(false),
         &Want::Node(dummy, false),
         Some(SplitNote::Anchor),
-    )
+    ) {
+        Ok(_) => Rooted::Done,
+        Err(spent) => Rooted::Spent(spent),
+    }
 }
 
 // The same, and then lets the dummy go.
@@ -98,7 +83,7 @@ fn anchor_and_go<L: Links<Rule = Split>>(
 {
     let anchored = anchor(links, p, bucket, &dummy);
     links.release(p, dummy);
-    rooted_of(anchored)
+    anchored
 }
 
 // A search found the place of the bucket's dummy, which isn't there: links one, and lets the bucket's root name it.
@@ -179,7 +164,7 @@ fn root_from<L: Links<Rule = Split>>(
         } => {
             let anchored = anchor(links, p, bucket, &node);
             let_all_go::<SplitPlace, L>(links, p, left, first, Some(node), next);
-            rooted_of(anchored)
+            anchored
         }
     }
 }

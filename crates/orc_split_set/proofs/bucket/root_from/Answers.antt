@@ -1,7 +1,8 @@
 -- By what the search found.
+use Rattle.std.proofs.Common.{[], append-nil, refl}
 use Rattle.orc_heap.proofs.Pieces.{goes_on}
 use Rattle.orc_split_set.proofs.Rooting.{found_dummy, found_hand, found_roots, moved_roots}
-use Rattle.orc_split_set.proofs.Telling.{rooted_told, told_searched}
+use Rattle.orc_split_set.proofs.Telling.{told_searched, told_wider}
 use Rattle.orc_split_set.proofs.bucket.root_from.Goals as goal
 
 pub search_for-requires-clause-begins : goal.search_for-requires-clause-begins
@@ -46,7 +47,7 @@ returns-in-Present-clause-rooted g c = λ start s room fresh b.
     let hand = found_hand _ c.args.bucket start x.passed x.left x.first x.node x.next s _ f _ e.anchored.tried (g.met.L.Links.allowed _ _ e.pass) in
     found_roots _ c.args.bucket start x.passed x.left x.first x.node x.next s _ f _ _ c.anchor-anchored.result c.requires.bucket.0 c.requires.bucket.1 fresh
     e.anchored (c.let_all_go.ensures.gone s.slots hand) (g.met.L.Links.obeys _ _ e.pass)
-    (g.met.L.Links.allowed _ _ c.let_all_go.ensures.pass) _ c.rooted_of.ensures
+    (g.met.L.Links.allowed _ _ c.let_all_go.ensures.pass)
 
 pub returns-in-Absent-clause-told : goal.returns-in-Absent-clause-told
 returns-in-Absent-clause-told g c =
@@ -62,7 +63,8 @@ returns-in-Present-clause-told g c =
     let e = c.in-Present.ensures in
     let anchored = c.anchor-anchored in
     let gone = c.let_all_go.ensures in
-    let told = rooted_told g.L.Links g.met.L.Links.lacking_stays g.met.L.Links.worn_stays c.args.links.now c.search_for.new.p anchored.new.p c.let_all_go.new.p
-    gone.later anchored.result anchored.ensures.worn _ c.rooted_of.ensures in
+    let from = c.search_for.new.p in
+    let told = told_wider g.L.Links g.met.L.Links.lacking_stays g.met.L.Links.worn_stays c.args.links.now from from anchored.new.p c.let_all_go.new.p refl
+    ([], append-nil _) gone.later anchored.result anchored.ensures.told in
     told_searched g.L.Links g.met.L.Links.steps_add g.met.L.Links.seen_is c.args.links.now c.args.p.now c.search_for.new.p _ c.requires.pass e.pass
-    b.begins (e.found start s room.room b).behind.quiet e.later (goes_on _ _ _ anchored.ensures.later gone.later) c.rooted_of.result told
+    b.begins (e.found start s room.room b).behind.quiet e.later (goes_on _ _ _ anchored.ensures.later gone.later) anchored.result told
