@@ -32,7 +32,7 @@ use Rattle.orc_ordered_search.proofs.Settling.{over_others}
 use Rattle.orc_split_rule.specs.SplitDiscipline.{IsDummy, SplitHolds, SplitMay, greatest}
 use Rattle.orc_split_rule.specs.SplitOrder.{dummy_place}
 use Rattle.orc_split_rule.specs.declared.split.SplitNote.{SplitNote}
-use Rattle.orc_split_set.specs.Rootings.{Anchors, AnchorTells, AnchorsAndGoes, HasNewDummy, IsRootSet, RootTells, Roots}
+use Rattle.orc_split_set.specs.Rootings.{Anchors, AnchorTells, AnchorsAndGoes, HasNewDummy, RootTells, Roots}
 use Rattle.orc_split_set.specs.SplitSearches.{split_reading}
 use Rattle.orc_split_set.specs.declared.bucket.Rooted.{Rooted}
 use Rattle.orc_split_set.specs.declared.bucket.Rooted.TheVariants.{Done, Moved, NoNode, Spent}

@@ -1,6 +1,6 @@
 //! Doubling the number of buckets.
 
-ghost use Rattle.std.specs.Prelude.{◌≡◌, ◌*◌, ◌≤◌, ◌↔◌, ℕ, None, Some, true};
+ghost use Rattle.std.specs.Prelude.{◌≡◌, ◌*◌, ◌≤◌, ◌↔◌, None, Some, true};
 ghost use mathlib.Core.List.{IsPrefix};
 ghost use Rattle.orc_heap.specs.Seats.{IsIdle, heap_of};
 ghost use Rattle.orc_heap.specs.Slots.{IsFree, id_in};
