@@ -55,15 +55,16 @@ returns-in-Over-clause-few g c = λ start s f.
     let moved = subst (λ (x : Searched). Finds r start (g.K.SetRank.key_rank c.args.key) s x t) c.in-Over.is f in
     few_made 4 4 s t moved.0.own moved.0.quiet.puts moved.1 (omega arith)
 
-pub enter_absent-entered-requires-clause-entry : goal.enter_absent-entered-requires-clause-entry
-enter_absent-entered-requires-clause-entry g c =
-    absence_of c.args.call (g.L.Links.seat c.args.links.now c.args.p.now).agent c.agent-agent.result c.args.key c.entry_of-entry.result
-    c.entry_of-entry.ensures c.agent-agent.ensures
-
-pub enter_absent-entered-requires-clause-absent : goal.enter_absent-entered-requires-clause-absent
-enter_absent-entered-requires-clause-absent g c =
+pub enter_absent-entered-requires : goal.enter_absent-entered-requires
+enter_absent-entered-requires g c =
     let (start, s, f) = c.requires.found in
-    (start, c.in-Absent.passed, s, absent g (goal.at.enter_absent-entered-requires-clause-absent g c).In-Absent start s f)
+    record {
+      pass = c.requires.pass;
+      root = c.requires.root;
+      entry = absence_of c.args.call (g.L.Links.seat c.args.links.now c.args.p.now).agent c.agent-agent.result c.args.key c.entry_of-entry.result
+          c.entry_of-entry.ensures c.agent-agent.ensures;
+      absent = (start, c.in-Absent.passed, s, absent g (goal.at.enter_absent-entered-requires g c).In-Absent start s f);
+    }
 
 pub returns-in-Absent-clause-answered : goal.returns-in-Absent-clause-answered
 returns-in-Absent-clause-answered g c = λ start s f.
@@ -83,13 +84,14 @@ returns-in-Absent-clause-taken g c = λ start s f call yes.
     let told = (answers_true c.enter_absent-entered.result false _ c.answer_if.ensures yes).1 in
     absurd cc
 
-pub enter_present-entered-requires-clause-entry : goal.enter_present-entered-requires-clause-entry
-enter_present-entered-requires-clause-entry g c = inr (ap (λ (i : ℕ). Asked i c.args.key true) c.agent-agent.ensures)
-
-pub enter_present-entered-requires-clause-present : goal.enter_present-entered-requires-clause-present
-enter_present-entered-requires-clause-present g c =
+pub enter_present-entered-requires : goal.enter_present-entered-requires
+enter_present-entered-requires g c =
     let (start, s, f) = c.requires.found in
-    (start, c.in-Present.passed, s, present g (goal.at.enter_present-entered-requires-clause-present g c).In-Present start s f)
+    record {
+      pass = c.requires.pass;
+      entry = inr (ap (λ (i : ℕ). Asked i c.args.key true) c.agent-agent.ensures);
+      present = (start, c.in-Present.passed, s, present g (goal.at.enter_present-entered-requires g c).In-Present start s f);
+    }
 
 pub returns-in-Ask-clause-answered : goal.returns-in-Ask-clause-answered
 returns-in-Ask-clause-answered g c = λ start s f.
