@@ -25,7 +25,7 @@ use Rattle.orc_fifo_rule.specs.Laws.Events.{begun_more}
 use Rattle.orc_queue.specs.Looking.{FindsTwo, HoldsNext, HoldsRoot, Known}
 use Rattle.orc_queue.specs.declared.take.TakeTurn.{TakeTurn}
 use Rattle.orc_queue.specs.declared.take.TakeTurn.TheVariants.{Empty as TakeEmpty, Over as TakeOver, Took as TakeDone}
-use Rattle.orc_queue.specs.Turns.{AreOver, FindsEnd, HelpsHead, IsTurnOver, HasStopped, TailIsPast, TakesBehind, TakesJob, TakesFromHead, TakesNone, TakesTurn, TakesTurns}
+use Rattle.orc_queue.specs.Turns.{AreOver, HelpsHead, IsTurnOver, HasStopped, TailIsPast, TakesBehind, TakesJob, TakesFromHead, TakesNone, TakesTurn, TakesTurns}
 use Rattle.orc_queue.proofs.Alone.{look_next, look_root, over_helped, over_missed, over_quiet, swing_past, swing_tail}
 use Rattle.orc_queue.proofs.Holding.{found_fresh, found_id, found_other_id, found_released}
 use Rattle.orc_queue.proofs.Joins.{join}
@@ -45,14 +45,14 @@ module _ (n : HeapNumbers) (head : ℕ) (s a t : Seat FifoNote) (linked : IsLink
     (p : Puts s (event_of s (Look (Next head) null) None ∷ []) a) (all_a : AllAllowed (FifoMay n) [] a.seen)
     (slots : a.slots ≡ s.slots) (fresh : a.fresh ≡ s.fresh)
   where
-    behind_empty : TakesNone 1 a t → TakesNone 4 s t
+    pub behind_empty : TakesNone 1 a t → TakesNone 4 s t
     behind_empty l =
         let q = l.piece in
         let j = join 4 s a t (event_of s (Look (Next head) null) None ∷ []) q.own (Empty s.agent ∷ []) p q.puts (q.slots ∙ slots)
         (q.entries_are ∙ ap (λ (x : ℕ). Empty x ∷ []) p.agent) (omega (arith, q.no_give)) (omega (arith, q.few)) in
         record { piece = j.piece; fresh = l.fresh ∙ fresh }
 
-    behind_lost : HasStopped n 1 (Next head) null (λ own. ⊥) a t → HasStopped n 4 (Root 0) (link_to head) (HelpsHead s head) s t
+    pub behind_lost : HasStopped n 1 (Next head) null (λ own. ⊥) a t → HasStopped n 4 (Root 0) (link_to head) (HelpsHead s head) s t
     behind_lost l =
         let q = l.piece in
         let j = join 4 s a t (event_of s (Look (Next head) null) None ∷ []) q.own [] p q.puts (q.slots ∙ slots) q.entries_are
@@ -68,11 +68,6 @@ module _ (n : HeapNumbers) (head : ℕ) (s a t : Seat FifoNote) (linked : IsLink
           own_moves = inl
               (ap (λ (z : List (Event FifoNote)). moves_in z) j.own_is ∙ elim l.own_moves [ inl none ↦ omega (arith, none) | inr bad ↦ absurd bad ]);
         }
-
-    pub behind_end : (turn : TakeTurn) → FindsEnd n head a turn t → TakesBehind n head s turn t
-    behind_end TakeEmpty l = behind_empty l
-    behind_end TakeOver l = behind_lost l
-    behind_end (TakeDone job at) l = absurd l
 
 -- the head's link led to a node
 module _ (n : HeapNumbers) (head next : ℕ) (s a b t : Seat FifoNote)

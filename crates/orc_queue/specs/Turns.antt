@@ -252,12 +252,6 @@ TakesFromHead n head next s TakeOver t = HasStopped n 2 (Root 0) (link_to head) 
 TakesFromHead n head next s (TakeDone job at) t = TakesJob 2 job at s t
 TakesFromHead n head next s TakeEmpty t = ⊥
 
--- the test whether the head's link is null
-abbrev pub FindsEnd : HeapNumbers → ℕ → Seat FifoNote → TakeTurn → Seat FifoNote → Type 0
-FindsEnd n head s TakeEmpty t = TakesNone 1 s t
-FindsEnd n head s TakeOver t = HasStopped n 1 (Next head) null (λ own. ⊥) s t
-FindsEnd n head s (TakeDone job at) t = ⊥
-
 -- the own events of a pass that helps, from its looks at the successor on
 abbrev pub HelpsHead : Seat FifoNote → ℕ → List (Event FifoNote) → Type 0
 HelpsHead s head own = (next : ℕ) × (own ≡ event_of s (Look (Next head) (link_to next)) None ∷ event_of s (Look (Next head) (link_to next)) None

@@ -7,7 +7,7 @@ ghost use Rattle.orc_heap.specs.Seats.{IsIdle};
 ghost use Rattle.orc_heap.specs.Slots.{Holds, IsFree, id_in};
 ghost use Rattle.orc_fifo_rule.specs.Watches.{WasNamed};
 ghost use Rattle.orc_queue.specs.Answers.{TakeAnswers};
-ghost use Rattle.orc_queue.specs.Turns.{HasDummy, FindsEnd, TakesBehind, TakesFromHead, TakesTurn, TakesTurns};
+ghost use Rattle.orc_queue.specs.Turns.{HasDummy, TakesBehind, TakesFromHead, TakesTurn, TakesTurns};
 ghost use Rattle.orc_heap.specs.Allowed.{HasLink};
 ghost use Rattle.orc_heap.specs.Heap.{link_to};
 
@@ -69,26 +69,7 @@ fn take_next<L: Links<Rule = Fifo>>(
     }
 }
 
-// Tests whether the head, whose link was null, still has a null link. Then the queue is empty.
-fn finds_end<L: Links<Rule = Fifo>>(links: &L, p: &mut L::Pass, head: &Held) -> TakeTurn
-    requires pass { L.belongs links.now p.old }
-    requires made { HasDummy (L.numbers links.now) (L.opening links.now) }
-    requires held { Holds (L.seat links.now p.old).slots head.now }
-    requires named { WasNamed (run_heap (L.numbers links.now) (L.seat links.now p.old).seen) 0 (id_in (L.seat links.now p.old).slots head.now) }
-    ensures pass { L.belongs links.now p.new }
-    ensures later { IsPrefix (L.journal p.old) (L.journal p.new) }
-    ensures found { FindsEnd (L.numbers links.now) (id_in (L.seat links.now p.old).slots head.now) (L.seat links.now p.old) result (L.seat links.now p.new) }
-{
-    let agent = links.agent(p);
-    let empty = FifoNote::Entry(QueueEntry::Empty { agent });
-    if links.same(p, &At::Node(head), &Want::Null(false), Some(empty)) {
-        TakeTurn::Empty
-    } else {
-        TakeTurn::Over
-    }
-}
-
-// Goes on from the node that the head named.
+// Goes on from the node that the head named. If its link is null, and still is in a test, then the queue is empty.
 fn take_behind<L: Links<Rule = Fifo>>(links: &L, p: &mut L::Pass, head: &Held) -> TakeTurn
     requires pass { L.belongs links.now p.old }
     requires made { HasDummy (L.numbers links.now) (L.opening links.now) }
@@ -100,7 +81,15 @@ fn take_behind<L: Links<Rule = Fifo>>(links: &L, p: &mut L::Pass, head: &Held) -
     ensures took { TakesBehind (L.numbers links.now) (id_in (L.seat links.now p.old).slots head.now) (L.seat links.now p.old) result (L.seat links.now p.new) }
 {
     match hold_next(links, p, head, 2) {
-        Successor::Nothing => finds_end(links, p, head),
+        Successor::Nothing => {
+            let agent = links.agent(p);
+            let empty = FifoNote::Entry(QueueEntry::Empty { agent });
+            if links.same(p, &At::Node(head), &Want::Null(false), Some(empty)) {
+                TakeTurn::Empty
+            } else {
+                TakeTurn::Over
+            }
+        }
         Successor::Node(next) => {
             let turn = take_next(links, p, head, &next);
             links.release(p, next);

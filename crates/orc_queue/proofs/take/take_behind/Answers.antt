@@ -1,26 +1,45 @@
 -- By what the look of the head's link found.
 use Rattle.std.proofs.Common.{subst, sym, ℕ}
+use Rattle.orc_heap.specs.Heap.{null}
+use Rattle.orc_heap.specs.declared.events.Place.TheVariants.{Next}
+use Rattle.orc_fifo_rule.proofs.Coming.{empty_allowed}
+use Rattle.orc_queue.proofs.Taking.{end_empty, end_lost}
 use Rattle.orc_heap.specs.Seats.{heap_of}
 use Rattle.orc_heap.specs.Slots.{Slots, id_in}
 use Rattle.orc_fifo_rule.specs.Watches.{WasNamed}
-use Rattle.orc_queue.specs.Turns.{FindsEnd}
+use Rattle.orc_queue.specs.Turns.{HasStopped}
 use Rattle.orc_queue.proofs.Holding.{found_holds, found_kept, found_other, found_other_id}
 use Rattle.orc_queue.proofs.Looking.{next_link, null_named}
 use Rattle.orc_queue.proofs.Pieces.{named_puts}
-use Rattle.orc_queue.proofs.TakeTurns.{behind_differs, behind_end, next_piece, next_turn}
+use Rattle.orc_queue.proofs.TakeTurns.{behind_differs, behind_empty, behind_lost, next_piece, next_turn}
 use Rattle.orc_queue.proofs.take.take_behind.Goals as goal
 
-pub finds_end-requires-clause-named : goal.finds_end-requires-clause-named
-finds_end-requires-clause-named g c = null_named _ _ _ 0 c.args.head.now c.in-Nothing.ensures.looked c.requires.named
-
-pub returns-in-Nothing-clause-took : goal.returns-in-Nothing-clause-took
-returns-in-Nothing-clause-took g c =
+pub same-requires-clause-allowed : goal.same-requires-clause-allowed
+same-requires-clause-allowed g c =
     let f = c.in-Nothing.ensures.looked in
-    let n = g.L.Links.numbers _ in
-    let a = g.L.Links.seat _ c.hold_next.new.p in
-    let t = g.L.Links.seat _ c.finds_end.new.p in
-    let found = subst (λ (z : Slots). FindsEnd n (id_in z c.args.head.now) a c.finds_end.result t) f.slots c.finds_end.ensures.found in
-    behind_end n _ _ a t c.requires.named.linked f.puts f.after.all f.slots f.fresh c.finds_end.result found
+    let a = g.L.Links.seat c.args.links.now c.hold_next.new.p in
+    rw c.agent-agent.ensures
+    (empty_allowed _ a.agent (id_in a.slots c.args.head.now) a.seen f.after.holds f.after.dummy.begun (null_named _ _ a 0 c.args.head.now f c.requires.named))
+
+pub returns-then-same-clause-took : goal.returns-then-same-clause-took
+returns-then-same-clause-took g c =
+    let f = c.in-Nothing.ensures.looked in
+    let d = c.args.links.now in
+    behind_empty (g.L.Links.numbers d) _ _ (g.L.Links.seat d c.hold_next.new.p) (g.L.Links.seat d c.same.new.p) c.requires.named.linked f.puts f.after.all
+    f.slots f.fresh (end_empty _ _ c.args.head c.agent-agent.result c.same.result c.agent-agent.ensures c.same.ensures.tested c.if-same.true)
+
+pub returns-else-same-clause-took : goal.returns-else-same-clause-took
+returns-else-same-clause-took g c =
+    let f = c.in-Nothing.ensures.looked in
+    let e = c.same.ensures in
+    let d = c.args.links.now in
+    let n = g.L.Links.numbers d in
+    let a = g.L.Links.seat d c.hold_next.new.p in
+    let t = g.L.Links.seat d c.same.new.p in
+    let linked = (null_named _ _ a 0 c.args.head.now f c.requires.named).linked in
+    let lost = end_lost n a t c.args.head _ c.same.result linked (g.met.L.Links.allowed _ _ e.pass) e.tested c.if-same.false in
+    behind_lost n _ _ a t c.requires.named.linked f.puts f.after.all f.slots f.fresh
+    (subst (λ (z : Slots). HasStopped n 1 (Next (id_in z c.args.head.now)) null (λ own. ⊥) a t) f.slots lost)
 
 pub take_next-turn-requires : goal.take_next-turn-requires
 take_next-turn-requires g c =
