@@ -49,7 +49,10 @@ impl Worded for WatchCause {
 }
 
 // Why a file isn't worked through.
-pub(crate) fn refuse_file<C: Worded>(alloc: Global, fault: FileRefused<C>) -> Result<Answer, NoMemory>
+pub(crate) fn refuse_file<C: Worded>(
+    alloc: Global,
+    fault: FileRefused<C>,
+) -> Result<Answer, NoMemory>
     ensures { IfOk result (λ a. NothingEnded a.ended × AnswersFault C.spelled fault a.status a.text) }
 {
     match fault {

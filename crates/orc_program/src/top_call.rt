@@ -9,7 +9,7 @@ ghost use Rattle.orc_options.specs.Settings.{AskFor};
 ghost use Rattle.orc_program.specs.Answers.{AnswersWords, AskToRead};
 ghost use Rattle.orc_program.specs.Ended.{EndsSafely, NothingEnded};
 
-use crate::answer::{Answer, Setup};
+use crate::answer::Setup;
 use crate::reading::read_input;
 use crate::writing::{refuse_words, write_text};
 use crate::{CommandWords, Ended};
@@ -99,13 +99,9 @@ pub fn orc_main<R: Threads + Wait + Sync, S: Source, K: Sink, G: Gate + Sync>(
         gate,
     };
     match setup.answer_of(bytes.as_slice()) {
-        Ok(Answer {
-            status,
-            text,
-            ended: left,
-        }) => {
-            *ended = left;
-            write_text(sink, text.bytes(), status)
+        Ok(answer) => {
+            *ended = answer.ended;
+            write_text(sink, answer.text.bytes(), answer.status)
         }
         Err(NoMemory) => 7,
     }

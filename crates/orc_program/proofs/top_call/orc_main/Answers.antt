@@ -40,7 +40,7 @@ returns-in-Err-NoMemory-read_input-clause-nothing_read g c none =
 
 -- what was read was answered
 whole : (g : _) → (c : goal.After-drop-bytes g) → IsAnswered c.args.words.now (g.S.Source.left c.args.source.now) (g.S.Source.left c.read_input.new.source)
-    c.in-Ok-answer_of.left c.in-Ok.settings c.in-Ok-read_input.bytes.items c.in-Ok-answer_of.status c.bytes.result.now
+    c.in-Ok-answer_of.answer.ended c.in-Ok.settings c.in-Ok-read_input.bytes.items c.in-Ok-answer_of.answer.status c.bytes.result.now
 whole g c = answered _ _ _ _ _ _ _ _ c.in-Ok.ensures.gives c.in-Ok-read_input.ensures.input _ _ c.as_slice.ensures.value c.bytes.ensures
     c.in-Ok-answer_of.ensures
 
@@ -49,16 +49,16 @@ write_text-requires g c = (no_failure _ (statuses _ _ _ _ _ c.in-Ok-answer_of.en
 
 pub returns-in-Ok-answer_of-clause-answered : goal.returns-in-Ok-answer_of-clause-answered
 returns-in-Ok-answer_of-clause-answered g c not_four not_five not_seven =
-    let is : c.write_text.result ≡ c.in-Ok-answer_of.status = elim c.write_text.ensures.statuses [ inl is ↦ is | inr five ↦ absurd (not_five five) ] in (
+    let is : c.write_text.result ≡ c.in-Ok-answer_of.answer.status = elim c.write_text.ensures.statuses [ inl is ↦ is | inr five ↦ absurd (not_five five) ] in (
       c.bytes.result.now,
-      subst (λ n. AnswersWords c.args.words.now (g.S.Source.left c.args.source.now) (g.S.Source.left c.read_input.new.source) c.in-Ok-answer_of.left n c.bytes.result.now)
+      subst (λ n. AnswersWords c.args.words.now (g.S.Source.left c.args.source.now) (g.S.Source.left c.read_input.new.source) c.in-Ok-answer_of.answer.ended n c.bytes.result.now)
           (sym is) (to_words _ _ _ _ _ _ _ _ (whole g c)),
       c.write_text.ensures.written is,
     )
 
 pub returns-in-Ok-answer_of-clause-cut_short : goal.returns-in-Ok-answer_of-clause-cut_short
 returns-in-Ok-answer_of-clause-cut_short g c five =
-    (c.in-Ok-answer_of.status, c.bytes.result.now, to_words _ _ _ _ _ _ _ _ (whole g c), c.write_text.ensures.cut_short five)
+    (c.in-Ok-answer_of.answer.status, c.bytes.result.now, to_words _ _ _ _ _ _ _ _ (whole g c), c.write_text.ensures.cut_short five)
 
 pub returns-in-Ok-answer_of-clause-complete : goal.returns-in-Ok-answer_of-clause-complete
 returns-in-Ok-answer_of-clause-complete g c bytes lines told asks few file reads_well writes_well = elim c.write_text.ensures.statuses [
