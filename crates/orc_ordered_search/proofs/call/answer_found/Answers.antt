@@ -2,13 +2,11 @@
 use Rattle.std.proofs.Common.{ap, arith, false, inr, subst, true, ℕ, ◌∙◌}
 use Rattle.orc_heap.specs.Seats.{Seat}
 use Rattle.orc_heap.specs.declared.events.Place.{Place}
-use Rattle.orc_history.specs.declared.set.SetEntry.{SetEntry}
 use Rattle.orc_history.specs.declared.set.SetEntry.TheVariants.{Asked, Removed}
 use Rattle.orc_ordered_search.specs.Entries.{entry_by}
 use Rattle.orc_ordered_search.specs.Reading.{ordering_of, reading_by}
 use Rattle.orc_ordered_search.specs.Searches.{FindsAbsent, FindsPresent}
 use Rattle.orc_ordered_search.specs.Steps.{Finds}
-use Rattle.orc_ordered_search.specs.Turns.{Enters}
 use Rattle.orc_ordered_search.specs.declared.call.Call.TheVariants.{Ask, Remove}
 use Rattle.orc_ordered_search.specs.declared.walk.Searched.{Searched}
 use Rattle.orc_ordered_search.proofs.Calling.{absence_of, answers_true, enters_any, enters_few, enters_turn, entry_is}
