@@ -1,6 +1,6 @@
 //! The passes of a pipeline are taken from their desks, and the domains of its queues are brought to rest.
 
-ghost use Rattle.std.specs.Prelude.{◌≡◌, ◌≤◌, ℕ, [], List, IfOk, length, vec_capacity};
+ghost use Rattle.std.specs.Prelude.{◌≡◌, ◌<◌, ◌≤◌, ◌∷◌, ℕ, [], List, IfOk, length, vec_capacity};
 ghost use Rattle.std.specs.List.{AllByRecursion};
 ghost use Rattle.orc_fifo_rule.specs.declared.fifo.FifoNote.{FifoNote};
 ghost use Rattle.orc_sound.specs.declared.steps.Step.{Step};
@@ -54,9 +54,17 @@ pub(crate) fn end_queues(
     if queues.is_empty() {
         return;
     }
-    let queue = queues.remove(0);
-    let mut passes = rooms.remove(0);
+    let queue = take_front(&mut queues);
+    let mut passes = take_front(&mut rooms);
     take_first(desks, &mut passes);
     rests.push(queue.at_rest(passes));
     end_queues(queues, desks, rooms, rests);
+}
+
+// Takes the first of these out.
+fn take_front<T: Drop>(list: &mut Vec<T>) -> T
+    requires { 0 < length list.old.items }
+    ensures { list.old.items ≡ result ∷ list.new.items }
+{
+    list.remove(0)
 }
