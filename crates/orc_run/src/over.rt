@@ -41,13 +41,7 @@ pub(crate) fn run_over_lists<
     R: Threads + Wait + Sync,
     M: Domain<Rule = Chain> + Sync + Drop,
     G: Gate + Sync,
->(
-    rt: &R,
-    alloc: Global,
-    task: &Task<'_>,
-    buckets: u32,
-    gate: &G,
-) -> Result<Left<M::Rest>, NoMemory>
+>(rt: &R, alloc: Global, task: &Task<'_>, buckets: u32, gate: &G) -> Result<Left<M::Rest>, NoMemory>
 where
     M::Pass: Send,
     requires good { AreGood task.now.lines.now }
@@ -77,12 +71,7 @@ pub(crate) fn run_over_split<
     R: Threads + Wait + Sync,
     M: Domain<Rule = Split> + Sync + Drop,
     G: Gate + Sync,
->(
-    rt: &R,
-    alloc: Global,
-    task: &Task<'_>,
-    gate: &G,
-) -> Result<Left<M::Rest>, NoMemory>
+>(rt: &R, alloc: Global, task: &Task<'_>, gate: &G) -> Result<Left<M::Rest>, NoMemory>
 where
     M::Pass: Send,
     requires { AreGood task.now.lines.now }

@@ -65,14 +65,7 @@ pub fn post_items<R: Wait, Q: SharedQueue, G: Gate>(
     for index in 0..lines.len() {
         if index as u32 % posters == poster - 1 {
             gate.before(poster, replies.len() as u64);
-            replies.push(post_item(
-                rt,
-                queue,
-                pass,
-                poster,
-                index as u32,
-                lines.get(index),
-            ));
+            replies.push(post_item(rt, queue, pass, poster, index as u32, lines.get(index)));
         }
     }
 }
