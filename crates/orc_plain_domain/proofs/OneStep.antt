@@ -238,3 +238,7 @@ module _ {D N : Type 0} {d : discipline.Ghosts D N} {m : machine.Ghosts Plain N 
                       fresh = fresh_same domain p h q x own r.adds r.fresh;
                       puts = missed r.link r.other r.adds;
                     }
+
+            pub swung : IsPassOf domain (record { pass = q; slots = p.slots; next = p.next; shape = p.shape })
+                × Swings at from to said (seat_of domain p) (moved == 1) (seat_by t p.slots)
+            swung = (still_swung, swings)

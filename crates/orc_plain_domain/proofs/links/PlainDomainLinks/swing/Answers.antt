@@ -1,4 +1,5 @@
-use Rattle.orc_plain_domain.proofs.OneStep.{knows_link, knows_place, knows_target, may_move, still_swung, swings}
+use Rattle.std.proofs.Common.{rules}
+use Rattle.orc_plain_domain.proofs.OneStep.{knows_link, knows_place, knows_target, may_move, swung}
 use Rattle.orc_plain_domain.proofs.links.PlainDomainLinks.swing.Goals as goal
 
 pub link_cas-moved-requires-clause-place : goal.link_cas-moved-requires-clause-place
@@ -23,16 +24,11 @@ link_cas-moved-requires-clause-allowed g c =
     c.word_at.ensures c.args.from.now c.row_link.result c.requires.links.0 c.row_link.ensures
     c.args.to.now c.row_link-2.result c.requires.links.1 c.row_link-2.ensures c.args.note c.requires.allowed
 
-pub returns-clause-pass : goal.returns-clause-pass
-returns-clause-pass g c =
-    still_swung c.args.self.now c.args.p.now c.requires.pass c.link_cas-moved.new.p c.link_cas-moved.ensures.belongs c.args.place.now c.word_at.result
+pub returns : goal.returns
+returns g c =
+    let moved = c.link_cas-moved.ensures in
+    let both = swung c.args.self.now c.args.p.now c.requires.pass c.link_cas-moved.new.p moved.belongs c.args.place.now c.word_at.result
     c.requires.place c.word_at.ensures c.args.from.now c.row_link.result c.requires.links.0 c.row_link.ensures
-    c.args.to.now c.row_link-2.result c.requires.links.1 c.row_link-2.ensures c.args.note c.link_cas-moved.result c.link_cas-moved.ensures.answer
-    c.link_cas-moved.ensures.moves c.link_cas-moved.ensures.linked c.link_cas-moved.ensures.fails
-
-pub returns-clause-swung : goal.returns-clause-swung
-returns-clause-swung g c =
-    swings c.args.self.now c.args.p.now c.requires.pass c.link_cas-moved.new.p c.link_cas-moved.ensures.belongs c.args.place.now c.word_at.result
-    c.requires.place c.word_at.ensures c.args.from.now c.row_link.result c.requires.links.0 c.row_link.ensures
-    c.args.to.now c.row_link-2.result c.requires.links.1 c.row_link-2.ensures c.args.note c.link_cas-moved.result c.link_cas-moved.ensures.answer
-    c.link_cas-moved.ensures.moves c.link_cas-moved.ensures.linked c.link_cas-moved.ensures.fails
+    c.args.to.now c.row_link-2.result c.requires.links.1 c.row_link-2.ensures c.args.note c.link_cas-moved.result moved.answer
+    moved.moves moved.linked moved.fails in
+    search rules
