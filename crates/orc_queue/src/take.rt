@@ -104,7 +104,6 @@ fn take_turn<L: Links<Rule = Fifo>>(links: &L, p: &mut L::Pass) -> TakeTurn
     requires pass { L.belongs links.now p.old }
     requires made { HasDummy (L.numbers links.now) (L.opening links.now) }
     requires slots { IsFree (L.seat links.now p.old).slots 1 × IsFree (L.seat links.now p.old).slots 2 }
-    requires fresh { (L.seat links.now p.old).fresh ≡ None }
     ensures pass { L.belongs links.now p.new }
     ensures later { IsPrefix (L.journal p.old) (L.journal p.new) }
     ensures took { TakesTurn (L.numbers links.now) (L.seat links.now p.old) result (L.seat links.now p.new) }
@@ -124,7 +123,6 @@ pub(crate) fn take_turns<L: Links<Rule = Fifo>>(links: &L, p: &mut L::Pass, turn
     requires pass { L.belongs links.now p.old }
     requires made { HasDummy (L.numbers links.now) (L.opening links.now) }
     requires slots { IsFree (L.seat links.now p.old).slots 1 × IsFree (L.seat links.now p.old).slots 2 }
-    requires fresh { (L.seat links.now p.old).fresh ≡ None }
     ensures pass { L.belongs links.now p.new }
     ensures later { IsPrefix (L.journal p.old) (L.journal p.new) }
     ensures took { TakesTurns (L.numbers links.now) turns (L.seat links.now p.old) result (L.seat links.now p.new) }
