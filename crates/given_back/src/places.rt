@@ -15,23 +15,23 @@ pub trait Keeps<T> {
     ghost holds: { Self.Tag → T → Type 0 };
 }
 
-// Room for a value, into which nobody looks while it is shared.
-struct Room<T, K: Keeps<T>> {
+// Space for a value, into which nobody looks while it is shared.
+struct Space<T, K: Keeps<T>> {
     raw: RawBox<Option<T>, Global>,
     rule: PhantomData<K>,
 }
 
-impl<T, K: Keeps<T>> Fits for Room<T, K> {
+impl<T, K: Keeps<T>> Fits for Space<T, K> {
     type Tag = K::Tag;
 
     ghost fits = { λ tag room. IfSome room.raw.value (K.holds tag) };
 }
 
-impl<T: Drop, K: Keeps<T>> Room<T, K> {
-    fn of(inside: Box<Option<T>>) -> Room<T, K>
+impl<T: Drop, K: Keeps<T>> Space<T, K> {
+    fn of(inside: Box<Option<T>>) -> Space<T, K>
         ensures { result.raw.value ≡ inside.value }
     {
-        Room {
+        Space {
             raw: RawBox::from_box(inside),
             rule: PhantomData,
         }
@@ -40,12 +40,12 @@ impl<T: Drop, K: Keeps<T>> Room<T, K> {
     fn open(self) -> Box<Option<T>>
         ensures { result.value ≡ self.raw.value }
     {
-        let Room { raw, rule: _ } = self;
+        let Space { raw, rule: _ } = self;
         raw.into_box()
     }
 }
 
-impl<T: Drop, K: Keeps<T>> Drop for Room<T, K> {
+impl<T: Drop, K: Keeps<T>> Drop for Space<T, K> {
     fn drop(self) {
         drop(self.open());
     }
@@ -54,7 +54,7 @@ impl<T: Drop, K: Keeps<T>> Drop for Room<T, K> {
 /// Places with room for a value each.
 #[derive(Drop)]
 pub struct GivenBack<T: Drop, K: Keeps<T>> {
-    places: Vec<Counted<Option<Room<T, K>>>>,
+    places: Vec<Counted<Option<Space<T, K>>>>,
 }
 
 /// Why the values can't be had.
@@ -74,7 +74,7 @@ impl<T: Drop, K: Keeps<T>> GivenBack<T, K> {
     {
         let mut places = Vec::with_capacity(alloc, many)?;
         for _ in 0..many {
-            let room = Room::of(Box::new(alloc, None)?);
+            let room = Space::of(Box::new(alloc, None)?);
             places.push(Counted::new(Some(room), tag))?;
         }
         Ok(GivenBack { places })
@@ -103,7 +103,7 @@ impl<T: Drop, K: Keeps<T>> GivenBack<T, K> {
             claim.done();
             return false;
         }
-        drop(claim.put(Some(Room::of(inside)), PRESENT));
+        drop(claim.put(Some(Space::of(inside)), PRESENT));
         true
     }
 

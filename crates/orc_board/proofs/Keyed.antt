@@ -4,7 +4,7 @@ use Rattle.std.proofs.lemmas.Bool.Decides.{nat_tests}
 use Rattle.std.specs.List.Sorted.{IsPermutation}
 use Rattle.std.proofs.lemmas.List.Sorted.{IsPermutation-refl, IsPermutation-sym, IsPermutation-trans, IsPermutation-cons, IsPermutation-middle, IsPermutation-append}
 use Rattle.std.specs.List.{AllByRecursion}
-use Rattle.orc_board.specs.Follows.{by_key}
+use Rattle.orc_board.specs.Follows.{grouped_by_key}
 use Rattle.orc_board.proofs.ListFacts.{AllByRecursion-append, AllByRecursion-map, eq-true, filter-none}
 
 no_way : {Z : Type 0} → true ≡ false → Z
@@ -54,28 +54,28 @@ all_below : {X : Type 0} (key : X → ℕ) (n : ℕ) (xs : List X) → AllByRecu
 all_below key n [] h = refl
 all_below key n (x ∷ xs) h = rw (ltb-yes (key x) n h.0) (ap (λ z. x ∷ z) (all_below key n xs h.1))
 
-sorted_out : {X : Type 0} (key : X → ℕ) (n : ℕ) (xs : List X) → IsPermutation (filter (λ x. ltb (key x) n) xs) (by_key key n xs)
+sorted_out : {X : Type 0} (key : X → ℕ) (n : ℕ) (xs : List X) → IsPermutation (filter (λ x. ltb (key x) n) xs) (grouped_by_key key n xs)
 sorted_out key zero xs = subst (λ z. IsPermutation z []) (sym (none_below key xs)) (IsPermutation-refl [])
 sorted_out {X} key (suc n) xs =
     let rest : List X = filter (λ x. key x == n) xs in
     let few : List X = filter (λ x. ltb (key x) n) xs in
-    IsPermutation-trans (filter (λ x. ltb (key x) (suc n)) xs) (few ++ rest) (by_key key n xs ++ rest) (one_more key n xs)
-    (IsPermutation-append few (by_key key n xs) rest rest (sorted_out key n xs) (IsPermutation-refl rest))
+    IsPermutation-trans (filter (λ x. ltb (key x) (suc n)) xs) (few ++ rest) (grouped_by_key key n xs ++ rest) (one_more key n xs)
+    (IsPermutation-append few (grouped_by_key key n xs) rest rest (sorted_out key n xs) (IsPermutation-refl rest))
 
 -- lists that agree at each key below n give the same in the order of keys
 pub same_keys : {X : Type 0} (key : X → ℕ) (n : ℕ) (xs ys : List X) → ((a : ℕ) → a < n → filter (λ x. key x == a) xs ≡ filter (λ x. key x == a) ys)
-    → by_key key n xs ≡ by_key key n ys
+    → grouped_by_key key n xs ≡ grouped_by_key key n ys
 same_keys key zero xs ys h = refl
 same_keys key (suc n) xs ys h =
-    ap (λ z. z ++ filter (λ x. key x == n) xs) (same_keys key n xs ys (λ a l. h a (omega arith))) ∙ ap (λ z. by_key key n ys ++ z) (h n (omega arith))
+    ap (λ z. z ++ filter (λ x. key x == n) xs) (same_keys key n xs ys (λ a l. h a (omega arith))) ∙ ap (λ z. grouped_by_key key n ys ++ z) (h n (omega arith))
 
 -- lists that agree at each key below n, and have no other keys, hold the same items as often
 pub same_by_keys : {X : Type 0} (key : X → ℕ) (n : ℕ) (xs ys : List X) → AllByRecursion (λ x. key x < n) xs → AllByRecursion (λ x. key x < n) ys
     → ((a : ℕ) → a < n → filter (λ x. key x == a) xs ≡ filter (λ x. key x == a) ys) → IsPermutation xs ys
 same_by_keys key n xs ys a b h =
-    let p : IsPermutation xs (by_key key n xs) = subst (λ z. IsPermutation z (by_key key n xs)) (all_below key n xs a) (sorted_out key n xs) in
-    let q : IsPermutation ys (by_key key n ys) = subst (λ z. IsPermutation z (by_key key n ys)) (all_below key n ys b) (sorted_out key n ys) in
-    IsPermutation-trans xs (by_key key n xs) ys p (subst (λ z. IsPermutation z ys) (sym (same_keys key n xs ys h)) (IsPermutation-sym ys (by_key key n ys) q))
+    let p : IsPermutation xs (grouped_by_key key n xs) = subst (λ z. IsPermutation z (grouped_by_key key n xs)) (all_below key n xs a) (sorted_out key n xs) in
+    let q : IsPermutation ys (grouped_by_key key n ys) = subst (λ z. IsPermutation z (grouped_by_key key n ys)) (all_below key n ys b) (sorted_out key n ys) in
+    IsPermutation-trans xs (grouped_by_key key n xs) ys p (subst (λ z. IsPermutation z ys) (sym (same_keys key n xs ys h)) (IsPermutation-sym ys (grouped_by_key key n ys) q))
 
 passed_test : {X : Type 0} (key : X → ℕ) (n : ℕ) (xs : List X) → AllByRecursion (λ x. key x ≡ n) (filter (λ x. key x == n) xs)
 passed_test key n [] = tt
@@ -85,14 +85,14 @@ passed_test {X} key n (x ∷ xs) =
     cases (key x == n) refl
 
 -- a list in the order of its keys has no others
-pub by_key_below : {X : Type 0} (key : X → ℕ) (n : ℕ) (xs : List X) → AllByRecursion (λ x. key x < n) (by_key key n xs)
+pub by_key_below : {X : Type 0} (key : X → ℕ) (n : ℕ) (xs : List X) → AllByRecursion (λ x. key x < n) (grouped_by_key key n xs)
 by_key_below key zero xs = tt
 by_key_below key (suc n) xs =
-    AllByRecursion-append (λ x. key x < suc n) (by_key key n xs) (filter (λ x. key x == n) xs)
-    (AllByRecursion-map (λ x. key x < n) (λ x. key x < suc n) (λ x h. omega arith) (by_key key n xs) (by_key_below key n xs))
+    AllByRecursion-append (λ x. key x < suc n) (grouped_by_key key n xs) (filter (λ x. key x == n) xs)
+    (AllByRecursion-map (λ x. key x < n) (λ x. key x < suc n) (λ x h. omega arith) (grouped_by_key key n xs) (by_key_below key n xs))
     (AllByRecursion-map (λ x. key x ≡ n) (λ x. key x < suc n) (λ x h. omega arith) (filter (λ x. key x == n) xs) (passed_test key n xs))
 
-no_lower : {X : Type 0} (key : X → ℕ) (m n : ℕ) (xs : List X) → m ≤ n → AllByRecursion (λ x. key x ≡ n) xs → by_key key m xs ≡ []
+no_lower : {X : Type 0} (key : X → ℕ) (m n : ℕ) (xs : List X) → m ≤ n → AllByRecursion (λ x. key x ≡ n) xs → grouped_by_key key m xs ≡ []
 no_lower key zero n xs l h = refl
 no_lower {X} key (suc m) n xs l h =
     ap (λ z. z ++ filter (λ x. key x == m) xs) (no_lower key m n xs (omega arith) h)

@@ -17,7 +17,7 @@ use Rattle.orc_board.specs.declared.replies.PostReply.{PostReply}
 use Rattle.orc_board.specs.declared.replies.PostWord.TheVariants as word
 use Rattle.orc_board.specs.declared.replies.TakeReply.{TakeReply}
 use Rattle.orc_board.specs.Stretches.{View, of_queue, MayStand, is_own_move, beside, all_beside}
-use Rattle.orc_board.specs.Follows.{WorkersFollow, IsWorker, by_key, taker_agent, posts_of, takes_of}
+use Rattle.orc_board.specs.Follows.{WorkersFollow, IsWorker, grouped_by_key, taker_agent, posts_of, takes_of}
 use Rattle.orc_board.specs.Reportable.{posted_by, posted_of, claim_of, takes_with, is_side, AreReportable, AreReportableOf, IsClaim}
 use Rattle.orc_board.proofs.ListFacts.{AllByRecursion-append, AllByRecursion-map, AllByRecursion-filter, eq-true, eq-yes, zero_or}
 use Rattle.orc_board.proofs.Wholes.{queue_of_rows, Works-queue}
@@ -208,10 +208,10 @@ takes_below posters takers [] h = tt
 takes_below posters takers (r ∷ rs) h = (agent_below posters takers r.taker h.0, takes_below posters takers rs h.1)
 
 every_key : {X : Type 0} (P : X → Type 0) (key : X → ℕ) (n : ℕ) (xs : List X) → ((a : ℕ) → a < n → AllByRecursion P (filter (λ x. key x == a) xs))
-    → AllByRecursion P (by_key key n xs)
+    → AllByRecursion P (grouped_by_key key n xs)
 every_key P key zero xs h = tt
 every_key P key (suc n) xs h =
-    AllByRecursion-append P (by_key key n xs) (filter (λ x. key x == n) xs) (every_key P key n xs (λ a l. h a (omega arith))) (h n (omega arith))
+    AllByRecursion-append P (grouped_by_key key n xs) (filter (λ x. key x == n) xs) (every_key P key n xs (λ a l. h a (omega arith))) (h n (omega arith))
 
 worker_agent : (n : ℕ) (a b : ℕ) → a ≡ b → b ≤ n → a < suc n
 worker_agent n a b e h = omega arith

@@ -14,7 +14,7 @@ use Rattle.orc_jobs.specs.Line.{job_line}
 use Rattle.orc_board.specs.declared.replies.PostWord.{PostWord}
 use Rattle.orc_board.specs.declared.replies.TakeReply.{TakeReply}
 use Rattle.orc_board.specs.Stretches.{View, of_queue, of_set, Stretch, Share, Did, just, nothing, refusal, Replied}
-use Rattle.orc_board.specs.Table.{IsJob, IsNoJob, IsSkip, AreSkips, Closes, TakenRow, TakeEnds, TookLast, taken_of, Next, Opened, Dropped, JobPart, JobRow, DropPart, DropRow, PostRow, IsWordOf, IsPlacedAt, answer_of, in_its}
+use Rattle.orc_board.specs.Table.{IsJob, IsNoJob, IsSkip, AreSkips, Closes, TakenRow, TakeEnds, TookLast, taken_of, Next, Opened, Dropped, JobPart, JobRow, DropPart, DropRow, PostRow, IsWordOf, IsPlacedAt, claim_answer, in_its}
 use Rattle.orc_board.proofs.Shares.{Stretch-trans, Stretch-refl, Did-just, Did-nothing}
 use Rattle.orc_board.proofs.CallStretches.{ends_later}
 use Rattle.orc_board.proofs.ListFacts.{AllByRecursion-append}
@@ -160,7 +160,7 @@ taken_some {B = B} qs s lines agent qa sa id rush job at got r i j k l m n p e f
     let next = next_now qs agent qa got (Some (r.rush, r.line, r.at)) j k e told took in
     let own : Bool → List QueueEntry = in_its r.rush (Took agent r.line r.at ∷ []) in
     record {
-      row = record { queues = λ x. just (p.skipped x ++ own x); set = just (Removed agent id (answer_of r.what) ∷ []) };
+      row = record { queues = λ x. just (p.skipped x ++ own x); set = just (Removed agent id (claim_answer r.what) ∷ []) };
       is = record {
         skipped = p.skipped;
         skips = p.skips;
@@ -169,9 +169,9 @@ taken_some {B = B} qs s lines agent qa sa id rush job at got r i j k l m n p e f
       stands = record {
         queues = λ x. Did-just of_queue (qs x) agent (p.skipped x ++ own x) (i x) (k x)
             (Stretch-trans of_queue (qs x) agent (p.skipped x) (own x) (i x) (j x) (k x) (p.stretch x) (next.stretches x));
-        set = Did-just of_set s agent (Removed agent id (answer_of r.what) ∷ []) m n
-            (subst (λ (z : List B). Stretch of_set s agent (Removed agent id (answer_of r.what) ∷ []) z n) same
-            (subst (λ (x : ℕ). Stretch of_set s x (Removed x id (answer_of r.what) ∷ []) l n) f closes.set));
+        set = Did-just of_set s agent (Removed agent id (claim_answer r.what) ∷ []) m n
+            (subst (λ (z : List B). Stretch of_set s agent (Removed agent id (claim_answer r.what) ∷ []) z n) same
+            (subst (λ (x : ℕ). Stretch of_set s x (Removed x id (claim_answer r.what) ∷ []) l n) f closes.set));
       };
     }
 

@@ -82,9 +82,9 @@ abbrev pub IsWorker : ℕ → ℕ → ℕ → Type 0
 IsWorker posters takers agent = agent ≤ posters + takers
 
 -- the items with key 0, then those with key 1 and so on, of the keys below n
-abbrev pub by_key : {X : Type 0} → (X → ℕ) → ℕ → List X → List X
-by_key key zero xs = []
-by_key key (suc n) xs = by_key key n xs ++ filter (λ x. key x == n) xs
+abbrev pub grouped_by_key : {X : Type 0} → (X → ℕ) → ℕ → List X → List X
+grouped_by_key key zero xs = []
+grouped_by_key key (suc n) xs = grouped_by_key key n xs ++ filter (λ x. key x == n) xs
 
 -- the replies of this poster, and of this taker, in their order
 abbrev pub posts_of : ℕ → List PostReply → List PostReply
@@ -95,10 +95,10 @@ takes_of taker takes = filter (λ (r : TakeReply). r.taker == taker) takes
 
 -- the replies of posters 1 to P, of each one for each of its records in file order; then those of takers 0 to T
 pub record AreInOrder (lines : List Line) (posters takers : ℕ) (posts : List PostReply) (takes : List TakeReply) : Type 0 where
-  pub by_poster : posts ≡ by_key (λ (r : PostReply). r.poster) (suc posters) posts
+  pub by_poster : posts ≡ grouped_by_key (λ (r : PostReply). r.poster) (suc posters) posts
   pub none_of_zero : AllByRecursion (λ (r : PostReply). 1 ≤ r.poster) posts
   pub in_file_order : (p : ℕ) → 1 ≤ p → p ≤ posters → map (λ (r : PostReply). r.line) (posts_of p posts) ≡ own_records posters p (length lines)
-  pub by_taker : takes ≡ by_key (λ (r : TakeReply). r.taker) (suc takers) takes
+  pub by_taker : takes ≡ grouped_by_key (λ (r : TakeReply). r.taker) (suc takers) takes
 
 -- all entries of agent 0 stand after all entries of others
 pub record ZeroLast {E : Type 0} (agent_of : E → ℕ) (history : List E) : Type 0 where

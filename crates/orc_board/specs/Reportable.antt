@@ -8,7 +8,7 @@ use Rattle.orc_board.specs.declared.replies.PostWord.{PostWord}
 use Rattle.orc_board.specs.declared.replies.PostWord.TheVariants as word
 use Rattle.orc_board.specs.declared.replies.TakeReply.{TakeReply}
 use Rattle.orc_board.specs.Table.{IsJob, HasValue}
-use Rattle.orc_board.specs.Follows.{by_key, posts_of}
+use Rattle.orc_board.specs.Follows.{grouped_by_key, posts_of}
 
 -- the line and the position, where line i was posted, or rushed
 abbrev pub posted_by : Bool → ℕ → PostWord → List (ℕ × ℕ)
@@ -54,6 +54,6 @@ pub record AreReportable (lines : List Line) (posts : List PostReply) (takes : L
   -- the lines of all replies exist
   pub lines_exist : AllByRecursion (λ (r : PostReply). r.line < length lines) posts
   -- the replies stand in order of poster, of each one in file order, and in order of taker
-  pub by_poster : (n : ℕ) × (posts ≡ by_key (λ (r : PostReply). r.poster) n posts)
+  pub by_poster : (n : ℕ) × (posts ≡ grouped_by_key (λ (r : PostReply). r.poster) n posts)
   pub in_file_order : (p : ℕ) → IsStrictlyIncreasing (map (λ (r : PostReply). r.line) (posts_of p posts))
-  pub by_taker : (n : ℕ) × (takes ≡ by_key (λ (r : TakeReply). r.taker) n takes)
+  pub by_taker : (n : ℕ) × (takes ≡ grouped_by_key (λ (r : TakeReply). r.taker) n takes)

@@ -92,9 +92,9 @@ pub record PostsNone (l : Line) (rush : Bool) : Type 0 where
   pub none : (id : ℕ) (op : Job) (text : List ℕ) → l ≡ job_line rush id op text → ⊥
 
 -- what the remove of a claim answered
-abbrev pub answer_of : TakeWord → Bool
-answer_of (take.Done value) = true
-answer_of take.Void = false
+abbrev pub claim_answer : TakeWord → Bool
+claim_answer (take.Done value) = true
+claim_answer take.Void = false
 
 -- a Done has the value of the line with this number
 abbrev pub HasValue : List Line → ℕ → TakeWord → Type 0
@@ -114,7 +114,7 @@ pub record ClaimRow (lines : List Line) (agent : ℕ) (ahead : Bool → List Que
   pub job : IsJob lines rush i id
   pub value : HasValue lines i what
   pub queues : (b : Bool) → row.queues b ≡ just (ahead b ++ in_its rush (Took agent i at ∷ []) b)
-  pub set : row.set ≡ just (Removed agent id (answer_of what) ∷ [])
+  pub set : row.set ≡ just (Removed agent id (claim_answer what) ∷ [])
 
 -- a Took of a job that no line posts there, which is passed over
 pub record IsSkip (lines : List Line) (rush : Bool) (agent : ℕ) (e : QueueEntry) : Type 0 where
@@ -157,7 +157,7 @@ next_of agent (Some got) rush = in_its got.0 (Took agent got.1 got.2 ∷ []) rus
 
 -- the claim of line i has its value, and its opening was closed
 pub record Closes {B : Type 0} (s : View B SetEntry ListRefused) (lines : List Line) (agent id i : ℕ) (what : TakeWord) (m n : List B) : Type 0 where
-  pub set : Stretch of_set s agent (Removed agent id (answer_of what) ∷ []) m n
+  pub set : Stretch of_set s agent (Removed agent id (claim_answer what) ∷ []) m n
   pub value : HasValue lines i what
 
 -- from the journal j to k this entry is the agent's last, and after it only others have entries

@@ -138,7 +138,7 @@ fn post_job<R: Wait, Q: SharedQueue, S: SharedSet>(
 {
     match insert_key(rt, set, ids, id as u64) {
         Ok(true) => match put_job(rt, queue, p, index as u64) {
-            Ok(at) => word_at(is_rush, at),
+            Ok(at) => place_word(is_rush, at),
             Err(QueueRefused::Positions) => {
                 remove_key(rt, set, ids, id as u64);
                 PostWord::Positions
@@ -157,7 +157,7 @@ fn post_job<R: Wait, Q: SharedQueue, S: SharedSet>(
 }
 
 // The word for a job that was put at this position.
-fn word_at(is_rush: bool, at: u64) -> PostWord
+fn place_word(is_rush: bool, at: u64) -> PostWord
     ensures { IsPlacedAt is_rush at result }
 {
     if is_rush {

@@ -3,7 +3,7 @@ use Rattle.std.proofs.Common.{◌≡◌, ◌≢◌, ◌<◌, ◌^◌, ◌∙◌,
 use Rattle.std.specs.Fmt.{decimal}
 use Rattle.orc_jobs.proofs.Fields.{two-fields}
 use Rattle.orc_jobs.proofs.FileLaws.{none-applies, whether}
-use Rattle.orc_jobs.specs.JobGrammar.{Applies, HasCause, IsLine, TakesText, rank_of, record_of, word_of}
+use Rattle.orc_jobs.specs.JobGrammar.{Applies, HasCause, IsLine, TakesText, rank_of, record_of, operation_word}
 use Rattle.orc_jobs.specs.RecordFiles.{field}
 use Rattle.orc_jobs.specs.Line.{job_line}
 use Rattle.orc_jobs.specs.declared.cause.Cause.{Cause}
@@ -35,14 +35,14 @@ no-drop fields none drop = whether (length fields ≡ 2) (λ o. elim o [
 ])
 
 -- the text of a job fits its operation
-takes : (fields : List (List ℕ)) (op : Job) → Neither fields → field fields 0 ≢ codes "drop" → field fields 2 ≡ word_of op → ¬ ¬ TakesText op (field fields 3)
+takes : (fields : List (List ℕ)) (op : Job) → Neither fields → field fields 0 ≢ codes "drop" → field fields 2 ≡ operation_word op → ¬ ¬ TakesText op (field fields 3)
 takes fields job.Bytes none job word k = k tt
 takes fields job.Words none job word k = k tt
 takes fields job.Sum none job word k = none.causes cause.Sum (job, word, k)
 
 -- no line that posts a job has this first field
 no-job : (fields : List (List ℕ)) (verb : List ℕ) (rush : Bool) → Neither fields → All IsUtf8 fields → field fields 0 ≢ codes "drop"
-    → ((id : ℕ) (op : Job) (text : List ℕ) → record_of (job_line rush id op text) ≡ verb ∷ decimal id ∷ word_of op ∷ text ∷ [])
+    → ((id : ℕ) (op : Job) (text : List ℕ) → record_of (job_line rush id op text) ≡ verb ∷ decimal id ∷ operation_word op ∷ text ∷ [])
     → ((id : ℕ) (op : Job) (text : List ℕ) → (id < 2 ^ 32) × IsUtf8 text × TakesText op text → IsLine (job_line rush id op text))
     → field fields 0 ≢ verb
 no-job fields verb rush none text no_drop spelled is_line is = whether (length fields ≡ 4) (λ o. elim o [
@@ -51,7 +51,7 @@ no-job fields verb rush none text no_drop spelled is_line is = whether (length f
         no_drop,
         λ op. takes fields op.0 none no_drop op.1 (λ fits.
             none.lines (job_line rush id.0 op.0 (field fields 3)) (is_line id.0 op.0 (field fields 3) (id.1, text 3 [] (omega (arith, four)), fits))
-            (four-fields fields verb (decimal id.0) (word_of op.0) (field fields 3) four is id.2 op.1 refl ∙ sym (spelled id.0 op.0 (field fields 3)))),
+            (four-fields fields verb (decimal id.0) (operation_word op.0) (field fields 3) four is id.2 op.1 refl ∙ sym (spelled id.0 op.0 (field fields 3)))),
       ))
   | inr other ↦ none.causes cause.Fields (inr (no_drop, other))
 ])

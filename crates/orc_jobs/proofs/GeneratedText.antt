@@ -18,7 +18,7 @@ use Rattle.csv.specs.Writing.{default_writer, fields_text, is_blank, needs_byte,
 use Rattle.csv.specs.declared.parser.State.TheVariants as st
 use Rattle.csv.proofs.RoundTrip.{read-write}
 use Rattle.orc_jobs.specs.Generated.{behind_line, drawn, draws, generated, line_from, line_text, lines_from, op_of, text_of, text_of_lines}
-use Rattle.orc_jobs.specs.JobGrammar.{IsFileOf, record_of, word_of}
+use Rattle.orc_jobs.specs.JobGrammar.{IsFileOf, record_of, operation_word}
 use Rattle.orc_jobs.specs.declared.line.Job.{Job}
 use Rattle.orc_jobs.specs.declared.line.Job.TheVariants as job
 use Rattle.orc_jobs.specs.declared.line.Line.{Line}
@@ -71,7 +71,7 @@ plain-text job.Words n x = plain-joined (replicate n (codes "ab")) (all-replicat
 plain-text job.Sum n x = plain-joined (pieces_of (draws n x))
     (all-mapped IsSmall IsPlain decimal (λ k h. plain-decimal k (omega (arith, h))) (map (λ draw. draw % 1000) (draws n x)) (small-numbers (draws n x)))
 
-plain-word : (op : Job) → IsPlain (word_of op)
+plain-word : (op : Job) → IsPlain (operation_word op)
 plain-word job.Bytes = refl
 plain-word job.Words = refl
 plain-word job.Sum = refl
@@ -85,7 +85,7 @@ fields-line a b t = ap (λ z. z ++ 10 ∷ [])
 row-line : (id : ℕ) (op : Job) (text : List ℕ) → id < 2 ^ 64 → IsPlain text → row_text default_writer (record_of (line.Post id op text)) ≡ line_text (line.Post id op text)
 unfolding fields_text is_blank
 row-line id op text small plain =
-    rw (plain-decimal id small, plain-word op, plain) (ap (λ z. codes "post," ++ z) (fields-line (decimal id) (word_of op) text))
+    rw (plain-decimal id small, plain-word op, plain) (ap (λ z. codes "post," ++ z) (fields-line (decimal id) (operation_word op) text))
 
 -- the lines that posts with plain texts are read as
 text-reached : (n id x : ℕ) → id + n ≤ 60000

@@ -5,7 +5,7 @@ use Rattle.std.specs.Fmt.{decimal}
 use Rattle.orc_jobs.proofs.Fields.{IsUtf8-decimal, first-field, two-texts}
 use Rattle.orc_jobs.proofs.FileLaws.{AreDetermined, one-cause, one-reading, one-refusal}
 use Rattle.std.proofs.lemmas.Fmt.{decimal_injective}
-use Rattle.orc_jobs.specs.JobGrammar.{Applies, HasCause, IsFileOf, IsLine, Refuses, TakesText, rank_of, record_of, word_of}
+use Rattle.orc_jobs.specs.JobGrammar.{Applies, HasCause, IsFileOf, IsLine, Refuses, TakesText, rank_of, record_of, operation_word}
 use Rattle.orc_jobs.specs.Line.{job_line}
 use Rattle.orc_jobs.specs.Numbers.{IsNumberList}
 use Rattle.orc_jobs.specs.declared.cause.Cause.{Cause}
@@ -19,14 +19,14 @@ use Rattle.orc_jobs.specs.declared.records.FileRefused.TheVariants as fault
 
 -- ---- lines and causes
 
-IsUtf8-word_of : (op : Job) → IsUtf8 (word_of op)
+IsUtf8-word_of : (op : Job) → IsUtf8 (operation_word op)
 IsUtf8-word_of job.Bytes = search rules
 IsUtf8-word_of job.Words = search rules
 IsUtf8-word_of job.Sum = search rules
 
 -- the record of a job, with this verb
 job_record : List ℕ → ℕ → Job → List ℕ → List (List ℕ)
-job_record verb id op text = verb ∷ decimal id ∷ word_of op ∷ text ∷ []
+job_record verb id op text = verb ∷ decimal id ∷ operation_word op ∷ text ∷ []
 
 -- the id, operation and text that a record of a job may have
 abbrev IsJob : ℕ → Job → List ℕ → Type 0
@@ -36,9 +36,9 @@ IsUtf8-job : (verb : List ℕ) (id : ℕ) (op : Job) (text : List ℕ) → IsUtf
 unfolding job_record
 IsUtf8-job verb id op text v h =
     let four = All-cons IsUtf8 text [] h.1 (All-nil IsUtf8) in
-    let three = All-cons IsUtf8 (word_of op) (text ∷ []) (IsUtf8-word_of op) four in
-    let two = All-cons IsUtf8 (decimal id) (word_of op ∷ text ∷ []) (IsUtf8-decimal id h.0) three in
-    All-cons IsUtf8 verb (decimal id ∷ word_of op ∷ text ∷ []) v two
+    let three = All-cons IsUtf8 (operation_word op) (text ∷ []) (IsUtf8-word_of op) four in
+    let two = All-cons IsUtf8 (decimal id) (operation_word op ∷ text ∷ []) (IsUtf8-decimal id h.0) three in
+    All-cons IsUtf8 verb (decimal id ∷ operation_word op ∷ text ∷ []) v two
 
 IsUtf8-record_of : (l : Line) → IsLine l → All IsUtf8 (record_of l)
 unfolding job_record
@@ -49,7 +49,7 @@ IsUtf8-record_of (line.Drop id) h =
     All-cons IsUtf8 (codes "drop") (decimal id ∷ []) (search rules) two
 
 -- a line that sums has a text of numbers
-sums-numbers : (id : ℕ) (op : Job) (text : List ℕ) → IsJob id op text → word_of op ≡ codes "sum" → IsNumberList text
+sums-numbers : (id : ℕ) (op : Job) (text : List ℕ) → IsJob id op text → operation_word op ≡ codes "sum" → IsNumberList text
 sums-numbers id job.Bytes text h e = absurd (two-texts e refl)
 sums-numbers id job.Words text h e = absurd (two-texts e refl)
 sums-numbers id job.Sum text h e = h.2
@@ -93,7 +93,7 @@ cause_at-rank_of cause.Id = refl
 cause_at-rank_of cause.Op = refl
 cause_at-rank_of cause.Sum = refl
 
-same-op : (a b : Job) → word_of a ≡ word_of b → a ≡ b
+same-op : (a b : Job) → operation_word a ≡ operation_word b → a ≡ b
 same-op job.Bytes job.Bytes e = refl
 same-op job.Bytes job.Words e = absurd (two-texts e refl)
 same-op job.Bytes job.Sum e = absurd (two-texts e refl)
@@ -110,7 +110,7 @@ same-job : (verb : List ℕ) (rush : Bool) (i : ℕ) (o : Job) (s : List ℕ) (j
 unfolding job_record
 same-job verb rush i o s j p t h k e =
     let ids : decimal i ≡ decimal j = ap (λ r. get_or r 1 []) e in
-    let ops : word_of o ≡ word_of p = ap (λ r. get_or r 2 []) e in
+    let ops : operation_word o ≡ operation_word p = ap (λ r. get_or r 2 []) e in
     let texts : s ≡ t = ap (λ r. get_or r 3 []) e in
     let small = h.0 in
     let small2 = k.0 in

@@ -2,7 +2,7 @@
 use Rattle.std.specs.Prelude.{◌++◌, ◌+◌, ◌*◌, ◌/◌, ◌%◌, ◌^◌, ◌==◌, zero, suc, List, [], ◌∷◌, ℕ, bit_xor, codes, if◌then◌else◌, map, replicate}
 use Rattle.std.specs.Fmt.{decimal}
 use Rattle.std.specs.List.{flat_map, join_with_byte}
-use Rattle.orc_jobs.specs.JobGrammar.{word_of}
+use Rattle.orc_jobs.specs.JobGrammar.{operation_word}
 use Rattle.orc_jobs.specs.declared.line.Job.{Job}
 use Rattle.orc_jobs.specs.declared.line.Job.TheVariants as job
 use Rattle.orc_jobs.specs.declared.line.Line.{Line}
@@ -59,7 +59,7 @@ generated seed lines = lines_from lines 0 seed
 
 -- the line of a post: its four fields, joined by commas; nothing for a rush or a drop
 abbrev pub line_text : Line → List ℕ
-line_text (line.Post id op text) = codes "post," ++ decimal id ++ codes "," ++ word_of op ++ codes "," ++ text ++ codes "\n"
+line_text (line.Post id op text) = codes "post," ++ decimal id ++ codes "," ++ operation_word op ++ codes "," ++ text ++ codes "\n"
 line_text (line.Rush id op text) = []
 line_text (line.Drop id) = []
 

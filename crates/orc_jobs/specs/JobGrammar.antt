@@ -14,15 +14,15 @@ use Rattle.orc_jobs.specs.declared.line.Line.TheVariants as line
 use Rattle.orc_jobs.specs.declared.records.FileRefused.{FileRefused}
 
 -- the word of an operation
-abbrev pub word_of : Job → List ℕ
-word_of job.Bytes = codes "bytes"
-word_of job.Words = codes "words"
-word_of job.Sum = codes "sum"
+abbrev pub operation_word : Job → List ℕ
+operation_word job.Bytes = codes "bytes"
+operation_word job.Words = codes "words"
+operation_word job.Sum = codes "sum"
 
 -- the record that a line is spelled as
 abbrev pub record_of : Line → List (List ℕ)
-record_of (line.Post id op text) = codes "post" ∷ decimal id ∷ word_of op ∷ text ∷ []
-record_of (line.Rush id op text) = codes "rush" ∷ decimal id ∷ word_of op ∷ text ∷ []
+record_of (line.Post id op text) = codes "post" ∷ decimal id ∷ operation_word op ∷ text ∷ []
+record_of (line.Rush id op text) = codes "rush" ∷ decimal id ∷ operation_word op ∷ text ∷ []
 record_of (line.Drop id) = codes "drop" ∷ decimal id ∷ []
 
 -- an operation takes this text: `sum` takes spelled numbers, and the others any text
@@ -43,7 +43,7 @@ IsFileOf lines bytes = IsFile record_of IsLine lines bytes
 
 -- the word of some operation
 abbrev pub IsOpWord : List ℕ → Type 0
-IsOpWord text = (op : Job) × (text ≡ word_of op)
+IsOpWord text = (op : Job) × (text ≡ operation_word op)
 
 -- this cause applies to a record
 abbrev pub Applies : Cause → List (List ℕ) → Type 0

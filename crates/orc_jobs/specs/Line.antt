@@ -22,10 +22,10 @@ IsDrop (Rush id op text) = ⊥
 IsDrop (Drop id) = Unit {0}
 
 -- the id that a line posts or drops
-abbrev pub id_of : Line → ℕ
-id_of (Post id op text) = id
-id_of (Rush id op text) = id
-id_of (Drop id) = id
+abbrev pub line_id : Line → ℕ
+line_id (Post id op text) = id
+line_id (Rush id op text) = id
+line_id (Drop id) = id
 
 -- how many bytes of text a line carries
 abbrev pub text_size : Line → ℕ

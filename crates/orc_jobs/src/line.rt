@@ -1,5 +1,5 @@
 ghost use Rattle.std.specs.Prelude.{◌≡◌};
-ghost use Rattle.orc_jobs.specs.JobGrammar.{word_of};
+ghost use Rattle.orc_jobs.specs.JobGrammar.{operation_word};
 
 use crate::Text;
 
@@ -14,7 +14,7 @@ pub enum Job {
 impl Job {
     /// Its word in a job file.
     pub fn word(self) -> &'static str
-        ensures { result.now ≡ word_of self }
+        ensures { result.now ≡ operation_word self }
     {
         match self {
             Job::Bytes => "bytes",

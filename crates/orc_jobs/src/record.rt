@@ -1,5 +1,5 @@
 ghost use Rattle.std.specs.Prelude.{◌≡◌, IfNone, IfSome};
-ghost use Rattle.orc_jobs.specs.JobGrammar.{HasCause, IsLine, IsOpWord, record_of, word_of};
+ghost use Rattle.orc_jobs.specs.JobGrammar.{HasCause, IsLine, IsOpWord, record_of, operation_word};
 
 use crate::number::is_number_list;
 use crate::{
@@ -55,7 +55,7 @@ impl FromRecord for Line {
 
 // The operation of a word.
 fn op_of(word: &[u8]) -> Option<Job>
-    ensures some { IfSome result (λ op. word.now ≡ word_of op) }
+    ensures some { IfSome result (λ op. word.now ≡ operation_word op) }
     ensures none { IfNone result (¬ IsOpWord word.now) }
 {
     if is_word(word, b"bytes") {

@@ -326,7 +326,7 @@ fn pass_lower<K: Rank, L: Links<Rule = K::Rule>>(
 }
 
 // Goes on as far as may be at once: over all unmarked nodes with lower ranks, where no marked one is in hand, and else by one step.
-fn advance<K: Rank, L: Links<Rule = K::Rule>>(
+fn step_on<K: Rank, L: Links<Rule = K::Rule>>(
     links: &L,
     p: &mut L::Pass,
     wanted: K,
@@ -435,7 +435,7 @@ pub fn search_chain<K: Rank, L: Links<Rule = K::Rule>>(
         Stepped::End(found) => return found,
     };
     loop {
-        match advance(links, p, wanted, walk) {
+        match step_on(links, p, wanted, walk) {
             Stepped::On(next) => walk = next,
             Stepped::End(found) => return found,
         }

@@ -21,7 +21,7 @@ use Rattle.orc_plain_board.specs.Calls.{AddsOwn, GivesNewRow, IsGateWord, KnowsR
 use Rattle.orc_plain_board.specs.Machine.{State, events_of, finds, index_of, numbers, run, run_from, start, taken, value_word}
 use Rattle.orc_plain_board.specs.Rules.{plain_rules}
 use Rattle.orc_plain_board.specs.Views.{FreshHeld, Keeps, PlainView, heap_of, view_of}
-use Rattle.orc_plain_board.specs.Words.{Block, IsOut, Named}
+use Rattle.orc_plain_board.specs.Words.{Block, IsListed, Named}
 use Rattle.orc_plain_board.specs.declared.machine.PlainOp.{PlainOp}
 use Rattle.orc_plain_board.specs.declared.machine.PlainOp.TheVariants.{GateLook, GateTake, Fill, Read}
 use Rattle.orc_plain_board.specs.declared.machine.PlainStep.{PlainStep}
@@ -32,7 +32,7 @@ use Rattle.orc_plain_board.proofs.Walks.{Walk, adds, given_later, given_more, he
 use Rattle.orc_plain_board.proofs.Licences.{row_given}
 
 -- the row stands in the list, or nowhere in it
-pub out_or_not : (g : List ℕ) (row : ℕ) → IsOut g row ⊎ ((id : ℕ) → slice_get g id ≢ Some row)
+pub out_or_not : (g : List ℕ) (row : ℕ) → IsListed g row ⊎ ((id : ℕ) → slice_get g id ≢ Some row)
 out_or_not [] row = inr (λ id e. cc)
 out_or_not (x ∷ xs) row = dite (ℕ_discrete x row)
     (λ e. inl (0, ap Some e))
@@ -143,7 +143,7 @@ module _ {D N : Type 0} (d : discipline.Ghosts D N) (q : PlainShape N) (v w : Vi
   taken_is row n zero_gate x =
       eq-eqb (finds k (at_step (walked (GateTake row) None n x)) (GateTake row)) 0 (sym (walked (GateTake row) None n x).answers ∙ zero_gate)
 
-  was_new : (row n : ℕ) → n ≡ 0 → (x : Made (GateTake row) None n) → row < k.rows → ¬ IsOut (at_step (walked (GateTake row) None n x)).given row
+  was_new : (row n : ℕ) → n ≡ 0 → (x : Made (GateTake row) None n) → row < k.rows → ¬ IsListed (at_step (walked (GateTake row) None n x)).given row
   was_new row n zero_gate x lt o =
       let wk = walked (GateTake row) None n x in
       let read = wk.answers in
@@ -193,7 +193,7 @@ module _ {D N : Type 0} (d : discipline.Ghosts D N) (q : PlainShape N) (v w : Vi
       let read = wk.answers in record {
         adds = subst (λ l. AddsOwn may l s t) (ap (λ (b : Bool). if b then event_by {N = N} a act.Give None ∷ [] else []) (lost_is row n other x))
             (added (GateTake row) None n x);
-        out = subst (λ z. IsOut z row) (rows_met wk (ap (λ (b : Bool). if b then row ∷ [] else []) (lost_is row n other x)))
+        out = subst (λ z. IsListed z row) (rows_met wk (ap (λ (b : Bool). if b then row ∷ [] else []) (lost_is row n other x)))
             (elim (gate_word k (at_step wk) row wk.mid.tie lt) [ inl p ↦ p.1 | inr p ↦ absurd (other (read ∙ p.0)) ]);
         fresh = f;
       }

@@ -17,11 +17,11 @@ use mathlib.Core.List.{IsPrefix}
 use Rattle.orc_shared_words.specs.Lists.{Among}
 use Rattle.orc_plain_board.specs.Machine.{id_by, index_of, link_by, numbers, place_by}
 use Rattle.orc_plain_board.specs.Views.{PlainView, heap_of}
-use Rattle.orc_plain_board.specs.Words.{IsOut, IsWord}
+use Rattle.orc_plain_board.specs.Words.{IsListed, IsWord}
 
 -- the gate word is 3 where the row was given, and 0 where it wasn't
 abbrev pub IsGateWord : List ℕ → ℕ → ℕ → Type 0
-IsGateWord g row n = ((n ≡ 3) × IsOut g row) ⊎ ((n ≡ 0) × ¬ IsOut g row)
+IsGateWord g row n = ((n ≡ 3) × IsListed g row) ⊎ ((n ≡ 0) × ¬ IsListed g row)
 
 -- the row, if its gate word is that of a free row
 abbrev pub seen_free : ℕ → ℕ → Option ℕ
@@ -85,13 +85,13 @@ module _ {N : Type 0} where
       pub adds : AddsOwn (event_by s.agent act.Give None ∷ []) s t
       pub before : List ℕ
       pub rows : t.rows ≡ before ++ row ∷ []
-      pub new : ¬ IsOut before row
+      pub new : ¬ IsListed before row
       pub fresh : t.fresh ≡ Some row
 
     -- the row was given before
     pub record Loses (row : ℕ) (s t : PlainView N) : Type 0 where
       pub adds : AddsOwn [] s t
-      pub out : IsOut t.rows row
+      pub out : IsListed t.rows row
       pub fresh : t.fresh ≡ s.fresh
 
     -- the pass finds this link, whose word is the number, and knows its target from then on

@@ -14,8 +14,8 @@ IsWord g None mark n = n ≡ bit mark
 IsWord g (Some id) mark n = (row : ℕ) × (slice_get g id ≡ Some row) × (n ≡ 2 * (row + 1) + bit mark)
 
 -- the row stands in the list
-abbrev pub IsOut : List ℕ → ℕ → Type 0
-IsOut g row = (id : ℕ) × (slice_get g id ≡ Some row)
+abbrev pub IsListed : List ℕ → ℕ → Type 0
+IsListed g row = (id : ℕ) × (slice_get g id ≡ Some row)
 
 -- no row stands in the list twice
 abbrev pub Once : List ℕ → Type 0

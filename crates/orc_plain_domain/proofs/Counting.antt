@@ -20,7 +20,7 @@ use Rattle.orc_heap.specs.declared.events.Place.{Place}
 use Rattle.orc_heap.specs.declared.events.Place.TheVariants.{Next, Root, Side}
 use Rattle.orc_plain_board.proofs.Lists.{at_index, index_in, some_one}
 use Rattle.orc_plain_board.specs.Machine.{index_of}
-use Rattle.orc_plain_board.specs.Words.{IsOut, Once}
+use Rattle.orc_plain_board.specs.Words.{IsListed, Once}
 use Rattle.orc_heap.specs.Moves.{give_with, gives_in}
 use Rattle.orc_plain_domain.specs.Given.{IsLacking}
 
@@ -78,7 +78,7 @@ rows_at_most rows most once inside = no_more (length rows) most (slice_index row
 
 -- where each row is out, all were given
 pub rows_all : (rows : List ℕ) (most : ℕ) → Once rows → ((i row : ℕ) → slice_get rows i ≡ Some row → row < most)
-    → ((row : ℕ) → row < most → IsOut rows row) → length rows ≡ most
+    → ((row : ℕ) → row < most → IsListed rows row) → length rows ≡ most
 rows_all rows most once inside all =
     let low = rows_at_most rows most once inside in
     let high = no_more most (length rows) (λ row. index_of row rows) (record {
@@ -92,15 +92,15 @@ rows_all rows most once inside all =
     omega (arith, low, high)
 
 -- once round from any row, each row comes
-pub once_round : (rows : List ℕ) (begin most : ℕ) → begin < most → ((k : ℕ) → k < most → IsOut rows ((begin + k) % most)) → (row : ℕ) → row < most
-    → IsOut rows row
+pub once_round : (rows : List ℕ) (begin most : ℕ) → begin < most → ((k : ℕ) → k < most → IsListed rows ((begin + k) % most)) → (row : ℕ) → row < most
+    → IsListed rows row
 once_round rows begin most l out row m = dite (dec_lt row begin)
     (λ lt.
     let e : begin + (row + most - begin) ≡ row + most = omega (arith, l, lt) in
-    subst (IsOut rows) (ap (λ z. z % most) e ∙ (add-mod_right row most ∙ mod-eq_of_lt m)) (out (row + most - begin) (omega (arith, l, lt))))
+    subst (IsListed rows) (ap (λ z. z % most) e ∙ (add-mod_right row most ∙ mod-eq_of_lt m)) (out (row + most - begin) (omega (arith, l, lt))))
     (λ ge.
     let e : begin + (row - begin) ≡ row = omega (arith, ge) in
-    subst (IsOut rows) (ap (λ z. z % most) e ∙ mod-eq_of_lt m) (out (row - begin) (omega (arith, m))))
+    subst (IsListed rows) (ap (λ z. z % most) e ∙ mod-eq_of_lt m) (out (row - begin) (omega (arith, m))))
 
 -- 1 for a row that is out
 abbrev pub out_bit : ℕ → List ℕ → ℕ
@@ -118,12 +118,12 @@ bit_here row x xs e = ap (λ b. if b then 1 else out_bit row xs) (eq-eqb x row e
 bit_later : (row x : ℕ) (xs : List ℕ) → x ≢ row → out_bit row (x ∷ xs) ≡ out_bit row xs
 bit_later row x xs ne = ap (λ b. if b then 1 else out_bit row xs) (ne_eqb x row ne)
 
-pub bit_out : (row : ℕ) (rows : List ℕ) → IsOut rows row → out_bit row rows ≡ 1
+pub bit_out : (row : ℕ) (rows : List ℕ) → IsListed rows row → out_bit row rows ≡ 1
 bit_out row [] o = let e = o.1 in cc
 bit_out row (x ∷ xs) (zero, e) = bit_here row x xs (some_one x row e)
 bit_out row (x ∷ xs) (suc i, e) = dite (ℕ_discrete x row) (λ same. bit_here row x xs same) (λ ne. bit_later row x xs ne ∙ bit_out row xs (i, e))
 
-pub bit_free : (row : ℕ) (rows : List ℕ) → ¬ IsOut rows row → out_bit row rows ≡ 0
+pub bit_free : (row : ℕ) (rows : List ℕ) → ¬ IsListed rows row → out_bit row rows ≡ 0
 bit_free row [] o = refl
 bit_free row (x ∷ xs) o = dite (ℕ_discrete x row) (λ same. absurd (o (0, ap Some same))) (λ ne. bit_later row x xs ne ∙ bit_free row xs (λ q. o (suc q.0, q.1)))
 
@@ -140,7 +140,7 @@ outs_above x (suc n) xs l =
     omega (arith, a, b)
 
 -- one that is
-outs_with : (x n : ℕ) (xs : List ℕ) → ¬ IsOut xs x → x < n → outs (x ∷ xs) n ≡ outs xs n + 1
+outs_with : (x n : ℕ) (xs : List ℕ) → ¬ IsListed xs x → x < n → outs (x ∷ xs) n ≡ outs xs n + 1
 outs_with x zero xs new l = absurd (omega (arith, l))
 outs_with x (suc n) xs new l = dite (ℕ_discrete x n)
     (λ e.

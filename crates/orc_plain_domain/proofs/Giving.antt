@@ -16,7 +16,7 @@ use Rattle.orc_heap.specs.declared.events.Event.{Event}
 use Rattle.orc_shared_words.specs.declared.machine.Machine as machine
 use Rattle.orc_plain_board.specs.Machine.{id_by, index_of}
 use Rattle.orc_plain_board.specs.Views.{shows}
-use Rattle.orc_plain_board.specs.Words.{IsOut}
+use Rattle.orc_plain_board.specs.Words.{IsListed}
 use Rattle.orc_plain_board.specs.declared.machine.Plain.{Plain}
 use Rattle.orc_plain_board.specs.declared.machine.PlainOp.{PlainOp}
 use Rattle.orc_plain_board.specs.declared.machine.PlainStep.{PlainStep}
@@ -34,7 +34,7 @@ use Rattle.orc_plain_domain.proofs.Counting.{lacks_all, nodes_given, nodes_stay,
 use Rattle.orc_plain_domain.proofs.Growing.{held_given, tie}
 use Rattle.orc_plain_domain.proofs.Rows.{slots_grow}
 
-out_stays : (rows more : List ℕ) (row : ℕ) → IsOut rows row → IsOut (rows ++ more) row
+out_stays : (rows more : List ℕ) (row : ℕ) → IsListed rows row → IsListed (rows ++ more) row
 out_stays rows more row o = (o.0, get-grown o.0 rows more row o.1)
 
 module _ {D N : Type 0} {d : discipline.Ghosts D N} {m : machine.Ghosts Plain N (PlainShape N) PlainOp (PlainStep N) (Unit {0}) (Unit {0})}
@@ -47,7 +47,7 @@ module _ {D N : Type 0} {d : discipline.Ghosts D N} {m : machine.Ghosts Plain N 
       pub fresh : (shows domain.board q.pass).fresh ≡ None
       pub inside : (rows ≡ (domain_bounds domain).rows) × (begin < rows)
       pub same_next : q.next ≡ p.next
-      pub out : (k : ℕ) → k < offset → IsOut (shows domain.board q.pass).rows ((begin + k) % rows)
+      pub out : (k : ℕ) → k < offset → IsListed (shows domain.board q.pass).rows ((begin + k) % rows)
 
     pub tried_none : (p : PlainPass D N (PlainShape N) PlainOp (PlainStep N) (Unit {0}) (Unit {0}) d m) (rows begin : ℕ) → IsPassOf domain p
         → (seat_of domain p).fresh ≡ None → rows ≡ (bounds_of p.shape).rows → begin ≡ p.next → Tried p p rows begin 0
@@ -68,13 +68,13 @@ module _ {D N : Type 0} {d : discipline.Ghosts D N} {m : machine.Ghosts Plain N 
     -- the row that is tried next, where the others were out
     pub tried_next : (p q : PlainPass D N (PlainShape N) PlainOp (PlainStep N) (Unit {0}) (Unit {0}) d m) (rows begin offset : ℕ)
         → Tried p q rows begin offset → offset < rows → (given : List ℕ) → IsPrefix (rows_of domain q) given
-        → IsNext (domain_bounds domain).rows begin (IsOut given) ((begin + offset) % rows)
+        → IsNext (domain_bounds domain).rows begin (IsListed given) ((begin + offset) % rows)
     tried_next p q rows begin offset t low given more =
-        subst (λ n. IsNext n begin (IsOut given) ((begin + offset) % rows)) t.inside.0 (record {
+        subst (λ n. IsNext n begin (IsListed given) ((begin + offset) % rows)) t.inside.0 (record {
           offset = offset;
           low = low;
           is = refl;
-          passed = λ k l. subst (λ z. IsOut z ((begin + k) % rows)) more.1 (out_stays (rows_of domain q) more.0 ((begin + k) % rows) (t.out k l));
+          passed = λ k l. subst (λ z. IsListed z ((begin + k) % rows)) more.1 (out_stays (rows_of domain q) more.0 ((begin + k) % rows) (t.out k l));
         })
 
     -- the slots are the same as more rows are given
@@ -105,10 +105,10 @@ module _ {D N : Type 0} {d : discipline.Ghosts D N} {m : machine.Ghosts Plain N 
           none_both f g e k = ap (id_by (shows domain.board r.pass).rows) k ∙ sym (ap (id_by (shows domain.board q.pass).rows) e)
 
           out : (k : ℕ) → k < offset + 1 → Loses ((begin + offset) % rows) q.slots (shows domain.board q.pass) (shows domain.board r.pass)
-              → IsOut (shows domain.board r.pass).rows ((begin + k) % rows)
+              → IsListed (shows domain.board r.pass).rows ((begin + k) % rows)
           out k m l = dite (dec_lt k offset)
-              (λ lt. subst (λ z. IsOut z ((begin + k) % rows)) l.rows.1 (out_stays (shows domain.board q.pass).rows l.rows.0 ((begin + k) % rows) (t.out k lt)))
-              (λ ge. let e : k ≡ offset = omega (arith, m, ge) in subst (λ z. IsOut (shows domain.board r.pass).rows ((begin + z) % rows)) (sym e) l.out)
+              (λ lt. subst (λ z. IsListed z ((begin + k) % rows)) l.rows.1 (out_stays (shows domain.board q.pass).rows l.rows.0 ((begin + k) % rows) (t.out k lt)))
+              (λ ge. let e : k ≡ offset = omega (arith, m, ge) in subst (λ z. IsListed (shows domain.board r.pass).rows ((begin + z) % rows)) (sym e) l.out)
 
       module _ (row : ℕ) (k : GivesFreshRow (domain_bounds domain) row q.slots (shows domain.board q.pass) (shows domain.board r.pass))
           (w : PlainPass D N (PlainShape N) PlainOp (PlainStep N) (Unit {0}) (Unit {0}) d m) (slot first second : ℕ)
@@ -158,7 +158,7 @@ module _ {D N : Type 0} {d : discipline.Ghosts D N} {m : machine.Ghosts Plain N 
         let k = tie domain q t.pass in
         let all = rows_all s.rows (domain_bounds domain).rows k.once k.inside
         (once_round s.rows begin (domain_bounds domain).rows (subst (λ z. begin < z) t.inside.0 t.inside.1)
-        (λ j l. subst (λ z. IsOut s.rows ((begin + j) % z)) t.inside.0 (t.out j (subst (λ z. j < z) (sym t.inside.0 ∙ sym end) l)))) in
+        (λ j l. subst (λ z. IsListed s.rows ((begin + j) % z)) t.inside.0 (t.out j (subst (λ z. j < z) (sym t.inside.0 ∙ sym end) l)))) in
         lacks_all (domain_bounds domain).rows (journal_of q)
         (sym (nodes_given (domain_numbers domain) (journal_of q))
         ∙ (ap (λ (es : List (Event N)). length (run_heap (domain_numbers domain) es).nodes) (sym (seen_by domain q t.pass)) ∙ (sym k.even ∙ all)))

@@ -17,7 +17,7 @@ use Rattle.orc_plain_board.proofs.Lists.{get_last, index_at, some_one}
 use Rattle.orc_plain_board.specs.Calls.{AddsOwn, GivesNewRow as BoardGives, KnowsRow, Loses as BoardLoses}
 use Rattle.orc_plain_board.specs.Machine.{id_by, index_of, numbers}
 use Rattle.orc_plain_board.specs.Views.{Belongs, PlainView, heap_of, shows}
-use Rattle.orc_plain_board.specs.Words.{IsOut}
+use Rattle.orc_plain_board.specs.Words.{IsListed}
 use Rattle.orc_plain_board.specs.declared.machine.Plain.{Plain}
 use Rattle.orc_plain_board.specs.declared.machine.PlainOp.{PlainOp}
 use Rattle.orc_plain_board.specs.declared.machine.PlainStep.{PlainStep}
@@ -120,7 +120,7 @@ module _ {D N : Type 0} {d : discipline.Ghosts D N} {m : machine.Ghosts Plain N 
       loses l = record { fresh = l.fresh ∙ fresh; rows = (both [] l.adds).rows; puts = put_both [] l.adds refl; out = l.out }
 
       -- a gate that was odd is that of a row that is out
-      pub odd_out : (gate : ℕ) → ((gate ≡ 3) × IsOut t.rows row) ⊎ ((gate ≡ 0) × ¬ IsOut t.rows row) → gate % 2 ≡ 1 → Loses row p.slots s t
+      pub odd_out : (gate : ℕ) → ((gate ≡ 3) × IsListed t.rows row) ⊎ ((gate ≡ 0) × ¬ IsListed t.rows row) → gate % 2 ≡ 1 → Loses row p.slots s t
       odd_out gate (inl is) odd = record { fresh = fresh; rows = met.rows; puts = put_none; out = is.1 }
       odd_out gate (inr is) odd = let z = is.0 in absurd (omega (arith, z, odd))
 

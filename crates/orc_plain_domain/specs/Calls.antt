@@ -20,7 +20,7 @@ use Rattle.orc_shared_words.specs.declared.machine.Machine as machine
 use Rattle.orc_plain_board.specs.Calls.{AddsOwn, unless_linked}
 use Rattle.orc_plain_board.specs.Machine.{id_by, index_of, link_by}
 use Rattle.orc_plain_board.specs.Views.{PlainView, heap_of}
-use Rattle.orc_plain_board.specs.Words.{IsOut}
+use Rattle.orc_plain_board.specs.Words.{IsListed}
 use Rattle.orc_plain_board.specs.declared.machine.Plain.{Plain}
 use Rattle.orc_plain_board.specs.declared.machine.PlainOp.{PlainOp}
 use Rattle.orc_plain_board.specs.declared.machine.PlainStep.{PlainStep}
@@ -49,7 +49,7 @@ module _ {N : Type 0} where
     pub fresh : t.fresh ≡ s.fresh
     pub rows : IsPrefix s.rows t.rows
     pub puts : Puts (seat_by s slots) [] (seat_by t slots)
-    pub out : IsOut t.rows row
+    pub out : IsListed t.rows row
 
   -- both values of the fresh row were filled, and the row is held in the slot
   pub record Furnishes (n : HeapNumbers) (row id slot first second : ℕ) (s t : Seat N) : Type 0 where

@@ -13,7 +13,7 @@ ghost use Rattle.orc_heap.specs.Seats.{HoldsFresh, HoldsPlace, HoldsTarget, Hold
 ghost use Rattle.orc_plain_domain.specs.Given.{IsLacking};
 ghost use Rattle.orc_plain_domain.specs.Passes.{IsPassOf, domain_bounds, domain_numbers, journal_of, next_row, rows_of, seat_of};
 ghost use Rattle.orc_plain_domain.specs.Turns.{IsNext};
-ghost use Rattle.orc_plain_board.specs.Words.{IsOut};
+ghost use Rattle.orc_plain_board.specs.Words.{IsListed};
 
 use crate::domain::{PlainDomain, PlainPass};
 use crate::names::{around, row_link, word_at};
@@ -76,7 +76,7 @@ impl<D: Discipline> Links for PlainDomain<D> {
         ensures none { IfErr result (λ e. Only [] (seat_of self.now p.old) (seat_of self.now p.new)) }
         ensures lacking { IfErr result (λ e. InPart (λ s. s.agent) (seat_of self.now p.old).agent (journal_of p.old) (journal_of p.new)
             (λ from to. IsLacking (domain_bounds self.now).rows (journal_of p.new) to)) }
-        ensures in_turn { IfOk result (λ h. IsNext (domain_bounds self.now).rows (next_row p.old) (IsOut (rows_of self.now p.new)) h.row) }
+        ensures in_turn { IfOk result (λ h. IsNext (domain_bounds self.now).rows (next_row p.old) (IsListed (rows_of self.now p.new)) h.row) }
         ensures next { IfOk result (λ h. next_row p.new ≡ (h.row + 1) % (domain_bounds self.now).rows) }
         ensures same_next { IfErr result (λ e. next_row p.new ≡ next_row p.old) }
     {

@@ -28,9 +28,9 @@ use Rattle.orc_board.specs.declared.replies.TakeReply.{TakeReply}
 use Rattle.orc_board.specs.declared.replies.TakeWord.{TakeWord}
 use Rattle.orc_board.specs.declared.replies.TakeWord.TheVariants as took
 use Rattle.orc_board.specs.Stretches.{Row, Share, View}
-use Rattle.orc_board.specs.Table.{HasValue, IsWordOf, JobPart, JobRow, answer_of}
+use Rattle.orc_board.specs.Table.{HasValue, IsWordOf, JobPart, JobRow, claim_answer}
 use Rattle.orc_history.specs.Lists.{Pairwise}
-use Rattle.orc_board.specs.Follows.{TookRow, by_key, taker_agent}
+use Rattle.orc_board.specs.Follows.{TookRow, grouped_by_key, taker_agent}
 use Rattle.orc_board.specs.Reportable.{IsClaim, claim_of, is_side, posted_by, posted_of, takes_with}
 use Rattle.orc_board.specs.Runs.{Ran}
 use Rattle.orc_board.proofs.ListFacts.{AllByRecursion-append, AllByRecursion-filter, AllByRecursion-left, AllByRecursion-map, AllByRecursion-right, eq-false, eq-no, eq-true, filter-none}
@@ -135,7 +135,7 @@ post_not_removed i j w (Asked a id answer) posted h = tt
 
 take_not_removed : (i j : ℕ) (w : TakeWord) (e : SetEntry) → (j ≡ i → w ≡ took.Void) → TakeSays j w e → NotRemoved i e
 take_not_removed i j w (Added a id answer) void h = tt
-take_not_removed i j w (Removed a id true) void h = λ is. let no : ⊥ = cc (h.1 ∙ ap answer_of (void (sym h.0 ∙ is))) in no
+take_not_removed i j w (Removed a id true) void h = λ is. let no : ⊥ = cc (h.1 ∙ ap claim_answer (void (sym h.0 ∙ is))) in no
 take_not_removed i j w (Removed a id false) void h = tt
 take_not_removed i j w (Asked a id answer) void h = tt
 
@@ -159,9 +159,9 @@ void_row : (lines : List Line) → PostTheirNumbers lines → (i t : ℕ) (r : T
     → AllByRecursion (λ e. agent_of_set_entry e ≡ 0 → NotMissed i e) row.set.own → r.what ≡ took.Void → r.line ≢ i
 void_row lines num i t r row z a void same_line =
     let id_is : z.table.id ≡ r.line = (numbered_job lines num r.rush r.line z.table.id z.table.job).1 in
-    let c : AllByRecursion (λ e. agent_of_set_entry e ≡ 0 → NotMissed i e) (Removed 0 z.table.id (answer_of r.what) ∷ []) =
+    let c : AllByRecursion (λ e. agent_of_set_entry e ≡ 0 → NotMissed i e) (Removed 0 z.table.id (claim_answer r.what) ∷ []) =
     subst (λ (x : Share SetEntry ListRefused). AllByRecursion (λ e. agent_of_set_entry e ≡ 0 → NotMissed i e) x.own) z.table.set a in
-    let d : NotMissed i (Removed 0 z.table.id false) = subst (λ (w : TakeWord). NotMissed i (Removed 0 z.table.id (answer_of w))) void (c.0 refl) in
+    let d : NotMissed i (Removed 0 z.table.id false) = subst (λ (w : TakeWord). NotMissed i (Removed 0 z.table.id (claim_answer w))) void (c.0 refl) in
     d (id_is ∙ same_line)
 
 -- a pair of line and position among those that were posted
@@ -388,7 +388,7 @@ module _ {A B : Type 0} (qs : Bool → View A QueueEntry QueueRefused) (s : View
         (subst (λ (z : List ℕ). IsPermutation z (map take_line takes)) (posted_lines posts all_posted) same_lines)
 
     -- the first lines are done
-    some_done : (m : ℕ) → m ≤ length lines → Pairwise IsJobOf (take m lines) (flat_map (done_in lines) (by_key take_line m takes))
+    some_done : (m : ℕ) → m ≤ length lines → Pairwise IsJobOf (take m lines) (flat_map (done_in lines) (grouped_by_key take_line m takes))
     some_done zero few = tt
     some_done (suc m) few =
         let low : m < length lines = omega (arith, few) in
@@ -408,12 +408,12 @@ module _ {A B : Type 0} (qs : Bool → View A QueueEntry QueueRefused) (s : View
         let line_there : slice_get lines m ≡ Some l = subst (λ (i : ℕ). slice_get lines i ≡ Some l) line_is found in
         let longer : take (suc m) lines ≡ take m lines ++ l ∷ [] =
         take-suc lines m l low ∙ ap (λ (z : Line). take m lines ++ z ∷ []) (get_or_from_slice_get lines m l l line_there) in
-        let more : flat_map (done_in lines) (by_key take_line (suc m) takes) ≡ flat_map (done_in lines) (by_key take_line m takes) ++ done_in lines r =
-        flat_map-append (done_in lines) (by_key take_line m takes) (filter (λ (x : TakeReply). x.line == m) takes)
-        ∙ ap (λ z. flat_map (done_in lines) (by_key take_line m takes) ++ z)
+        let more : flat_map (done_in lines) (grouped_by_key take_line (suc m) takes) ≡ flat_map (done_in lines) (grouped_by_key take_line m takes) ++ done_in lines r =
+        flat_map-append (done_in lines) (grouped_by_key take_line m takes) (filter (λ (x : TakeReply). x.line == m) takes)
+        ∙ ap (λ z. flat_map (done_in lines) (grouped_by_key take_line m takes) ++ z)
         (ap (flat_map (done_in lines)) alone ∙ append-nil (done_in lines r)) in
         rw (longer, more)
-        (pairwise_append IsJobOf (take m lines) (l ∷ []) (flat_map (done_in lines) (by_key take_line m takes)) (done_in lines r)
+        (pairwise_append IsJobOf (take m lines) (l ∷ []) (flat_map (done_in lines) (grouped_by_key take_line m takes)) (done_in lines r)
         (some_done m (omega (arith, few))) job)
 
     -- and so all are

@@ -6,7 +6,7 @@ use Rattle.std.specs.List.Sorted.{IsNonDecreasingBy, IsPermutation, IsStableByKe
 use Rattle.std.specs.Ordering.{nat_cmp}
 use Rattle.std.proofs.lemmas.List.Sorted.{All-permutation}
 use Rattle.std.specs.List.{AllByRecursion}
-use Rattle.orc_board.specs.Follows.{by_key}
+use Rattle.orc_board.specs.Follows.{grouped_by_key}
 use Rattle.orc_board.proofs.ListFacts.{eq-yes, AllByRecursion-append, AllByRecursion-filter, AllByRecursion-map}
 use Rattle.orc_board.proofs.Keyed.{same_keys}
 
@@ -33,19 +33,19 @@ none_at : {X : Type 0} (key : X → ℕ) (n : ℕ) (xs : List X) → AllByRecurs
 none_at key n [] h = refl
 none_at key n (x ∷ xs) h = let e : (key x == n) ≡ false = grind (arith, nat_tests, h.0) in rw e (none_at key n xs h.1)
 
-none_under : {X : Type 0} (key : X → ℕ) (n : ℕ) (xs : List X) → AllByRecursion (λ y. n ≤ key y) xs → by_key key n xs ≡ []
+none_under : {X : Type 0} (key : X → ℕ) (n : ℕ) (xs : List X) → AllByRecursion (λ y. n ≤ key y) xs → grouped_by_key key n xs ≡ []
 none_under key zero xs h = refl
 none_under key (suc n) xs h =
-    let low : by_key key n xs ≡ [] = none_under key n xs (AllByRecursion-map (λ y. suc n ≤ key y) (λ y. n ≤ key y) (λ y l. omega arith) xs h) in
+    let low : grouped_by_key key n xs ≡ [] = none_under key n xs (AllByRecursion-map (λ y. suc n ≤ key y) (λ y. n ≤ key y) (λ y l. omega arith) xs h) in
     let here : filter (λ y. key y == n) xs ≡ [] = none_at key n xs (AllByRecursion-map (λ y. suc n ≤ key y) (λ y. n < key y) (λ y l. omega arith) xs h) in
     rw (low, here) refl
 
 -- the item with the least key stands first
 first_out : {X : Type 0} (key : X → ℕ) (n : ℕ) (x : X) (xs : List X) → AllByRecursion (λ y. key x ≤ key y) xs → key x < n
-    → by_key key n (x ∷ xs) ≡ x ∷ by_key key n xs
+    → grouped_by_key key n (x ∷ xs) ≡ x ∷ grouped_by_key key n xs
 first_out key zero x xs h low = absurd (omega (arith, low))
 first_out {X} key (suc n) x xs h low =
-    elim (cases_lt (key x) n) as (λ _. by_key key (suc n) (x ∷ xs) ≡ x ∷ by_key key (suc n) xs) [
+    elim (cases_lt (key x) n) as (λ _. grouped_by_key key (suc n) (x ∷ xs) ≡ x ∷ grouped_by_key key (suc n) xs) [
       | inl l ↦
           let e : (key x == n) ≡ false = other (key x) n l in
           rw (e, first_out key n x xs h l) refl
@@ -53,12 +53,12 @@ first_out {X} key (suc n) x xs h low =
           let same : key x ≡ n = omega (arith, l, low) in
           let e : (key x == n) ≡ true = eq-yes (key x) n same in
           let above : AllByRecursion (λ y. n ≤ key y) xs = AllByRecursion-map (λ y. key x ≤ key y) (λ y. n ≤ key y) (λ y le. omega (arith, same)) xs h in
-          let none : by_key key n (x ∷ xs) ≡ [] = none_under key n (x ∷ xs) (omega (arith, same), above) in
-          let rest : by_key key n xs ≡ [] = none_under key n xs above in
+          let none : grouped_by_key key n (x ∷ xs) ≡ [] = none_under key n (x ∷ xs) (omega (arith, same), above) in
+          let rest : grouped_by_key key n xs ≡ [] = none_under key n xs above in
           rw (none, rest, e) refl
     ]
 
-pub by_key-sorted : {X : Type 0} (key : X → ℕ) (n : ℕ) (xs : List X) → Rises key xs → AllByRecursion (λ y. key y < n) xs → by_key key n xs ≡ xs
+pub by_key-sorted : {X : Type 0} (key : X → ℕ) (n : ℕ) (xs : List X) → Rises key xs → AllByRecursion (λ y. key y < n) xs → grouped_by_key key n xs ≡ xs
 by_key-sorted key zero [] up low = refl
 by_key-sorted key (suc n) [] up low = rw (by_key-sorted key n [] tt tt) refl
 by_key-sorted key n (x ∷ xs) up low = first_out key n x xs up.0 low.0 ∙ ap (λ z. x ∷ z) (by_key-sorted key n xs up.1 low.1)
@@ -77,7 +77,7 @@ ties-equal a b = grind (arith, nat_tests)
 
 -- a stable sort by a key below n
 pub by_key-stable : {X : Type 0} (key : X → ℕ) (n : ℕ) (of_key : ℕ → X) → ((k : ℕ) → key (of_key k) ≡ k) → (xs ys : List X)
-    → IsNonDecreasingBy key ys → IsStableByKey key nat_cmp xs ys → IsPermutation xs ys → AllByRecursion (λ x. key x < n) xs → ys ≡ by_key key n xs
+    → IsNonDecreasingBy key ys → IsStableByKey key nat_cmp xs ys → IsPermutation xs ys → AllByRecursion (λ x. key x < n) xs → ys ≡ grouped_by_key key n xs
 by_key-stable {X} key n of_key names xs ys up stable moved low =
     let tests : (k : ℕ) → (λ (x : X). key x == k) ≡ ties (λ y z. is_lt (nat_cmp (key y) (key z))) (of_key k) =
     λ k i x. sym (ties-equal (key (of_key k)) (key x) ∙ ap (λ z. key x == z) (names k)) i in
@@ -88,8 +88,8 @@ by_key-stable {X} key n of_key names xs ys up stable moved low =
     sym (by_key-sorted key n ys (Rises-from key ys up) few) ∙ same_keys key n ys xs at
 
 -- what holds of all holds in the order of keys
-pub AllByRecursion-by_key : {X : Type 0} (P : X → Type 0) (key : X → ℕ) (n : ℕ) (xs : List X) → AllByRecursion P xs → AllByRecursion P (by_key key n xs)
+pub AllByRecursion-by_key : {X : Type 0} (P : X → Type 0) (key : X → ℕ) (n : ℕ) (xs : List X) → AllByRecursion P xs → AllByRecursion P (grouped_by_key key n xs)
 AllByRecursion-by_key P key zero xs h = tt
 AllByRecursion-by_key P key (suc n) xs h =
-    AllByRecursion-append P (by_key key n xs) (filter (λ x. key x == n) xs) (AllByRecursion-by_key P key n xs h)
+    AllByRecursion-append P (grouped_by_key key n xs) (filter (λ x. key x == n) xs) (AllByRecursion-by_key P key n xs h)
     (AllByRecursion-filter P (λ x. key x == n) xs h)

@@ -15,7 +15,7 @@ use Rattle.orc_board.specs.declared.replies.PostWord.TheVariants as word
 use Rattle.orc_board.specs.declared.replies.TakeReply.{TakeReply}
 use Rattle.orc_board.specs.declared.replies.TakeWord.{TakeWord}
 use Rattle.orc_board.specs.Stretches.{MayStand, Row, Share, Stretch, View, all_beside, beside, is_own_answer, of_set}
-use Rattle.orc_board.specs.Table.{IsJob, IsWordOf, JobPart, JobRow, PostRow, answer_of}
+use Rattle.orc_board.specs.Table.{IsJob, IsWordOf, JobPart, JobRow, PostRow, claim_answer}
 use Rattle.orc_history.specs.Lists.{Pairwise}
 use Rattle.orc_board.specs.Follows.{IsWorker, PosterRow, TookRow, WorkersFollow, posts_of, taker_agent, takes_of}
 use Rattle.orc_board.proofs.Keyed.{by_key_below}
@@ -155,7 +155,7 @@ PostSays i w (Asked a id answer) = Unit {0}
 
 abbrev pub TakeSays : ℕ → TakeWord → SetEntry → Type 0
 TakeSays i w (Added a id answer) = ⊥
-TakeSays i w (Removed a id answer) = (id ≡ i) × (answer ≡ answer_of w)
+TakeSays i w (Removed a id answer) = (id ≡ i) × (answer ≡ claim_answer w)
 TakeSays i w (Asked a id answer) = ⊥
 
 not_busy : (at : ℕ) → word.Posted at ≢ word.Busy

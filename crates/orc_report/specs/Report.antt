@@ -5,8 +5,8 @@ use Rattle.std.specs.Option.{option_map_or}
 use Rattle.std.specs.Fmt.{decimal}
 use Rattle.orc_jobs.specs.declared.line.Line.{Line}
 use Rattle.orc_jobs.specs.declared.line.Line.TheVariants as line
-use Rattle.orc_jobs.specs.Line.{id_of}
-use Rattle.orc_board.specs.Follows.{by_key}
+use Rattle.orc_jobs.specs.Line.{line_id}
+use Rattle.orc_board.specs.Follows.{grouped_by_key}
 use Rattle.orc_board.specs.Reportable.{takes_with}
 use Rattle.orc_board.specs.declared.replies.PostReply.{PostReply}
 use Rattle.orc_board.specs.declared.replies.PostWord.{PostWord}
@@ -18,7 +18,7 @@ use Rattle.orc_report.specs.declared.report.RestNumbers.{RestNumbers}
 
 -- the id of the record with this number
 abbrev pub id_at : List Line → ℕ → ℕ
-id_at lines place = option_map_or id_of (slice_get lines place) 0
+id_at lines place = option_map_or line_id (slice_get lines place) 0
 
 -- what became of a job that was taken
 abbrev pub take_word : TakeWord → List ℕ
@@ -60,7 +60,7 @@ take_line r =
 
 -- the take replies, that of position 0 first
 abbrev pub by_position : List TakeReply → List TakeReply
-by_position takes = by_key (λ (r : TakeReply). r.at) (length takes) takes
+by_position takes = grouped_by_key (λ (r : TakeReply). r.at) (length takes) takes
 
 -- the lines of one queue: those of its positions, in order
 abbrev pub queue_lines : Bool → List Line → List TakeReply → List ℕ

@@ -2,12 +2,12 @@
 use Rattle.std.specs.Prelude.{◌++◌, Bool, false, true, not, List, [], ◌∷◌, ℕ, codes, filter, length, map, slice_get, sum, Option, Some, None}
 use Rattle.std.specs.List.{flat_map}
 use Rattle.std.specs.Fmt.{decimal}
-use Rattle.orc_jobs.specs.JobGrammar.{word_of}
+use Rattle.orc_jobs.specs.JobGrammar.{operation_word}
 use Rattle.orc_jobs.specs.declared.line.Job.{Job}
 use Rattle.orc_jobs.specs.declared.line.Job.TheVariants as job
 use Rattle.orc_jobs.specs.declared.line.Line.{Line}
 use Rattle.orc_jobs.specs.declared.line.Line.TheVariants as line
-use Rattle.orc_board.specs.Follows.{by_key}
+use Rattle.orc_board.specs.Follows.{grouped_by_key}
 use Rattle.orc_board.specs.declared.replies.TakeReply.{TakeReply}
 use Rattle.orc_board.specs.declared.replies.TakeWord.{TakeWord}
 use Rattle.orc_board.specs.declared.replies.TakeWord.TheVariants as take
@@ -26,7 +26,7 @@ done_in lines r = done_as (slice_get lines r.line) r.what
 
 -- the jobs that were done, in order of their records
 abbrev pub done_jobs : List Line → List TakeReply → List (Job × ℕ)
-done_jobs lines takes = flat_map (done_in lines) (by_key (λ (r : TakeReply). r.line) (length lines) takes)
+done_jobs lines takes = flat_map (done_in lines) (grouped_by_key (λ (r : TakeReply). r.line) (length lines) takes)
 
 abbrev pub same_op : Job → Job → Bool
 same_op job.Bytes job.Bytes = true
@@ -50,7 +50,7 @@ values_of op jobs = map (λ (j : Job × ℕ). j.1) (filter (λ (j : Job × ℕ).
 -- the line of an operation: how many jobs, and the sum of their values
 abbrev pub total_line : List (Job × ℕ) → Job → List ℕ
 total_line jobs op =
-    word_of op ++ codes " jobs " ++ decimal (length (values_of op jobs)) ++ codes " total " ++ decimal (sum (values_of op jobs)) ++ codes "\n"
+    operation_word op ++ codes " jobs " ++ decimal (length (values_of op jobs)) ++ codes " total " ++ decimal (sum (values_of op jobs)) ++ codes "\n"
 
 -- the summary of these jobs, operation by operation in order of the first job of each
 abbrev pub summary_of : List (Job × ℕ) → List ℕ

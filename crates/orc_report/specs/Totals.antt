@@ -1,7 +1,7 @@
 -- The totals of operations, as a summary keeps them.
 use Rattle.std.specs.Prelude.{◌++◌, List, ℕ, codes, length, map, sum}
 use Rattle.std.specs.Fmt.{decimal}
-use Rattle.orc_jobs.specs.JobGrammar.{word_of}
+use Rattle.orc_jobs.specs.JobGrammar.{operation_word}
 use Rattle.orc_jobs.specs.declared.line.Job.{Job}
 use Rattle.orc_jobs.specs.declared.line.Job.TheVariants as job
 use Rattle.orc_report.specs.Summary.{values_of}
@@ -23,4 +23,4 @@ operation_totals jobs ops = map (λ op. (key_of_operation op, total_of jobs op))
 
 -- the line of a total
 abbrev pub line_of : Total → List ℕ
-line_of t = word_of t.op ++ codes " jobs " ++ decimal t.jobs ++ codes " total " ++ decimal t.sum ++ codes "\n"
+line_of t = operation_word t.op ++ codes " jobs " ++ decimal t.jobs ++ codes " total " ++ decimal t.sum ++ codes "\n"

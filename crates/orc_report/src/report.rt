@@ -3,7 +3,7 @@ ghost use Rattle.std.specs.Prelude.{◌≡◌, ◌<◌, ◌++◌, IfOk, OnOk, co
 ghost use Rattle.std.specs.Option.{option_copied};
 ghost use Rattle.std.specs.List.{flat_map, AllByRecursion};
 ghost use Rattle.std.specs.String.{string_bytes};
-ghost use Rattle.orc_jobs.specs.Line.{id_of};
+ghost use Rattle.orc_jobs.specs.Line.{line_id};
 ghost use Rattle.orc_jobs.specs.GoodLines.{AreGood};
 ghost use Rattle.orc_board.specs.Reportable.{AreReportable, takes_with as of_queue};
 ghost use Rattle.orc_report.specs.Report.{by_position, board_line, board_row, take_line, report_of, rest_line, rest_lines};
@@ -157,7 +157,7 @@ fn push_takes(text: &mut String, takes: &[TakeReply]) -> Result<(), AllocError>
 
 // The id that a line names.
 fn id_of_line(line: &Line) -> u32
-    ensures { result ≡ id_of line.now }
+    ensures { result ≡ line_id line.now }
 {
     match line {
         Line::Post { id, .. } | Line::Rush { id, .. } | Line::Drop { id } => *id,

@@ -4,7 +4,7 @@ ghost use Rattle.std.specs.Option.{option_to_list};
 ghost use Rattle.std.specs.List.{AllByRecursion, flat_map};
 ghost use Rattle.std.specs.String.{string_bytes};
 ghost use Rattle.orc_jobs.specs.GoodLines.{AreGood};
-ghost use Rattle.orc_board.specs.Follows.{by_key};
+ghost use Rattle.orc_board.specs.Follows.{grouped_by_key};
 ghost use Rattle.orc_board.specs.Reportable.{AreReportable};
 ghost use Rattle.orc_report.specs.Summary.{done_as, done_in, done_jobs as jobs_done, firsts, operations_of, summary_of};
 ghost use Rattle.orc_report.specs.Totals.{operation_totals, key_of_operation as key, line_of, total_of as total};
@@ -74,7 +74,7 @@ fn in_record_order(
     takes: &[TakeReply],
 ) -> Result<Vec<TakeReply>, AllocError>
     requires { AllByRecursion (λ r. r.line < length lines.now) takes.now }
-    ensures { IfOk result (λ v. v.items ≡ by_key (λ r. r.line) (length lines.now) takes.now) }
+    ensures { IfOk result (λ v. v.items ≡ grouped_by_key (λ r. r.line) (length lines.now) takes.now) }
 {
     let mut ordered = Vec::from_slice(alloc, takes)?;
     ordered.sort_by_key(|r| r.line)?;

@@ -5,7 +5,7 @@ use Rattle.orc_history.specs.declared.queue.QueueEntry.{QueueEntry}
 use Rattle.orc_history.specs.declared.queue.QueueEntry.TheVariants.{Put, Took, Empty}
 use Rattle.orc_history.specs.QueueHistory.{agent_of_entry, puts_in}
 use Rattle.orc_board.specs.Stretches.{is_own_move}
-use Rattle.orc_board.specs.Follows.{by_key}
+use Rattle.orc_board.specs.Follows.{grouped_by_key}
 use Rattle.orc_board.proofs.ListFacts.{AllByRecursion-append, le-cases, eq-yes, eq-no}
 use Rattle.orc_stages.specs.Stage.{jobs_of}
 use Rattle.orc_stages.specs.Pipeline.{jobs_by}
@@ -76,16 +76,16 @@ puts_by_agents n (Took by job at ∷ es) below =
     ∙ sym (sum_same n (λ a. length (jobs_by true a (Took by job at ∷ es))) (λ a. length (jobs_by true a es)) (λ a low. took_counts by job at a es))
 puts_by_agents n (Empty by ∷ es) below = puts_by_agents n es below.1
 
-pub by_key_length : {X : Type 0} (key : X → ℕ) (n : ℕ) (xs : List X) → length (by_key key n xs) ≡ sum_to n (λ a. length (filter (λ x. key x == a) xs))
+pub by_key_length : {X : Type 0} (key : X → ℕ) (n : ℕ) (xs : List X) → length (grouped_by_key key n xs) ≡ sum_to n (λ a. length (filter (λ x. key x == a) xs))
 by_key_length key zero xs = refl
 by_key_length {X} key (suc n) xs =
-    omega (arith, by_key_length key n xs, length-append (by_key key n xs) (filter (λ (x : X). key x == n) xs))
+    omega (arith, by_key_length key n xs, length-append (grouped_by_key key n xs) (filter (λ (x : X). key x == n) xs))
 
 pub all_by_key : {X : Type 0} (P : X → Type 0) (key : X → ℕ) (n : ℕ) (xs : List X) → ((a : ℕ) → a < n → AllByRecursion P (filter (λ x. key x == a) xs))
-    → AllByRecursion P (by_key key n xs)
+    → AllByRecursion P (grouped_by_key key n xs)
 all_by_key P key zero xs h = tt
 all_by_key {X} P key (suc n) xs h =
-    AllByRecursion-append P (by_key key n xs) (filter (λ (x : X). key x == n) xs) (all_by_key P key n xs (λ a low. h a (omega (arith, low)))) (h n (omega arith))
+    AllByRecursion-append P (grouped_by_key key n xs) (filter (λ (x : X). key x == n) xs) (all_by_key P key n xs (λ a low. h a (omega (arith, low)))) (h n (omega arith))
 
 pub puts_counted : (es : List QueueEntry) → puts_in es ≡ length (jobs_of true es)
 puts_counted [] = refl

@@ -12,13 +12,13 @@ use Rattle.orc_jobs.specs.declared.line.Line.{Line}
 use Rattle.orc_board.specs.declared.replies.PostReply.{PostReply}
 use Rattle.orc_board.specs.declared.replies.PostWord.TheVariants as word
 use Rattle.orc_board.specs.Stretches.{View, is_own_move}
-use Rattle.orc_board.specs.Follows.{by_key, posts_of}
+use Rattle.orc_board.specs.Follows.{grouped_by_key, posts_of}
 use Rattle.orc_board.proofs.ListFacts.{AllByRecursion-append, AllByRecursion-map, AllByRecursion-left, AllByRecursion-right, filter-none, le-cases, eq-true, eq-false, zero_or}
 use Rattle.orc_board.proofs.Orders.{each_line}
 use Rattle.orc_board.proofs.WorkerCases.{own_whole}
 use Rattle.orc_workers.proofs.Learned.{zero_ended}
 use Rattle.orc_stages.specs.declared.replies.StageReply.{StageReply}
-use Rattle.orc_stages.specs.Stage.{QueueShare, DidShares, IsItem, Posting, MoveTable, froms, tos, jobs_of, own_of}
+use Rattle.orc_stages.specs.Stage.{QueueShare, DidShares, IsItem, Posting, MoveTable, froms, tos, jobs_of, own_of_shares}
 use Rattle.orc_stages.specs.Desks.{Acts, PosterActs, StageActs}
 use Rattle.orc_stages.specs.Pipeline.{jobs_by, kept_replies, lines_of, moves_of, Placing, PostersFollow, StageFollows, IsPipeline}
 use Rattle.orc_stages.specs.Ran.{Ran, in_run, unseen}
@@ -35,33 +35,33 @@ same_or a b =
 
 -- what a poster did in no queue but the first, and what it took
 posted_tooks : (lines : List Line) (posters agent : ℕ) (posts : List PostReply) (acts : ℕ → List QueueShare) → PosterActs lines posters agent posts acts → (i : ℕ)
-    → jobs_of false (own_of (acts i)) ≡ []
-posted_tooks lines posters agent posts acts w i = elim (same_or i 0) as (λ _. jobs_of false (own_of (acts i)) ≡ []) [
-  | inl e ↦ ap (λ (j : ℕ). jobs_of false (own_of (acts j))) e ∙ (posts_say lines agent posts (acts 0) w.table).no_tooks
-  | inr other ↦ ap (λ (s : List QueueShare). jobs_of false (own_of s)) (w.others i other)
+    → jobs_of false (own_of_shares (acts i)) ≡ []
+posted_tooks lines posters agent posts acts w i = elim (same_or i 0) as (λ _. jobs_of false (own_of_shares (acts i)) ≡ []) [
+  | inl e ↦ ap (λ (j : ℕ). jobs_of false (own_of_shares (acts j))) e ∙ (posts_say lines agent posts (acts 0) w.table).no_tooks
+  | inr other ↦ ap (λ (s : List QueueShare). jobs_of false (own_of_shares s)) (w.others i other)
 ]
 
 posted_puts : (lines : List Line) (posters agent : ℕ) (posts : List PostReply) (acts : ℕ → List QueueShare) → PosterActs lines posters agent posts acts → (i : ℕ)
-    → i ≢ 0 → jobs_of true (own_of (acts i)) ≡ []
-posted_puts lines posters agent posts acts w i other = ap (λ (s : List QueueShare). jobs_of true (own_of s)) (w.others i other)
+    → i ≢ 0 → jobs_of true (own_of_shares (acts i)) ≡ []
+posted_puts lines posters agent posts acts w i other = ap (λ (s : List QueueShare). jobs_of true (own_of_shares s)) (w.others i other)
 
 -- what a stage took but from its queue, and what it put but into the next
 moved_tooks : (lines : List Line) (place stage agent : ℕ) (moves : List StageReply) (acts : ℕ → List QueueShare) → StageActs lines place stage agent moves acts
-    → (i : ℕ) → i ≢ place → jobs_of false (own_of (acts i)) ≡ []
-moved_tooks lines place stage agent moves acts w i other = elim (same_or i (suc place)) as (λ _. jobs_of false (own_of (acts i)) ≡ []) [
+    → (i : ℕ) → i ≢ place → jobs_of false (own_of_shares (acts i)) ≡ []
+moved_tooks lines place stage agent moves acts w i other = elim (same_or i (suc place)) as (λ _. jobs_of false (own_of_shares (acts i)) ≡ []) [
   | inl e ↦
-      ap (λ (j : ℕ). jobs_of false (own_of (acts j))) e
-      ∙ (ap (λ (s : List QueueShare). jobs_of false (own_of s)) w.to ∙ to_jobs lines stage agent moves w.rows w.table false)
-  | inr more ↦ ap (λ (s : List QueueShare). jobs_of false (own_of s)) (w.others i other more)
+      ap (λ (j : ℕ). jobs_of false (own_of_shares (acts j))) e
+      ∙ (ap (λ (s : List QueueShare). jobs_of false (own_of_shares s)) w.to ∙ to_jobs lines stage agent moves w.rows w.table false)
+  | inr more ↦ ap (λ (s : List QueueShare). jobs_of false (own_of_shares s)) (w.others i other more)
 ]
 
 moved_puts : (lines : List Line) (place stage agent : ℕ) (moves : List StageReply) (acts : ℕ → List QueueShare) → StageActs lines place stage agent moves acts
-    → (i : ℕ) → i ≢ suc place → jobs_of true (own_of (acts i)) ≡ []
-moved_puts lines place stage agent moves acts w i other = elim (same_or i place) as (λ _. jobs_of true (own_of (acts i)) ≡ []) [
+    → (i : ℕ) → i ≢ suc place → jobs_of true (own_of_shares (acts i)) ≡ []
+moved_puts lines place stage agent moves acts w i other = elim (same_or i place) as (λ _. jobs_of true (own_of_shares (acts i)) ≡ []) [
   | inl e ↦
-      ap (λ (j : ℕ). jobs_of true (own_of (acts j))) e
-      ∙ (ap (λ (s : List QueueShare). jobs_of true (own_of s)) w.from ∙ from_puts lines stage agent moves w.rows w.table)
-  | inr more ↦ ap (λ (s : List QueueShare). jobs_of true (own_of s)) (w.others i more other)
+      ap (λ (j : ℕ). jobs_of true (own_of_shares (acts j))) e
+      ∙ (ap (λ (s : List QueueShare). jobs_of true (own_of_shares s)) w.from ∙ from_puts lines stage agent moves w.rows w.table)
+  | inr more ↦ ap (λ (s : List QueueShare). jobs_of true (own_of_shares s)) (w.others i more other)
 ]
 
 -- shares of two kinds, one after another
@@ -104,8 +104,8 @@ module _ {A : Type 0} (x : ℕ → View A QueueEntry QueueRefused) (lines : List
   h i = (x i).history (k i)
 
   -- an agent's own moves in each queue
-  own_acts : (a : ℕ) (acts : ℕ → List QueueShare) → Acts X a acts unseen k → (i : ℕ) → filter (is_own_move a) (h i) ≡ own_of (acts i)
-  own_acts a acts c i = own_whole (X i) a (own_of (acts i)) (k i) (ran.new i) (shares_stretch (X i) a (acts i) [] (k i) (c i))
+  own_acts : (a : ℕ) (acts : ℕ → List QueueShare) → Acts X a acts unseen k → (i : ℕ) → filter (is_own_move a) (h i) ≡ own_of_shares (acts i)
+  own_acts a acts c i = own_whole (X i) a (own_of_shares (acts i)) (k i) (ran.new i) (shares_stretch (X i) a (acts i) [] (k i) (c i))
 
   jobs_above : (put : Bool) (a i : ℕ) → posters + stages < a → jobs_by put a (h i) ≡ []
   jobs_above put a i above =
@@ -154,48 +154,48 @@ module _ {A : Type 0} (x : ℕ → View A QueueEntry QueueRefused) (lines : List
   abbrev took : ℕ → List QueueShare
   took = ran.caller.took
 
-  caller_jobs : (put : Bool) (i : ℕ) → jobs_by put 0 (h i) ≡ jobs_of put (own_of (gave i)) ++ jobs_of put (own_of (took i))
+  caller_jobs : (put : Bool) (i : ℕ) → jobs_by put 0 (h i) ≡ jobs_of put (own_of_shares (gave i)) ++ jobs_of put (own_of_shares (took i))
   caller_jobs put i =
       ap (jobs_of put) (own_acts 0 (λ j. gave j ++ took j) ran.caller.acted i ∙ own_of-append (gave i) (took i))
-      ∙ jobs_of-append put (own_of (gave i)) (own_of (took i))
+      ∙ jobs_of-append put (own_of_shares (gave i)) (own_of_shares (took i))
 
   caller_table : (i : ℕ) → i < stages → MoveTable lines (suc i) 0 (own i) (ran.caller.acts.rows i)
   caller_table i low =
       let e : 1 + i ≡ suc i = omega arith in
       subst (λ (n : ℕ). MoveTable lines n 0 (own i) (ran.caller.acts.rows i)) e (ran.caller.acts.table i low)
 
-  gave_tooks : (i : ℕ) → i ≤ stages → jobs_of false (own_of (gave i)) ≡ []
-  gave_tooks zero low = ap (λ (s : List QueueShare). jobs_of false (own_of s)) ran.caller.acts.none_first
+  gave_tooks : (i : ℕ) → i ≤ stages → jobs_of false (own_of_shares (gave i)) ≡ []
+  gave_tooks zero low = ap (λ (s : List QueueShare). jobs_of false (own_of_shares s)) ran.caller.acts.none_first
   gave_tooks (suc i) low =
       let less : i < stages = omega (arith, low) in
-      ap (λ (s : List QueueShare). jobs_of false (own_of s)) (ran.caller.acts.to i less)
+      ap (λ (s : List QueueShare). jobs_of false (own_of_shares s)) (ran.caller.acts.to i less)
       ∙ to_jobs lines (suc i) 0 (own i) (ran.caller.acts.rows i) (caller_table i less) false
 
-  took_puts : (i : ℕ) → i ≤ stages → jobs_of true (own_of (took i)) ≡ []
-  took_puts i low = elim (le-cases stages i) as (λ _. jobs_of true (own_of (took i)) ≡ []) [
+  took_puts : (i : ℕ) → i ≤ stages → jobs_of true (own_of_shares (took i)) ≡ []
+  took_puts i low = elim (le-cases stages i) as (λ _. jobs_of true (own_of_shares (took i)) ≡ []) [
     | inl high ↦
         let is : i ≡ stages = omega (arith, low, high) in
-        ap (λ (n : ℕ). jobs_of true (own_of (took n))) is ∙ ran.caller.acts.puts
+        ap (λ (n : ℕ). jobs_of true (own_of_shares (took n))) is ∙ ran.caller.acts.puts
     | inr less ↦
-        ap (λ (s : List QueueShare). jobs_of true (own_of s)) (ran.caller.acts.from i less)
+        ap (λ (s : List QueueShare). jobs_of true (own_of_shares s)) (ran.caller.acts.from i less)
         ∙ from_puts lines (suc i) 0 (own i) (ran.caller.acts.rows i) (caller_table i less)
   ]
 
-  caller_tooks : (i : ℕ) → i ≤ stages → jobs_by false 0 (h i) ≡ jobs_of false (own_of (took i))
-  caller_tooks i low = caller_jobs false i ∙ ap (λ z. z ++ jobs_of false (own_of (took i))) (gave_tooks i low)
+  caller_tooks : (i : ℕ) → i ≤ stages → jobs_by false 0 (h i) ≡ jobs_of false (own_of_shares (took i))
+  caller_tooks i low = caller_jobs false i ∙ ap (λ z. z ++ jobs_of false (own_of_shares (took i))) (gave_tooks i low)
 
   caller_puts : (i : ℕ) → i < stages → jobs_by true 0 (h (suc i)) ≡ kept_replies (own i)
   caller_puts i low =
       caller_jobs true (suc i)
-      ∙ (ap (λ z. jobs_of true (own_of (gave (suc i))) ++ z) (took_puts (suc i) (omega (arith, low)))
-      ∙ (append-nil (jobs_of true (own_of (gave (suc i))))
-      ∙ (ap (λ (s : List QueueShare). jobs_of true (own_of s)) (ran.caller.acts.to i low)
+      ∙ (ap (λ z. jobs_of true (own_of_shares (gave (suc i))) ++ z) (took_puts (suc i) (omega (arith, low)))
+      ∙ (append-nil (jobs_of true (own_of_shares (gave (suc i))))
+      ∙ (ap (λ (s : List QueueShare). jobs_of true (own_of_shares s)) (ran.caller.acts.to i low)
       ∙ to_jobs lines (suc i) 0 (own i) (ran.caller.acts.rows i) (caller_table i low) true)))
 
   caller_first : jobs_by true 0 (h 0) ≡ []
   caller_first =
       caller_jobs true 0
-      ∙ (ap (λ z. z ++ jobs_of true (own_of (took 0))) (ap (λ (s : List QueueShare). jobs_of true (own_of s)) ran.caller.acts.none_first)
+      ∙ (ap (λ z. z ++ jobs_of true (own_of_shares (took 0))) (ap (λ (s : List QueueShare). jobs_of true (own_of_shares s)) ran.caller.acts.none_first)
       ∙ took_puts 0 (omega arith))
 
   -- nobody but posters puts into the first queue
@@ -225,7 +225,7 @@ module _ {A : Type 0} (x : ℕ → View A QueueEntry QueueRefused) (lines : List
       let d = ran.moved i low in
       jobs_two true w (h (suc i)) (ran.zero_last (suc i)) (worker_not i) (no_puts i)
       ∙ (ap (λ z. z ++ jobs_by true 0 (h (suc i)))
-      (ap (jobs_of true) (own_acts w d.acts d.acted (suc i) ∙ ap own_of d.wrote.to) ∙ to_jobs lines (suc i) w (work i) d.wrote.rows d.wrote.table true)
+      (ap (jobs_of true) (own_acts w d.acts d.acted (suc i) ∙ ap own_of_shares d.wrote.to) ∙ to_jobs lines (suc i) w (work i) d.wrote.rows d.wrote.table true)
       ∙ (ap (λ z. kept_replies (work i) ++ z) (caller_puts i low) ∙ sym (kept-append (work i) (own i))))
 
   -- all jobs that are put are numbers of lines that post one
@@ -271,13 +271,13 @@ module _ {A : Type 0} (x : ℕ → View A QueueEntry QueueRefused) (lines : List
       let d = ran.moved i low in
       let two = jobs_two false w (h i) (ran.zero_last i) (worker_not i) (no_tooks i) in
       let both : AllByRecursion (IsItem lines) (jobs_by false w (h i) ++ jobs_by false 0 (h i)) = subst (AllByRecursion (IsItem lines)) two (took_items i up) in
-      let worker : jobs_by false w (h i) ≡ jobs_of false (own_of (froms d.wrote.rows)) =
-      ap (jobs_of false) (own_acts w d.acts d.acted i ∙ ap own_of d.wrote.from) in
-      let of_worker : AllByRecursion (IsItem lines) (jobs_of false (own_of (froms d.wrote.rows))) =
+      let worker : jobs_by false w (h i) ≡ jobs_of false (own_of_shares (froms d.wrote.rows)) =
+      ap (jobs_of false) (own_acts w d.acts d.acted i ∙ ap own_of_shares d.wrote.from) in
+      let of_worker : AllByRecursion (IsItem lines) (jobs_of false (own_of_shares (froms d.wrote.rows))) =
       subst (AllByRecursion (IsItem lines)) worker (AllByRecursion-left (IsItem lines) (jobs_by false w (h i)) (jobs_by false 0 (h i)) both) in
-      let caller : jobs_by false 0 (h i) ≡ jobs_of false (own_of (froms (ran.caller.acts.rows i))) =
-      caller_tooks i up ∙ ap (λ (s : List QueueShare). jobs_of false (own_of s)) (ran.caller.acts.from i low) in
-      let of_caller : AllByRecursion (IsItem lines) (jobs_of false (own_of (froms (ran.caller.acts.rows i)))) =
+      let caller : jobs_by false 0 (h i) ≡ jobs_of false (own_of_shares (froms (ran.caller.acts.rows i))) =
+      caller_tooks i up ∙ ap (λ (s : List QueueShare). jobs_of false (own_of_shares s)) (ran.caller.acts.from i low) in
+      let of_caller : AllByRecursion (IsItem lines) (jobs_of false (own_of_shares (froms (ran.caller.acts.rows i)))) =
       subst (AllByRecursion (IsItem lines)) caller (AllByRecursion-right (IsItem lines) (jobs_by false w (h i)) (jobs_by false 0 (h i)) both) in
       two
       ∙ (ap (λ z. z ++ jobs_by false 0 (h i)) (worker ∙ from_jobs lines (suc i) w (work i) d.wrote.rows d.wrote.table of_worker)
@@ -453,7 +453,7 @@ module _ {A : Type 0} (x : ℕ → View A QueueEntry QueueRefused) (lines : List
       }
 
   -- the whole pipeline
-  pub pipeline_of : (moves : List StageReply) → moves ≡ by_key (λ (r : StageReply). r.stage) (suc stages) moves
+  pub pipeline_of : (moves : List StageReply) → moves ≡ grouped_by_key (λ (r : StageReply). r.stage) (suc stages) moves
       → ((i : ℕ) → i < stages → moves_of (suc i) moves ≡ work i ++ own i) → IsPipeline x lines posters stages posts moves outs k
   pipeline_of moves in_order are = record {
     legal = λ i low. ran.legal i;

@@ -16,7 +16,7 @@ use Rattle.orc_history.specs.Lists.{Pairwise}
 use Rattle.orc_board.proofs.Shares.{DidAll-before}
 use Rattle.orc_board.proofs.Positions.{ManyPuts}
 use Rattle.orc_stages.specs.declared.replies.StageReply.{StageReply}
-use Rattle.orc_stages.specs.Stage.{QueueShare, DidShares, StageRow, tos, PutOf, PostPart, IsPostShare, MoveTable, own_of}
+use Rattle.orc_stages.specs.Stage.{QueueShare, DidShares, StageRow, tos, PutOf, PostPart, IsPostShare, MoveTable, own_of_shares}
 use Rattle.orc_stages.specs.Pipeline.{PlacePart, Placing}
 use Rattle.orc_stages.proofs.Shares.{self, shares_stretch}
 
@@ -39,7 +39,7 @@ pub have_positions : {A : Type 0} (y : View A QueueEntry QueueRefused) → ManyP
     → DidShares y agent shares j k → puts_in (y.history k) < 2 ^ 62 → AllByRecursion HasPosition shares
 have_positions y many agent [] j k c few = tt
 have_positions y many agent (share ∷ shares) j k (i, one, c) few =
-    let before : puts_in (y.history i) ≤ puts_in (y.history k) = puts_later y agent (own_of shares) i k (shares_stretch y agent shares i k c) in (
+    let before : puts_in (y.history i) ≤ puts_in (y.history k) = puts_later y agent (own_of_shares shares) i k (shares_stretch y agent shares i k c) in (
       no_refusal y many agent share.refused j i one.licence (omega (arith, before, few)),
       have_positions y many agent shares i k c few,
     )

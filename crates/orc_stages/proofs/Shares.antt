@@ -8,7 +8,7 @@ use Rattle.orc_board.specs.Stretches.{View, Kind, Share, Stretch, Did, DidAll, o
 use Rattle.orc_board.specs.Table.{EndsWith, took_of}
 use Rattle.orc_board.proofs.Shares.{Did-just, Did-nothing, DidAll-before, DidAll-more, DidAll-snoc, DidAll-stretch, own_of_rows}
 use Rattle.orc_board.proofs.CallStretches.{ends_later}
-use Rattle.orc_stages.specs.Stage.{QueueShare, DidShares, TookAlone, jobs_of, own_of}
+use Rattle.orc_stages.specs.Stage.{QueueShare, DidShares, TookAlone, jobs_of, own_of_shares}
 
 -- what was done, and then more
 DidAll-append : {A E W X : Type 0} (kind : Kind E) (x : View A E W) (agent : ℕ) (share : X → Share E W) (rows more : List X) (j k l : List A)
@@ -31,16 +31,16 @@ pub shares_one : {A : Type 0} (x : View A QueueEntry QueueRefused) (agent : ℕ)
 shares_one x agent share j k d = (k, d, Did-nothing of_queue x agent k)
 
 -- own entries of shares
-pub own_of-append : (xs ys : List QueueShare) → own_of (xs ++ ys) ≡ own_of xs ++ own_of ys
+pub own_of-append : (xs ys : List QueueShare) → own_of_shares (xs ++ ys) ≡ own_of_shares xs ++ own_of_shares ys
 own_of-append [] ys = refl
-own_of-append (x ∷ xs) ys = ap (λ z. x.own ++ z) (own_of-append xs ys) ∙ sym (append_assoc x.own (own_of xs) (own_of ys))
+own_of-append (x ∷ xs) ys = ap (λ z. x.own ++ z) (own_of-append xs ys) ∙ sym (append_assoc x.own (own_of_shares xs) (own_of_shares ys))
 
-rows_own : (shares : List QueueShare) → own_of_rows self shares ≡ own_of shares
+rows_own : (shares : List QueueShare) → own_of_rows self shares ≡ own_of_shares shares
 rows_own [] = refl
 rows_own (x ∷ xs) = ap (λ z. x.own ++ z) (rows_own xs)
 
 pub shares_stretch : {A : Type 0} (x : View A QueueEntry QueueRefused) (agent : ℕ) (shares : List QueueShare) (j k : List A)
-    → DidShares x agent shares j k → Stretch of_queue x agent (own_of shares) j k
+    → DidShares x agent shares j k → Stretch of_queue x agent (own_of_shares shares) j k
 shares_stretch x agent shares j k c =
     subst (λ (own : List QueueEntry). Stretch of_queue x agent own j k) (rows_own shares) (DidAll-stretch of_queue x agent self shares j k c)
 
@@ -48,7 +48,7 @@ shares_stretch x agent shares j k c =
 pub shares_last : {A : Type 0} (x : View A QueueEntry QueueRefused) (agent now : ℕ) (shares : List QueueShare) (j k l : List A)
     → DidShares x agent shares j k → now ≡ agent → EndsWith x now (Empty now) k l → EndsWith x agent (Empty agent) j l
 shares_last x agent now shares j k l c e ends =
-    ends_later x agent (Empty agent) (own_of shares) j k l (shares_stretch x agent shares j k c)
+    ends_later x agent (Empty agent) (own_of_shares shares) j k l (shares_stretch x agent shares j k c)
     (subst (λ (z : ℕ). EndsWith x z (Empty z) k l) e ends)
 
 pub jobs_of-append : (put : Bool) (xs ys : List QueueEntry) → jobs_of put (xs ++ ys) ≡ jobs_of put xs ++ jobs_of put ys
@@ -81,12 +81,12 @@ pub taking_more : {A : Type 0} (x : View A QueueEntry QueueRefused) (agent job a
     → TookAlone x agent outs j k → now ≡ agent → got ≡ Some (job, at) → Stretch of_queue x now (took_of now got) k l → TookAlone x agent (outs ++ job ∷ []) j l
 taking_more x agent job at now got outs j k l t e is took =
     let share : QueueShare = just (Took agent job at ∷ []) in
-    let own : own_of (t.shares ++ share ∷ []) ≡ own_of t.shares ++ Took agent job at ∷ [] = own_of-append t.shares (share ∷ []) in
+    let own : own_of_shares (t.shares ++ share ∷ []) ≡ own_of_shares t.shares ++ Took agent job at ∷ [] = own_of-append t.shares (share ∷ []) in
     record {
       shares = t.shares ++ share ∷ [];
       did = DidAll-snoc of_queue x agent self t.shares share j k l t.did (took_now x agent job at now got k l e is took);
-      tooks = ap (jobs_of false) own ∙ (jobs_of-append false (own_of t.shares) (Took agent job at ∷ []) ∙ ap (λ z. z ++ job ∷ []) t.tooks);
-      puts = ap (jobs_of true) own ∙ (jobs_of-append true (own_of t.shares) (Took agent job at ∷ []) ∙ ap (λ z. z ++ []) t.puts);
+      tooks = ap (jobs_of false) own ∙ (jobs_of-append false (own_of_shares t.shares) (Took agent job at ∷ []) ∙ ap (λ z. z ++ job ∷ []) t.tooks);
+      puts = ap (jobs_of true) own ∙ (jobs_of-append true (own_of_shares t.shares) (Took agent job at ∷ []) ∙ ap (λ z. z ++ []) t.puts);
     }
 
 pub taking_end : {A : Type 0} (x : View A QueueEntry QueueRefused) (agent now : ℕ) (got : Option (ℕ × ℕ)) (outs : List ℕ) (j k l : List A)

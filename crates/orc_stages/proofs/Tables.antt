@@ -10,7 +10,7 @@ use Rattle.orc_board.specs.declared.replies.PostWord.TheVariants as word
 use Rattle.orc_history.specs.Lists.{Pairwise}
 use Rattle.orc_board.proofs.ListFacts.{AllByRecursion-append}
 use Rattle.orc_stages.specs.declared.replies.StageReply.{StageReply}
-use Rattle.orc_stages.specs.Stage.{QueueShare, StageRow, froms, tos, IsItem, ItemPart, PostPart, IsPostShare, PutOf, MoveTable, jobs_of, own_of}
+use Rattle.orc_stages.specs.Stage.{QueueShare, StageRow, froms, tos, IsItem, ItemPart, PostPart, IsPostShare, PutOf, MoveTable, jobs_of, own_of_shares}
 use Rattle.orc_stages.specs.Pipeline.{kept_replies, kept_one, lines_of}
 use Rattle.orc_stages.proofs.Shares.{jobs_of-append}
 
@@ -24,42 +24,42 @@ put_jobs agent l stage job (Some value) to p false = rw p.1 refl
 
 -- of a table the Puts are those of the replies that found a place, and there are no Tooks
 pub to_jobs : (lines : List Line) (stage agent : ℕ) (rs : List StageReply) (rows : List StageRow) → MoveTable lines stage agent rs rows → (b : Bool)
-    → jobs_of b (own_of (tos rows)) ≡ cond b (kept_replies rs) []
+    → jobs_of b (own_of_shares (tos rows)) ≡ cond b (kept_replies rs) []
 to_jobs lines stage agent rs [] t true = sym (ap kept_replies t)
 to_jobs lines stage agent rs [] t false = refl
-to_jobs lines stage agent rs (row ∷ rows) t b = elim t as (λ _. jobs_of b (own_of (tos (row ∷ rows))) ≡ cond b (kept_replies rs) []) [
+to_jobs lines stage agent rs (row ∷ rows) t b = elim t as (λ _. jobs_of b (own_of_shares (tos (row ∷ rows))) ≡ cond b (kept_replies rs) []) [
   | inl skip ↦ rw skip.0.to (to_jobs lines stage agent rs rows skip.1 b)
   | inr one ↦
       let here = put_jobs agent one.3.item.line stage one.0.line one.0.value row.to one.3.to in
       let more = to_jobs lines stage agent one.1 rows one.4 in
       let both : (c : Bool) → cond c (kept_one one.0.line one.0.value) [] ++ cond c (kept_replies one.1) [] ≡ cond c (kept_replies rs) [] =
       elim [ true ↦ sym (ap kept_replies one.2) | false ↦ refl ] in
-      jobs_of-append b row.to.own (own_of (tos rows))
-      ∙ (ap (λ z. z ++ jobs_of b (own_of (tos rows))) (here b)
+      jobs_of-append b row.to.own (own_of_shares (tos rows))
+      ∙ (ap (λ z. z ++ jobs_of b (own_of_shares (tos rows))) (here b)
       ∙ (ap (λ z. cond b (kept_one one.0.line one.0.value) [] ++ z) (more b) ∙ both b))
 ]
 
 -- and where all taken jobs are numbers of lines that post one, the Tooks are those of the replies
 pub from_jobs : (lines : List Line) (stage agent : ℕ) (rs : List StageReply) (rows : List StageRow) → MoveTable lines stage agent rs rows
-    → AllByRecursion (IsItem lines) (jobs_of false (own_of (froms rows))) → jobs_of false (own_of (froms rows)) ≡ lines_of rs
+    → AllByRecursion (IsItem lines) (jobs_of false (own_of_shares (froms rows))) → jobs_of false (own_of_shares (froms rows)) ≡ lines_of rs
 from_jobs lines stage agent rs [] t items = sym (ap lines_of t)
 from_jobs lines stage agent rs (row ∷ rows) t items =
-    elim t as (λ _. jobs_of false (own_of (froms (row ∷ rows))) ≡ lines_of rs) [
+    elim t as (λ _. jobs_of false (own_of_shares (froms (row ∷ rows))) ≡ lines_of rs) [
       | inl skip ↦
-          let bad : AllByRecursion (IsItem lines) (skip.0.job ∷ jobs_of false (own_of (froms rows))) =
-          subst (λ (x : QueueShare). AllByRecursion (IsItem lines) (jobs_of false (x.own ++ own_of (froms rows)))) skip.0.from items in
+          let bad : AllByRecursion (IsItem lines) (skip.0.job ∷ jobs_of false (own_of_shares (froms rows))) =
+          subst (λ (x : QueueShare). AllByRecursion (IsItem lines) (jobs_of false (x.own ++ own_of_shares (froms rows)))) skip.0.from items in
           absurd (skip.0.no_item.none bad.0.line bad.0.is bad.0.posts)
       | inr one ↦
-          let here : AllByRecursion (IsItem lines) (one.0.line ∷ jobs_of false (own_of (froms rows))) =
-          subst (λ (x : QueueShare). AllByRecursion (IsItem lines) (jobs_of false (x.own ++ own_of (froms rows)))) one.3.from items in
+          let here : AllByRecursion (IsItem lines) (one.0.line ∷ jobs_of false (own_of_shares (froms rows))) =
+          subst (λ (x : QueueShare). AllByRecursion (IsItem lines) (jobs_of false (x.own ++ own_of_shares (froms rows)))) one.3.from items in
           rw one.3.from (ap (λ z. one.0.line ∷ z) (from_jobs lines stage agent one.1 rows one.4 here.1) ∙ sym (ap lines_of one.2))
     ]
 
 -- a stage puts nothing into the queue that it takes from
 pub from_puts : (lines : List Line) (stage agent : ℕ) (rs : List StageReply) (rows : List StageRow) → MoveTable lines stage agent rs rows
-    → jobs_of true (own_of (froms rows)) ≡ []
+    → jobs_of true (own_of_shares (froms rows)) ≡ []
 from_puts lines stage agent rs [] t = refl
-from_puts lines stage agent rs (row ∷ rows) t = elim t as (λ _. jobs_of true (own_of (froms (row ∷ rows))) ≡ []) [
+from_puts lines stage agent rs (row ∷ rows) t = elim t as (λ _. jobs_of true (own_of_shares (froms (row ∷ rows))) ≡ []) [
   | inl skip ↦ rw skip.0.from (from_puts lines stage agent rs rows skip.1)
   | inr one ↦ rw one.3.from (from_puts lines stage agent one.1 rows one.4)
 ]
@@ -125,7 +125,7 @@ pub record PostsSay (lines : List Line) (replies : ℕ) (own : List QueueEntry) 
   pub few : length (jobs_of true own) ≤ replies
 
 pub posts_say : (lines : List Line) (poster : ℕ) (rs : List PostReply) (shares : List QueueShare) → Pairwise (IsPostShare lines poster) rs shares
-    → PostsSay lines (length rs) (own_of shares)
+    → PostsSay lines (length rs) (own_of_shares shares)
 posts_say lines poster [] [] h = record { no_tooks = refl; items = tt; few = omega arith }
 posts_say lines poster [] (s ∷ shares) h = absurd h
 posts_say lines poster (r ∷ rs) [] h = absurd h
@@ -133,14 +133,14 @@ posts_say lines poster (r ∷ rs) (s ∷ shares) h =
     let one = post_says lines poster r.line h.0.line r.what s h.0.is h.0.part in
     let rest = posts_say lines poster rs shares h.1 in
     record {
-      no_tooks = jobs_of-append false s.own (own_of shares) ∙ (ap (λ z. z ++ jobs_of false (own_of shares)) one.no_tooks ∙ rest.no_tooks);
-      items = subst (AllByRecursion (IsItem lines)) (sym (jobs_of-append true s.own (own_of shares)))
-          (AllByRecursion-append (IsItem lines) (jobs_of true s.own) (jobs_of true (own_of shares)) one.items rest.items);
+      no_tooks = jobs_of-append false s.own (own_of_shares shares) ∙ (ap (λ z. z ++ jobs_of false (own_of_shares shares)) one.no_tooks ∙ rest.no_tooks);
+      items = subst (AllByRecursion (IsItem lines)) (sym (jobs_of-append true s.own (own_of_shares shares)))
+          (AllByRecursion-append (IsItem lines) (jobs_of true s.own) (jobs_of true (own_of_shares shares)) one.items rest.items);
       few = omega (
         arith,
         one.few,
         rest.few,
-        ap length (jobs_of-append true s.own (own_of shares)),
-        length-append (jobs_of true s.own) (jobs_of true (own_of shares)),
+        ap length (jobs_of-append true s.own (own_of_shares shares)),
+        length-append (jobs_of true s.own) (jobs_of true (own_of_shares shares)),
       );
     }

@@ -9,7 +9,7 @@ use Rattle.orc_board.specs.Stretches.{queue_view}
 use Rattle.orc_board.specs.Table.{EndsWith}
 use Rattle.orc_stages.specs.declared.replies.StageReply.{StageReply}
 use Rattle.orc_stages.specs.Team.{StageWorker}
-use Rattle.orc_stages.specs.Stage.{QueueShare, DidShares, StageRow, froms, tos, MoveTable, jobs_of, own_of}
+use Rattle.orc_stages.specs.Stage.{QueueShare, DidShares, StageRow, froms, tos, MoveTable, jobs_of, own_of_shares}
 use Rattle.orc_stages.specs.Desks.{Acts, view_at, seen_at}
 
 -- the worker with these replies more, within the room that it had
@@ -42,8 +42,8 @@ pub record CallerActs (lines : List Line) (stage stages agent : ℕ) (more : ℕ
   pub none_first : gave 0 ≡ []
   pub from : (i : ℕ) → i < stages → took i ≡ froms (rows i)
   pub to : (i : ℕ) → i < stages → gave (suc i) ≡ tos (rows i)
-  pub tooks : jobs_of false (own_of (took stages)) ≡ outs
-  pub puts : jobs_of true (own_of (took stages)) ≡ []
+  pub tooks : jobs_of false (own_of_shares (took stages)) ≡ outs
+  pub puts : jobs_of true (own_of_shares (took stages)) ≡ []
 
 -- the caller moved what was left for these workers, the stages from this number on, and took what came out; each queue was found
 -- empty unless the room was used up

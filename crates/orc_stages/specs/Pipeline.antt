@@ -13,7 +13,7 @@ use Rattle.orc_board.specs.declared.replies.PostReply.{PostReply}
 use Rattle.orc_board.specs.declared.replies.PostWord.TheVariants as word
 use Rattle.orc_board.specs.Stretches.{View, just, refusal, is_own_move, beside}
 use Rattle.orc_history.specs.Lists.{Pairwise}
-use Rattle.orc_board.specs.Follows.{AreInOrder, IsWorker, LastIsEmpty, ZeroLast, by_key, posts_of}
+use Rattle.orc_board.specs.Follows.{AreInOrder, IsWorker, LastIsEmpty, ZeroLast, grouped_by_key, posts_of}
 use Rattle.orc_stages.specs.declared.replies.StageReply.{StageReply}
 use Rattle.orc_stages.specs.Stage.{QueueShare, DidShares, IsItem, IsStageValue, Posting, jobs_of}
 
@@ -89,7 +89,7 @@ pub record IsPipeline {A : Type 0} (x : ℕ → View A QueueEntry QueueRefused) 
   pub empty : (i : ℕ) → i ≤ stages → waiting_after [] ((x i).history (k i)) ≡ []
   pub zero_last : (i : ℕ) → i ≤ stages → ZeroLast agent_of_entry ((x i).history (k i))
   pub posted : PostersFollow (x 0) lines posters stages posts (k 0)
-  pub in_order : moves ≡ by_key (λ (r : StageReply). r.stage) (suc stages) moves
+  pub in_order : moves ≡ grouped_by_key (λ (r : StageReply). r.stage) (suc stages) moves
   pub moved : (i : ℕ) → i < stages → StageFollows (x i) (x (suc i)) lines posters stages (suc i) (moves_of (suc i) moves) (k i) (k (suc i))
   pub outs_are : outs ≡ jobs_of false ((x stages).history (k stages))
 

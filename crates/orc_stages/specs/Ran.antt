@@ -9,7 +9,7 @@ use Rattle.orc_jobs.specs.declared.line.Line.{Line}
 use Rattle.orc_jobs.specs.Line.{jobs_in}
 use Rattle.orc_board.specs.declared.replies.PostReply.{PostReply}
 use Rattle.orc_board.specs.Stretches.{View, beside}
-use Rattle.orc_board.specs.Follows.{AreInOrder, IsWorker, LastIsEmpty, ZeroLast, by_key, posts_of}
+use Rattle.orc_board.specs.Follows.{AreInOrder, IsWorker, LastIsEmpty, ZeroLast, grouped_by_key, posts_of}
 use Rattle.orc_stages.specs.declared.replies.StageReply.{StageReply}
 use Rattle.orc_stages.specs.Stage.{QueueShare}
 use Rattle.orc_stages.specs.Desks.{Acts, PosterActs, StageActs}
@@ -67,5 +67,5 @@ abbrev pub RunsArePipelines : {A : Type 0} → (ℕ → View A QueueEntry QueueR
 RunsArePipelines {A = A} x =
     (lines : List Line) (posters stages : ℕ) (posts : List PostReply) (work own : ℕ → List StageReply) (moves : List StageReply) (outs : List ℕ)
     (k : ℕ → List A) → 1 ≤ posters → length lines ≤ 65535 → Ran x lines posters stages posts work own outs k
-    → moves ≡ by_key (λ (r : StageReply). r.stage) (suc stages) moves → ((i : ℕ) → i < stages → moves_of (suc i) moves ≡ work i ++ own i)
+    → moves ≡ grouped_by_key (λ (r : StageReply). r.stage) (suc stages) moves → ((i : ℕ) → i < stages → moves_of (suc i) moves ≡ work i ++ own i)
     → IsPipeline x lines posters stages posts moves outs k

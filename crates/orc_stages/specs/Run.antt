@@ -7,7 +7,7 @@ use Rattle.orc_jobs.specs.declared.line.Line.{Line}
 use Rattle.orc_board.specs.ListWithRoom.{ListWithRoom}
 use Rattle.orc_board.specs.Follows.{LastIsEmpty, ZeroLast}
 use Rattle.orc_team.proofs.Blocks.{nth_of}
-use Rattle.orc_team.specs.Seats.{AreNumbered, EachFrom}
+use Rattle.orc_team.specs.Seats.{AreNumbered, EachNumbered}
 use Rattle.orc_stages.specs.declared.replies.StageDesk.{StageDesk}
 use Rattle.orc_stages.specs.declared.replies.StageReply.{StageReply}
 use Rattle.orc_stages.specs.declared.run.StagesDone.{StagesDone}
@@ -29,7 +29,7 @@ pub record IsNewDesk {Q P A : Type 0} (q : QueueOf Q P A) (queues : List Q) (age
 
 -- one fresh desk per agent, in order from this one
 abbrev pub AreFresh : {Q P A : Type 0} → QueueOf Q P A → List Q → ℕ → List (StageDesk P) → Type 0
-AreFresh q queues agent desks = EachFrom (IsNewDesk q queues) agent desks
+AreFresh q queues agent desks = EachNumbered (IsNewDesk q queues) agent desks
 
 -- at each desk the pass at its place stands ahead of those that it had
 abbrev pub StandAhead : {P : Type 0} → List P → List (StageDesk P) → List (StageDesk P) → Type 0
@@ -52,7 +52,7 @@ pub record TookFirst {P : Type 0} (before : List P) (old : List (StageDesk P)) (
 
 -- one desk per agent with an idle pass of each queue, in order from this one
 abbrev pub AreIdle : {Q P A : Type 0} → QueueOf Q P A → List Q → ℕ → List (StageDesk P) → Type 0
-AreIdle {P = P} q queues agent desks = EachFrom (λ by (desk : StageDesk P). ArePasses q by queues desk.passes.items) agent desks
+AreIdle {P = P} q queues agent desks = EachNumbered (λ by (desk : StageDesk P). ArePasses q by queues desk.passes.items) agent desks
 
 -- the journals that the passes of the first desk have seen
 abbrev pub first_seen : {Q P A : Type 0} → QueueOf Q P A → List (StageDesk P) → ℕ → List A

@@ -135,13 +135,13 @@ jobs_of put (Took agent job at ∷ es) = cond put (jobs_of put es) (job ∷ jobs
 jobs_of put (Empty agent ∷ es) = jobs_of put es
 
 -- the own entries of some shares, one after another
-abbrev pub own_of : List QueueShare → List QueueEntry
-own_of [] = []
-own_of (share ∷ shares) = share.own ++ own_of shares
+abbrev pub own_of_shares : List QueueShare → List QueueEntry
+own_of_shares [] = []
+own_of_shares (share ∷ shares) = share.own ++ own_of_shares shares
 
 -- these jobs were taken between the two journals, and nothing was put
 pub record TookAlone {A : Type 0} (x : View A QueueEntry QueueRefused) (agent : ℕ) (outs : List ℕ) (j k : List A) : Type 0 where
   pub shares : List QueueShare
   pub did : DidShares x agent shares j k
-  pub tooks : jobs_of false (own_of shares) ≡ outs
-  pub puts : jobs_of true (own_of shares) ≡ []
+  pub tooks : jobs_of false (own_of_shares shares) ≡ outs
+  pub puts : jobs_of true (own_of_shares shares) ≡ []

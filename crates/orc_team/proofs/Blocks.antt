@@ -2,7 +2,7 @@
 use Rattle.std.proofs.Common.{◌≡◌, ◌≢◌, ◌==◌, ℕ, zero, suc, Some, slice_get, ◌+◌, ◌≤◌, ◌<◌, List, [], ◌∷◌, ◌++◌, length, filter, inl, inr, refl, ap, sym, ◌∙◌, subst, arith, append-nil, append_assoc}
 use Rattle.std.proofs.lemmas.List.Elements.{filter-append}
 use Rattle.std.specs.List.{AllByRecursion}
-use Rattle.orc_board.specs.Follows.{by_key}
+use Rattle.orc_board.specs.Follows.{grouped_by_key}
 use Rattle.orc_team.specs.Seats.{AreNumbered, all_of}
 use Rattle.orc_team.specs.declared.team.Worker.{Worker}
 use Rattle.orc_board.proofs.ListFacts.{AllByRecursion-append, AllByRecursion-map, filter-all, filter-none, le-cases}
@@ -43,7 +43,7 @@ block_of {X} key block keyed a (suc n) h =
           ∙ (append-nil (filter (λ x. key x == a) (blocks block n)) ∙ block_of key block keyed a n less)
     ])
 
-in_order : {X : Type 0} (key : X → ℕ) (block : ℕ → List X) → AreKeyed key block → (m n : ℕ) → m ≤ n → by_key key m (blocks block n) ≡ blocks block m
+in_order : {X : Type 0} (key : X → ℕ) (block : ℕ → List X) → AreKeyed key block → (m n : ℕ) → m ≤ n → grouped_by_key key m (blocks block n) ≡ blocks block m
 in_order key block keyed zero n h = refl
 in_order key block keyed (suc m) n h =
     let low : m < n = omega (arith, h) in
@@ -51,7 +51,7 @@ in_order key block keyed (suc m) n h =
     ∙ ap (λ z. blocks block m ++ z) (block_of key block keyed m n low)
 
 -- and they stand in the order of their keys
-pub blocks_by_key : {X : Type 0} (key : X → ℕ) (block : ℕ → List X) → AreKeyed key block → (n : ℕ) → blocks block n ≡ by_key key n (blocks block n)
+pub blocks_by_key : {X : Type 0} (key : X → ℕ) (block : ℕ → List X) → AreKeyed key block → (n : ℕ) → blocks block n ≡ grouped_by_key key n (blocks block n)
 blocks_by_key key block keyed n = sym (in_order key block keyed n n (omega arith))
 
 pub blocks_add : {X : Type 0} (block : ℕ → List X) (m n : ℕ) → blocks block (m + n) ≡ blocks block m ++ blocks (λ i. block (m + i)) n

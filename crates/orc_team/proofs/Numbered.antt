@@ -3,32 +3,32 @@ use Rattle.std.proofs.Common.{◌≡◌, ◌+◌, ◌<◌, ◌≤◌, ℕ, suc, 
 use Rattle.std.specs.List.{AllByRecursion, remove}
 use Rattle.orc_board.proofs.ListFacts.{le-cases}
 use Rattle.orc_history.specs.Lists.{Pairwise}
-use Rattle.orc_team.specs.Seats.{AreNumbered, EachFrom, seated}
+use Rattle.orc_team.specs.Seats.{AreNumbered, EachNumbered, seated}
 use Rattle.orc_team.specs.declared.team.Worker.{Worker}
 
 module _ {X : Type 0} (P : ℕ → X → Type 0) where
   -- one item more
-  pub EachFrom-snoc : (k : ℕ) (xs : List X) (x : X) → EachFrom P k xs → P (k + length xs) x → EachFrom P k (xs ++ x ∷ [])
+  pub EachFrom-snoc : (k : ℕ) (xs : List X) (x : X) → EachNumbered P k xs → P (k + length xs) x → EachNumbered P k (xs ++ x ∷ [])
   EachFrom-snoc k [] x h p = (subst (λ (n : ℕ). P n x) (omega arith) p, tt)
   EachFrom-snoc k (y ∷ xs) x h p = (h.0, EachFrom-snoc (suc k) xs x h.1 (subst (λ (n : ℕ). P n x) (omega arith) p))
 
-  EachFrom-before : (k : ℕ) (xs : List X) (x : X) → EachFrom P k (xs ++ x ∷ []) → EachFrom P k xs × P (k + length xs) x
+  EachFrom-before : (k : ℕ) (xs : List X) (x : X) → EachNumbered P k (xs ++ x ∷ []) → EachNumbered P k xs × P (k + length xs) x
   EachFrom-before k [] x h = (tt, subst (λ (n : ℕ). P n x) (omega arith) h.0)
   EachFrom-before k (y ∷ xs) x h =
       let rest = EachFrom-before (suc k) xs x h.1 in
       ((h.0, rest.0), subst (λ (n : ℕ). P n x) (omega arith) rest.1)
 
   -- all items but the last, and the last
-  pub EachFrom-to_last : (k : ℕ) (xs all : List X) (x : X) → all ≡ xs ++ x ∷ [] → EachFrom P k all → EachFrom P k xs × P (k + length xs) x
-  EachFrom-to_last k xs all x is h = EachFrom-before k xs x (subst (λ (ys : List X). EachFrom P k ys) is h)
+  pub EachFrom-to_last : (k : ℕ) (xs all : List X) (x : X) → all ≡ xs ++ x ∷ [] → EachNumbered P k all → EachNumbered P k xs × P (k + length xs) x
+  EachFrom-to_last k xs all x is h = EachFrom-before k xs x (subst (λ (ys : List X). EachNumbered P k ys) is h)
 
   -- all items but the first
-  pub EachFrom-rest : (k : ℕ) (all rest : List X) → rest ≡ remove all 0 → EachFrom P k all → EachFrom P (suc k) rest
-  EachFrom-rest k [] rest e h = subst (λ (ys : List X). EachFrom P (suc k) ys) (sym e) tt
-  EachFrom-rest k (x ∷ xs) rest e h = subst (λ (ys : List X). EachFrom P (suc k) ys) (sym e) h.1
+  pub EachFrom-rest : (k : ℕ) (all rest : List X) → rest ≡ remove all 0 → EachNumbered P k all → EachNumbered P (suc k) rest
+  EachFrom-rest k [] rest e h = subst (λ (ys : List X). EachNumbered P (suc k) ys) (sym e) tt
+  EachFrom-rest k (x ∷ xs) rest e h = subst (λ (ys : List X). EachNumbered P (suc k) ys) (sym e) h.1
 
 -- one fact gives another at each number
-pub EachFrom-map : {X : Type 0} (P Q : ℕ → X → Type 0) → ((k : ℕ) (x : X) → P k x → Q k x) → (k : ℕ) (xs : List X) → EachFrom P k xs → EachFrom Q k xs
+pub EachFrom-map : {X : Type 0} (P Q : ℕ → X → Type 0) → ((k : ℕ) (x : X) → P k x → Q k x) → (k : ℕ) (xs : List X) → EachNumbered P k xs → EachNumbered Q k xs
 EachFrom-map P Q f k [] h = tt
 EachFrom-map P Q f k (x ∷ xs) h = (f k x h.0, EachFrom-map P Q f (suc k) xs h.1)
 
@@ -65,7 +65,7 @@ module _ {D T : Type 0} where
   -- what each desk and each room give at its number holds of the workers that are seated there
   pub seated_all : (P : ℕ → D → Type 0) (Q : ℕ → T → Type 0) (F : Worker D T → Type 0) (low high k : ℕ) (ds : List D) (rs : List T)
       → ((n : ℕ) (d : D) (r : T) → low ≤ n → n < high → P n d → Q n r → F (record { agent = n; desk = d; replies = r }))
-      → low ≤ k → k + length ds ≤ high → EachFrom P k ds → EachFrom Q k rs → AllByRecursion F (seated k ds rs)
+      → low ≤ k → k + length ds ≤ high → EachNumbered P k ds → EachNumbered Q k rs → AllByRecursion F (seated k ds rs)
   seated_all P Q F low high k [] rs f a b p q = tt
   seated_all P Q F low high k (d ∷ ds) [] f a b p q = tt
   seated_all P Q F low high k (d ∷ ds) (r ∷ rs) f a b p q =
@@ -73,6 +73,6 @@ module _ {D T : Type 0} where
 
   -- the desks of workers that are what their numbers say
   pub desks_from : (P : ℕ → D → Type 0) (k : ℕ) (ws : List (Worker D T)) → AreNumbered k ws → AllByRecursion (λ (w : Worker D T). P w.agent w.desk) ws
-      → EachFrom P k (map (λ (w : Worker D T). w.desk) ws)
+      → EachNumbered P k (map (λ (w : Worker D T). w.desk) ws)
   desks_from P k [] num h = tt
   desks_from P k (w ∷ ws) num h = (subst (λ (n : ℕ). P n w.desk) num.0 h.0, desks_from P (suc k) ws num.1 h.1)

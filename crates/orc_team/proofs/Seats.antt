@@ -1,7 +1,7 @@
 -- How many desks, rooms and workers a team has, and one worker more at its desk.
 use Rattle.std.proofs.Common.{◌≡◌, ℕ, suc, ◌+◌, ◌-◌, ◌≤◌, List, [], ◌∷◌, ◌++◌, Vec, length, map, refl, ap, sym, ◌∙◌, subst, arith, append_assoc, length-append, vec_capacity}
 use Rattle.std.specs.List.{AllByRecursion, remove}
-use Rattle.orc_team.specs.Seats.{AreNumbered, AreSeated, EachFrom, all_of, seated}
+use Rattle.orc_team.specs.Seats.{AreNumbered, AreSeated, EachNumbered, all_of, seated}
 use Rattle.orc_team.specs.declared.team.Worker.{Worker}
 use Rattle.orc_team.proofs.Blocks.{all_of-snoc}
 use Rattle.orc_team.proofs.Numbered.{EachFrom-rest, seated_all, seated_numbered}
@@ -57,14 +57,14 @@ pub seats_ready : {D T Z : Type 0} (F : ℕ → D → Type 0) (M : ℕ → T →
     (rooms : List T) (waiting done : Vec (Worker D T) Z)
     → ((k : ℕ) (d : D) (r : T) → 1 ≤ k → k ≤ n → F k d → M k r
     → R (record { agent = k; desk = d; replies = r }) × N (record { agent = k; desk = d; replies = r }))
-    → EachFrom F 0 all → rest ≡ remove all 0 → length all ≡ 1 + n → l ≡ 1 + n → EachFrom M 1 rooms → length rooms ≡ l - 1
+    → EachNumbered F 0 all → rest ≡ remove all 0 → length all ≡ 1 + n → l ≡ 1 + n → EachNumbered M 1 rooms → length rooms ≡ l - 1
     → done.items ≡ [] → l - 1 ≤ vec_capacity done → waiting.items ≡ seated 1 rest rooms → AreSeated R N n waiting done
 seats_ready {D} {T} F M R N n l all rest rooms waiting done f fresh is many len made few none room at =
     let desks : length rest ≡ n = one_fewer all rest n is many in
     let same : length rooms ≡ length rest = omega (arith, len, few, desks) in
     let workers : length waiting.items ≡ n = seated_many 1 rest rooms waiting.items at same ∙ desks in
     let high : 1 + length rest ≤ suc n = omega (arith, desks) in
-    let left : EachFrom F 1 rest = EachFrom-rest F 0 all rest is fresh in
+    let left : EachNumbered F 1 rest = EachFrom-rest F 0 all rest is fresh in
     let ready : AllByRecursion R (seated 1 rest rooms) =
     seated_all F M R 1 (suc n) 1 rest rooms (λ k d r low less x y. (f k d r low (omega (arith, less)) x y).0) (omega arith) high left made in
     let new : AllByRecursion N (seated 1 rest rooms) =

@@ -10,13 +10,13 @@ use Rattle.orc_team.specs.declared.rooms.Room.{Room}
 use Rattle.orc_team.specs.declared.team.Worker.{Worker}
 
 -- the fact holds of each number and the item at its place, in order from this number
-abbrev pub EachFrom : {X : Type 0} → (ℕ → X → Type 0) → ℕ → List X → Type 0
-EachFrom P k [] = Unit {0}
-EachFrom P k (x ∷ xs) = P k x × EachFrom P (suc k) xs
+abbrev pub EachNumbered : {X : Type 0} → (ℕ → X → Type 0) → ℕ → List X → Type 0
+EachNumbered P k [] = Unit {0}
+EachNumbered P k (x ∷ xs) = P k x × EachNumbered P (suc k) xs
 
 -- workers of the agents in order from this one
 abbrev pub AreNumbered : {D T : Type 0} → ℕ → List (Worker D T) → Type 0
-AreNumbered {D = D} {T = T} agent ws = EachFrom (λ a (w : Worker D T). w.agent ≡ a) agent ws
+AreNumbered {D = D} {T = T} agent ws = EachNumbered (λ a (w : Worker D T). w.agent ≡ a) agent ws
 
 -- a worker at each desk with the room of its place, numbered from this agent
 abbrev pub seated : {D T : Type 0} → ℕ → List D → List T → List (Worker D T)
@@ -68,7 +68,7 @@ module _ {T F : Type 0} (g : Shared F (ℕ × Unit {0}) (Result T NoMemory)) (ro
 
   -- a room for each agent, in order from this one
   abbrev pub AreRooms : ℕ → List T → Type 0
-  AreRooms agent rooms = EachFrom IsRoom agent rooms
+  AreRooms agent rooms = EachNumbered IsRoom agent rooms
 
   -- room for so many workers
   pub record IsReserved {D : Type 0} (workers : ℕ) (r : Reserved D T) : Type 0 where

@@ -1,6 +1,6 @@
 //! Workers are seated at desks, and desks and replies are handed back.
 ghost use Rattle.std.specs.Prelude.{◌≡◌, ◌+◌, ◌≤◌, [], ◌++◌, ℕ, length, map, vec_len, vec_capacity};
-ghost use Rattle.orc_team.specs.Seats.{EachFrom, all_of, seated};
+ghost use Rattle.orc_team.specs.Seats.{EachNumbered, all_of, seated};
 
 use crate::{Gather, Worker, Workplace};
 
@@ -11,7 +11,7 @@ pub fn seat<C: Workplace, T: Drop>(
     mut rooms: Vec<T>,
     waiting: Vec<Worker<C::Desk, T>>,
 ) -> Vec<Worker<C::Desk, T>>
-    requires agents { EachFrom (C.site here.now).usable 1 desks.old.items }
+    requires agents { EachNumbered (C.site here.now).usable 1 desks.old.items }
     requires rooms { vec_len rooms ≡ vec_len desks.old }
     requires nobody { waiting.items ≡ [] }
     requires capacity { vec_len desks.old ≤ vec_capacity waiting }

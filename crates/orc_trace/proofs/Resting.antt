@@ -16,15 +16,15 @@ use Rattle.orc_core.specs.declared.records.SlotUse.TheVariants.{Empty, Held, Pub
 use Rattle.orc_rest.specs.Rest.{IsAtRest, IsResting}
 use Rattle.orc_sound.proofs.Decided.{all_hold, all_there, not_is}
 use Rattle.orc_sound.proofs.Sums.{sum_member, sum_same, sum_zero}
-use Rattle.orc_trace.specs.Watched.{at_rest, is_held, rests, rests_at}
+use Rattle.orc_trace.specs.Watched.{at_rest, slot_holds, rests, rests_at}
 
-no_hold : (slots : List SlotUse) (r : ℕ) → list_any is_held slots ≡ false → any_holds slots r ≡ false
+no_hold : (slots : List SlotUse) (r : ℕ) → list_any slot_holds slots ≡ false → any_holds slots r ≡ false
 no_hold [] r h = refl
 no_hold (Empty ∷ ss) r h = no_hold ss r h
 no_hold (Published q ∷ ss) r h = no_hold ss r h
 no_hold (Held q ∷ ss) r h = absurd (false≢true (sym h))
 
-none_held : (slots : List SlotUse) → ((r : ℕ) → any_holds slots r ≡ false) → list_any is_held slots ≡ false
+none_held : (slots : List SlotUse) → ((r : ℕ) → any_holds slots r ≡ false) → list_any slot_holds slots ≡ false
 none_held [] h = refl
 none_held (Empty ∷ ss) h = none_held ss h
 none_held (Published q ∷ ss) h = none_held ss h

@@ -31,15 +31,15 @@ abbrev pub waiting : Machine → ℕ
 waiting m = sum_below m.bounds.agents (waiting_at m)
 
 -- the slot protects a row
-abbrev pub is_held : SlotUse → Bool
-is_held Empty = false
-is_held (Published r) = false
-is_held (Held r) = true
+abbrev pub slot_holds : SlotUse → Bool
+slot_holds Empty = false
+slot_holds (Published r) = false
+slot_holds (Held r) = true
 
 -- the agent has nothing under way
 abbrev pub rests : Agent → Bool
 rests d =
-    not (list_any is_held d.slots) && is_none d.fresh && is_none d.inc && is_none d.dec && is_none d.due && is_none d.hand && is_none d.scan && is_none
+    not (list_any slot_holds d.slots) && is_none d.fresh && is_none d.inc && is_none d.dec && is_none d.due && is_none d.hand && is_none d.scan && is_none
     d.doom && (length d.list.items == 0)
 
 -- nor was anything handed to it

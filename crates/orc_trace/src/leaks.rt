@@ -3,15 +3,15 @@
 ghost use Rattle.std.specs.Prelude.{◌≡◌, ◌<◌, ℕ, IfNone, IfSome, true, false};
 ghost use Rattle.std.specs.List.{list_any};
 ghost use Rattle.orc_trace.specs.Reaching.{HasMarks};
-ghost use Rattle.orc_trace.specs.Watched.{IsLeastLeak, at_rest, is_held, is_lost, rests, rests_at};
+ghost use Rattle.orc_trace.specs.Watched.{IsLeastLeak, at_rest, slot_holds, is_lost, rests, rests_at};
 
 use crate::reaching::Reach;
 use crate::waiting::handovers_of;
 use orc_core::{Agent, SlotUse, State};
 
 // Whether the slot protects a row.
-fn is_held(slot: SlotUse) -> bool
-    ensures { result ≡ is_held slot }
+fn slot_holds(slot: SlotUse) -> bool
+    ensures { result ≡ slot_holds slot }
 {
     match slot {
         SlotUse::Held(_) => true,
@@ -21,9 +21,9 @@ fn is_held(slot: SlotUse) -> bool
 
 // Whether the agent protects a row.
 fn holds_some(agent: &Agent) -> bool
-    ensures { result ≡ list_any is_held agent.now.slots }
+    ensures { result ≡ list_any slot_holds agent.now.slots }
 {
-    agent.slots.iter().any(|slot| is_held(*slot))
+    agent.slots.iter().any(|slot| slot_holds(*slot))
 }
 
 // Whether the agent has nothing under way.

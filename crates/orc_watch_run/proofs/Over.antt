@@ -8,7 +8,7 @@ use Rattle.std.specs.List.{AllByRecursion, range_with_len}
 use Rattle.orc_board.proofs.Keyed.{by_key_below, same_by_keys}
 use Rattle.orc_board.proofs.ListFacts.{AllByRecursion-all, AllByRecursion-map, eq-true, le-cases}
 use Rattle.orc_history.specs.Lists.{Pairwise}
-use Rattle.orc_board.specs.Follows.{by_key, own_records}
+use Rattle.orc_board.specs.Follows.{grouped_by_key, own_records}
 use Rattle.orc_board.specs.Stretches.{View, beside}
 use Rattle.orc_cell.specs.declared.refused.CellRefused.{CellRefused}
 use Rattle.orc_heap.specs.declared.links.Links.{Ghosts as LinksOf}
@@ -77,7 +77,7 @@ module _ {P A : Type 0} (x : View A CellEntry CellRefused) (lines : List WatchLi
   in_order replies are =
       let is : replies ≡ blocks (block_in ws) (suc workers) = are ∙ in_blocks in
       record {
-        by_worker = subst (λ (z : List WatchReply). z ≡ by_key (λ (r : WatchReply). r.worker) (suc workers) z) (sym is)
+        by_worker = subst (λ (z : List WatchReply). z ≡ grouped_by_key (λ (r : WatchReply). r.worker) (suc workers) z) (sym is)
             (blocks_by_key (λ (r : WatchReply). r.worker) (block_in ws) keyed (suc workers));
         none_of_zero = subst (AllByRecursion (λ (r : WatchReply). 1 ≤ r.worker)) (sym is)
             (every_block (λ (r : WatchReply). 1 ≤ r.worker) (block_in ws) (suc workers) (λ a low. some_worker a));
@@ -98,7 +98,7 @@ filter_keyed {X} key a (x ∷ xs) =
     elim [ true ↦ λ e. (eq-true (key x) a e, rest) | false ↦ λ e. rest ] in
     cases (key x == a) refl
 
-by_key_blocks : {X : Type 0} (key : X → ℕ) (n : ℕ) (xs : List X) → by_key key n xs ≡ blocks (λ a. filter (λ x. key x == a) xs) n
+by_key_blocks : {X : Type 0} (key : X → ℕ) (n : ℕ) (xs : List X) → grouped_by_key key n xs ≡ blocks (λ a. filter (λ x. key x == a) xs) n
 by_key_blocks key zero xs = refl
 by_key_blocks key (suc n) xs = ap (λ z. z ++ filter (λ x. key x == n) xs) (by_key_blocks key n xs)
 
@@ -106,7 +106,7 @@ all_records : (workers n : ℕ) → 1 ≤ workers → length (blocks (λ a. own_
 all_records workers n some =
     let key : ℕ → ℕ = λ i. i % workers + 1 in
     let all : List ℕ = range_with_len 0 n in
-    let sorted : List ℕ = by_key key (suc workers) all in
+    let sorted : List ℕ = grouped_by_key key (suc workers) all in
     let block : ℕ → List ℕ = λ a. filter (λ i. key i == a) all in
     let low : AllByRecursion (λ i. key i < suc workers) all = AllByRecursion-all (λ i. key i < suc workers) (λ i. omega arith) all in
     let is : sorted ≡ blocks block (suc workers) = by_key_blocks key (suc workers) all in

@@ -4,7 +4,7 @@ use Rattle.std.specs.Prelude.{◌≡◌, ◌≢◌, ℕ, suc, ◌≤◌, List, [
 use Rattle.std.specs.List.{AllByRecursion}
 use Rattle.orc_fault.specs.declared.Spent.{Spent as SpentRow}
 use Rattle.orc_history.specs.Lists.{Pairwise}
-use Rattle.orc_board.specs.Follows.{by_key, own_records}
+use Rattle.orc_board.specs.Follows.{grouped_by_key, own_records}
 use Rattle.orc_board.specs.Stretches.{DidAll, Did, Share, View, beside, just, refusal}
 use Rattle.orc_cell.specs.declared.refused.CellRefused.{CellRefused}
 use Rattle.orc_cell.specs.declared.refused.CellRefused.TheVariants as refused
@@ -84,7 +84,7 @@ replies_of worker replies = filter (λ (r : WatchReply). r.worker == worker) rep
 
 -- the replies of workers 1 to N, of each one for each of its records, in file order
 pub record AreInOrder (lines : List WatchLine) (workers : ℕ) (replies : List WatchReply) : Type 0 where
-  pub by_worker : replies ≡ by_key (λ (r : WatchReply). r.worker) (suc workers) replies
+  pub by_worker : replies ≡ grouped_by_key (λ (r : WatchReply). r.worker) (suc workers) replies
   pub none_of_zero : AllByRecursion (λ (r : WatchReply). 1 ≤ r.worker) replies
   pub in_file_order : (w : ℕ) → 1 ≤ w → w ≤ workers → map (λ (r : WatchReply). r.line) (replies_of w replies) ≡ own_records workers w (length lines)
 

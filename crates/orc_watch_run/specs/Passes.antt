@@ -5,7 +5,7 @@ use Rattle.orc_cell.specs.CellCalls.{IsUsable, history}
 use Rattle.orc_heap.specs.Domains.{agent}
 use Rattle.orc_heap.specs.declared.links.Links.{Ghosts as LinksOf}
 use Rattle.orc_pairs_rule.specs.declared.pairs.PairsNote.{PairsNote}
-use Rattle.orc_team.specs.Seats.{EachFrom}
+use Rattle.orc_team.specs.Seats.{EachNumbered}
 use Rattle.orc_watch.specs.declared.line.WatchLine.{WatchLine}
 use Rattle.orc_watch.specs.declared.reply.WatchReply.{WatchReply}
 use Rattle.orc_watch_run.specs.CellView.{cell_view}
@@ -24,11 +24,11 @@ module _ {L D P S : Type 0} (members : LinksOf L D P S PairsNote) (links : L) wh
 
   -- one fresh pass per agent, in order from this one
   abbrev pub AreFresh : ℕ → List P → Type 0
-  AreFresh by ps = EachFrom IsFreshPass by ps
+  AreFresh by ps = EachNumbered IsFreshPass by ps
 
   -- one usable pass per agent, in order from this one
   abbrev pub AreUsable : ℕ → List P → Type 0
-  AreUsable by ps = EachFrom IsUsablePassOf by ps
+  AreUsable by ps = EachNumbered IsUsablePassOf by ps
 
   -- the journal that the first pass has seen
   abbrev pub first_seen : List P → List S

@@ -25,7 +25,7 @@ use Rattle.orc_team.specs.Seats.{AreNumbered, all_of}
 use Rattle.orc_workers.specs.Team.{BoardWorker}
 use Rattle.orc_board.specs.Stretches.{View, queue_views, set_view, beside, all_beside, pick, Row}
 use Rattle.orc_history.specs.Lists.{Pairwise}
-use Rattle.orc_board.specs.Follows.{TakerRow, Posting, TakingRest, ZeroLast, LastIsEmpty, IsWorker, own_records, by_key, taker_agent, posts_of, takes_of, none}
+use Rattle.orc_board.specs.Follows.{TakerRow, Posting, TakingRest, ZeroLast, LastIsEmpty, IsWorker, own_records, grouped_by_key, taker_agent, posts_of, takes_of, none}
 use Rattle.orc_workers.specs.CameBack.{IsTold, AllCameBack, HasEnded}
 use Rattle.orc_board.proofs.ListFacts.{AllByRecursion-map, le-cases}
 use Rattle.orc_board.proofs.Ends.{posters_of}
@@ -181,12 +181,12 @@ module _ {P R A B : Type 0} (qs : Bool → View A QueueEntry QueueRefused) (s : 
         posting = λ p low high. posting_at p low high posts post_at;
         taking = λ t high. taking_at t high takes take_at;
         order = record {
-          by_poster = subst (λ (xs : List PostReply). xs ≡ by_key (λ (r : PostReply). r.poster) (suc posters) xs) (sym pb)
+          by_poster = subst (λ (xs : List PostReply). xs ≡ grouped_by_key (λ (r : PostReply). r.poster) (suc posters) xs) (sym pb)
               (blocks_by_key (λ (r : PostReply). r.poster) (post_block ws) posts_keyed (suc posters));
           none_of_zero = subst (AllByRecursion (λ (r : PostReply). 1 ≤ r.poster)) (sym pb)
               (every_block (λ (r : PostReply). 1 ≤ r.poster) (post_block ws) (suc posters) (λ a l. some_poster a));
           in_file_order = λ p low high. order_at p low high posts post_at;
-          by_taker = subst (λ (xs : List TakeReply). xs ≡ by_key (λ (r : TakeReply). r.taker) (suc takers) xs) (sym tb)
+          by_taker = subst (λ (xs : List TakeReply). xs ≡ grouped_by_key (λ (r : TakeReply). r.taker) (suc takers) xs) (sym tb)
               (blocks_by_key (λ (r : TakeReply). r.taker) (take_block posters own ws) takes_keyed (suc takers));
         };
         agents = agents;

@@ -10,7 +10,7 @@ use Rattle.orc_history.specs.declared.set.ListRefused.{ListRefused}
 use Rattle.orc_jobs.specs.declared.line.Line.{Line}
 use Rattle.orc_board.specs.declared.replies.TakeReply.{TakeReply}
 use Rattle.orc_board.specs.Stretches.{View, Row, Share, Did, Stretch, Stands, Replied, just, nothing, of_queue, of_set}
-use Rattle.orc_board.specs.Table.{IsSkip, TakeRow, TakenRow, EndsWith, TakeEnds, in_its, answer_of}
+use Rattle.orc_board.specs.Table.{IsSkip, TakeRow, TakenRow, EndsWith, TakeEnds, in_its, claim_answer}
 use Rattle.orc_board.specs.Follows.{TakingRest, TakerRow, LastIsEmpty}
 use Rattle.orc_board.specs.declared.replies.PostReply.{PostReply}
 use Rattle.orc_jobs.specs.Line.{jobs_in}
@@ -59,7 +59,7 @@ resting_more qs s lines taker agent now replies r j k k2 m n n2 p e same replied
     let before : Bool → List QueueEntry = p.last.is.skipped in
     let took : Bool → List QueueEntry = in_its r.rush (Took agent r.line r.at ∷ []) in
     let own : Bool → List QueueEntry = λ b. done.is.skipped b ++ took b in
-    let gone : List SetEntry = Removed agent done.is.claim.id (answer_of r.what) ∷ [] in
+    let gone : List SetEntry = Removed agent done.is.claim.id (claim_answer r.what) ∷ [] in
     let row : Row = record { queues = λ b. just (before b ++ own b); set = just gone } in
     let all : Stands qs s agent row p.queues p.set k2 n2 =
     Stands-both qs s agent p.last.row done.row row before own [] gone p.queues k k2 p.set n n2 p.last.is.queues p.last.is.set done.is.claim.queues

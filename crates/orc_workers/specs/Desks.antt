@@ -11,7 +11,7 @@ use Rattle.orc_board.specs.Desk.{IsDesk, seen_in}
 use Rattle.orc_board.specs.Stretches.{queue_views, set_view, pick}
 use Rattle.orc_board.specs.Follows.{Follows}
 use Rattle.orc_jobs.specs.declared.line.Line.{Line}
-use Rattle.orc_team.specs.Seats.{EachFrom}
+use Rattle.orc_team.specs.Seats.{EachNumbered}
 
 -- an idle desk of this agent, whose passes have seen no entry
 pub record IsFreshDesk {Q S P R A B : Type 0} (q : QueueOf Q P A) (s : SetOf S R B) (queue rush : Q) (set : S) (agent : ℕ) (desk : Desk P R) : Type 0 where
@@ -21,11 +21,11 @@ pub record IsFreshDesk {Q S P R A B : Type 0} (q : QueueOf Q P A) (s : SetOf S R
 
 -- one fresh desk per agent, in order from this one
 abbrev pub AreFresh : {Q S P R A B : Type 0} → QueueOf Q P A → SetOf S R B → Q → Q → S → ℕ → List (Desk P R) → Type 0
-AreFresh q s queue rush set agent desks = EachFrom (IsFreshDesk q s queue rush set) agent desks
+AreFresh q s queue rush set agent desks = EachNumbered (IsFreshDesk q s queue rush set) agent desks
 
 -- one idle desk per agent, in order from this one
 abbrev pub AreIdle : {Q S P R A B : Type 0} → QueueOf Q P A → SetOf S R B → Q → Q → S → ℕ → List (Desk P R) → Type 0
-AreIdle q s queue rush set agent desks = EachFrom (IsDesk q s queue rush set) agent desks
+AreIdle q s queue rush set agent desks = EachNumbered (IsDesk q s queue rush set) agent desks
 
 -- the journal of the queue that the first desk's pass has seen
 abbrev pub queue_seen : {Q P R A : Type 0} → QueueOf Q P A → List (Desk P R) → Bool → List A

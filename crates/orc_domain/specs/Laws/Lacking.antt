@@ -22,13 +22,13 @@ use Rattle.orc_sound.specs.Journals.{IsLawfulJournal}
 use Rattle.orc_sound.specs.declared.steps.Step.{Step}
 use Rattle.orc_plain_board.proofs.Lists.{at_index, index_in, some_one}
 use Rattle.orc_plain_board.specs.Machine.{index_of}
-use Rattle.orc_plain_board.specs.Words.{IsOut}
+use Rattle.orc_plain_board.specs.Words.{IsListed}
 use Rattle.orc_words.specs.Bounds.{Bounds, IsShape}
 use Rattle.orc_words.specs.declared.place.Word.TheVariants.{Counter, Gate}
 
 module _ {N : Type 0} where
   -- a row that was taken stays among the rows that were
-  taken_later : (b : Bounds) (early late : List (Step N)) (r : ℕ) → IsOut (rows_taken b early) r → IsOut (rows_taken b (early ++ late)) r
+  taken_later : (b : Bounds) (early late : List (Step N)) (r : ℕ) → IsListed (rows_taken b early) r → IsListed (rows_taken b (early ++ late)) r
   taken_later b early late r o = (
     o.0,
     subst (λ rows. slice_get rows o.0 ≡ Some r) (sym (taken-append (new_machine b) early late))
@@ -37,17 +37,17 @@ module _ {N : Type 0} where
 
   -- a row that is out was taken
   out_taken : (b : Bounds) (j : List (Step N)) (r : ℕ) → IsShape b → IsLawfulJournal (new_machine b) j → r < b.rows → is_out (run_of b j) r ≡ true
-      → IsOut (rows_taken b j) r
+      → IsListed (rows_taken b j) r
   out_taken b j r shape l h o = ((present_ids b j).node r, row_of_node b j r shape l (subst (λ (c : Bounds). r < c.rows) (sym (bounds_run b j)) h, o))
 
-  once_out : (b : Bounds) (j : List (Step N)) (r : ℕ) → IsShape b → IsLawfulJournal (new_machine b) j → r < b.rows → OutIn b [] j r → IsOut (rows_taken b j) r
+  once_out : (b : Bounds) (j : List (Step N)) (r : ℕ) → IsShape b → IsLawfulJournal (new_machine b) j → r < b.rows → OutIn b [] j r → IsListed (rows_taken b j) r
   once_out b j r shape l h o =
       let lawful = ((IsLawfulJournal-append (new_machine b) o.early o.late).0 (subst (IsLawfulJournal (new_machine b)) o.is l)).0 in
-      subst (λ z. IsOut (rows_taken b z) r) (sym o.is) (taken_later b o.early o.late r (out_taken b o.early r shape lawful h o.out))
+      subst (λ z. IsListed (rows_taken b z) r) (sym o.is) (taken_later b o.early o.late r (out_taken b o.early r shape lawful h o.out))
 
   -- so was one whose life or sequence is at the limit
   pub was_taken : (b : Bounds) (j : List (Step N)) (r : ℕ) → IsShape b → IsLawfulJournal (new_machine b) j → r < b.rows → IsTaken b (run_of b j) r
-      → IsOut (rows_taken b j) r
+      → IsListed (rows_taken b j) r
   was_taken b j r shape l h t = ⊎_elim (λ o. out_taken b j r shape l h o)
       (λ s. ⊎_elim
       (λ life. ⊎_elim
@@ -79,11 +79,11 @@ module _ {N : Type 0} where
       let all = take to j in
       let rows = rows_taken b all in
       let steps = l.steps in
-      let taken : (r : ℕ) → r < b.rows → IsOut rows r = λ r h.
+      let taken : (r : ℕ) → r < b.rows → IsListed rows r = λ r h.
       let place = l.place r h in
       let cut = take_split place to j (l.last r h) in
       let lawful = ((IsLawfulJournal-append (new_machine b) (take place j) cut.0).0 (subst (IsLawfulJournal (new_machine b)) cut.1 steps.lawful)).0 in
-      subst (λ z. IsOut (rows_taken b z) r) (sym cut.1)
+      subst (λ z. IsListed (rows_taken b z) r) (sym cut.1)
       (taken_later b (take place j) cut.0 r (was_taken b (take place j) r steps.shape lawful h (l.taken r h))) in
       let many : b.rows ≤ length rows = no_more b.rows (length rows) (λ r. index_of r rows) (record {
         low = λ r h. let o = taken r h in index_in r rows o.0 o.1;

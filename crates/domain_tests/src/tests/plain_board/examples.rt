@@ -8,7 +8,7 @@ ghost use Rattle.orc_plain_board.specs.Calls.{IsGateWord, seen_free, unless_link
 ghost use Rattle.orc_plain_board.specs.Machine.{index_of, link_by, place_by, project, written};
 ghost use Rattle.orc_heap.specs.Journals.{event_by};
 ghost use Rattle.orc_plain_board.specs.Rules.{step_of};
-ghost use Rattle.orc_plain_board.specs.Words.{IsOut, IsWord};
+ghost use Rattle.orc_plain_board.specs.Words.{IsListed, IsWord};
 
 use orc_plain_board::PlainOp;
 use orc_words::Word;
@@ -18,8 +18,8 @@ fn rows_and_nodes()
     ensures first { index_of 3 (3 ∷ 7 ∷ []) ≡ 0 }
     ensures second { index_of 7 (3 ∷ 7 ∷ []) ≡ 1 }
     ensures never_given { index_of 9 (3 ∷ 7 ∷ []) ≡ 2 }
-    ensures out { IsOut (3 ∷ 7 ∷ []) 7 }
-    ensures not_out { ¬ IsOut (3 ∷ 7 ∷ []) 9 }
+    ensures out { IsListed (3 ∷ 7 ∷ []) 7 }
+    ensures not_out { ¬ IsListed (3 ∷ 7 ∷ []) 9 }
     ensures link { link_by (3 ∷ 7 ∷ []) (record { to = Some 7; mark = true }) ≡ record { to = Some 1; mark = true } }
     ensures next { place_by (3 ∷ 7 ∷ []) (Word.Next 3) ≡ at.Next 0 }
     ensures side { place_by (3 ∷ 7 ∷ []) (Word.Side 7) ≡ at.Side 1 }

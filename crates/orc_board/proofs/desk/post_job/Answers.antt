@@ -10,7 +10,7 @@ pub returns-in-Ok-clause-part : goal.returns-in-Ok-clause-part
 returns-in-Ok-clause-part g c = record {
   queue = _;
   set = _;
-  is = placed_part c.args.poster c.args.index c.args.id _ _ _ c.word_at.ensures;
+  is = placed_part c.args.poster c.args.index c.args.id _ _ _ c.place_word.ensures;
   in_queue = placed (queue_view g.Q.SharedQueue c.args.queue.now) _ _ _ _ _ _ c.requires.queue_agent c.in-Ok.ensures.put;
   in_set = inserted (set_view g.S.SharedSet c.args.set.now) _ _ _ _ _ _ _ c.requires.set_agent c.in-Ok-true.field-0-test c.in-Ok-true.ensures.added;
 }

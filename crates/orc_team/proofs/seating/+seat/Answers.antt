@@ -1,5 +1,5 @@
 use Rattle.std.proofs.Common.{rules, ◌≡◌, ◌+◌, length}
-use Rattle.orc_team.specs.Seats.{EachFrom}
+use Rattle.orc_team.specs.Seats.{EachNumbered}
 use Rattle.orc_team.proofs.Numbered.{EachFrom-to_last}
 use Rattle.orc_team.proofs.Seats.{one_less_each, seated_many, seated_more}
 use Rattle.orc_team.proofs.seating.+seat.Goals as goal
@@ -13,7 +13,7 @@ agent-agent-requires g t c = (
 
 pub seat-waiting-requires : goal.seat-waiting-requires
 seat-waiting-requires g t c κs within =
-    let before : EachFrom (g.C.Workplace.site c.args.here.now).usable 1 c.pop.new.self.items =
+    let before : EachNumbered (g.C.Workplace.site c.args.here.now).usable 1 c.pop.new.self.items =
     (EachFrom-to_last (g.C.Workplace.site c.args.here.now).usable 1 c.pop.new.self.items c.args.desks.now.items c.in-Some.desk c.in-Some.ensures.items
     c.requires.agents).0 in
     search rules

@@ -1,7 +1,7 @@
 use Rattle.std.proofs.Common.{◌%◌, ◌+◌, ◌≡◌, ◌∙◌, ap, arith, refl, subst, sym}
 use Rattle.orc_heap.proofs.Pieces.{goes_on}
 use Rattle.orc_heap.specs.Slots.{Hold}
-use Rattle.orc_plain_board.specs.Words.{IsOut}
+use Rattle.orc_plain_board.specs.Words.{IsListed}
 use Rattle.orc_plain_domain.specs.Passes.{domain_bounds, rows_of}
 use Rattle.orc_plain_board.specs.Views.{shows}
 use Rattle.orc_plain_domain.specs.Calls.{Loses}
@@ -44,7 +44,7 @@ returns-then-take-clause-in_turn g c =
     let begin = c.args.p.now.next in
     let rows = c.rows-rows.result in
     let more = goes_on _ _ _ c.if-take.ensures.took.rows c.furnish.ensures.rows in
-    subst (IsNext (domain_bounds links).rows begin (IsOut (rows_of links c.furnish.new.p))) (sym c.around-row.ensures ∙ ap (λ (h : Hold). h.row) (sym c.furnish.ensures.hold))
+    subst (IsNext (domain_bounds links).rows begin (IsListed (rows_of links c.furnish.new.p))) (sym c.around-row.ensures ∙ ap (λ (h : Hold). h.row) (sym c.furnish.ensures.hold))
     (tried_next links c.args.p.now c.loop-offset.p rows begin c.loop-offset.offset c.loop-offset.invariant c.loop-offset-test.true
     (rows_of links c.furnish.new.p) more)
 
