@@ -19,10 +19,6 @@ module _ {D N : Type 0} {d : discipline.Ghosts D N} {m : machine.Ghosts Reclaimi
       → IsPassOf y p × IsIdle (seat_of y p)
   usable_by p is belongs idle = subst (λ (z : OrcDomain D N). IsPassOf z p × IsIdle (seat_of z p)) is (belongs, idle)
 
-  pub used_by : {x y : OrcDomain D N} {rooms : List (OrcDomain D N)} (p : OrcPass D N (MachineShape N) Request (Step N) Agent Agent d m) → x ≡ y
-      → CanBeUsed x rooms p → CanBeUsed y rooms p
-  used_by {x} {y} {rooms} p is can = subst (λ (z : OrcDomain D N). CanBeUsed z rooms p) is can
-
   -- a pass that goes on can be used as before
   pub still_used : {x y : OrcDomain D N} {rooms : List (OrcDomain D N)} {old : OrcPass D N (MachineShape N) Request (Step N) Agent Agent d m}
       (p : OrcPass D N (MachineShape N) Request (Step N) Agent Agent d m) → x ≡ y → CanBeUsed y rooms old → IsPassOf x p × IsIdle (seat_of x p)

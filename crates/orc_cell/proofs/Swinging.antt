@@ -19,7 +19,6 @@ use Rattle.orc_heap.specs.Calls.{Misses, event_of, links_made, unless_node}
 use Rattle.orc_heap.specs.Heap.{Heap, HeapNumbers, Node, link_to, null, shown}
 use Rattle.orc_heap.specs.Journals.{IsLawful, is_once_named, points_to, run_heap}
 use Rattle.orc_heap.specs.OwnEvents.{Puts}
-use Rattle.std.specs.Borrow.{Bor}
 use Rattle.orc_heap.specs.Seats.{HoldsFresh, HoldsWant, IsUntouched, Seat, heap_of, link_in}
 use Rattle.orc_heap.specs.declared.holds.Want.{Want}
 use Rattle.orc_heap.specs.declared.holds.Want.TheVariants.{Node as WantNode, Null as WantNull}
@@ -37,7 +36,7 @@ use Rattle.orc_pairs_rule.specs.declared.pairs.PairsNote.TheVariants.{Entry}
 use Rattle.orc_pairs_rule.specs.Laws.Shown.{not_root_0, roots_kept}
 use Rattle.orc_pairs_rule.specs.PairsDiscipline.{HasPart, IsStaging, PairsMay}
 use Rattle.orc_pairs_rule.specs.Watches.{MayFollow, IsKept, IsOwnPair}
-use Rattle.orc_cell.specs.Publishes.{Aimed, Answered, ComesAfter, HasStaged, IsFirst, IsNewPart, IsPartOf, IsPrepared, IsPublished, KeepsHalves, KeepsStaging, MayPublish, NotAimed, PublishDone, PublishMissed, PublishSpent, SideHeld, SwingsPair, given_of}
+use Rattle.orc_cell.specs.Publishes.{Aimed, Answered, ComesAfter, IsFirst, IsNewPart, IsPartOf, IsPrepared, IsPublished, KeepsHalves, KeepsStaging, MayPublish, NotAimed, PublishDone, PublishMissed, PublishSpent, SideHeld, SwingsPair, given_of}
 use Rattle.orc_cell.specs.Turns.{IsPairOf, others_moves}
 use Rattle.orc_cell.specs.declared.publish.Half.{Half}
 use Rattle.orc_cell.specs.declared.publish.Half.TheVariants.{Left, Right}
@@ -341,17 +340,6 @@ follows_held n s (WantNull false) new f = tt
 follows_held n s (WantNode h false) new f = f.0
 follows_held n s (WantNull true) new f = absurd f
 follows_held n s (WantNode h true) new f = absurd f
-
--- a link to a node leads to a pair
-pub follows_node : (n : HeapNumbers) (s : Seat PairsNote) (h : Bor Hold) (mark : Bool) (new : New) → ComesAfter n (WantNode h mark) s new
-    → Holds s.slots h.now × IsPairOf (heap_of n s) (id_in s.slots h.now)
-follows_node n s h false new f = f
-follows_node n s h true new f = absurd f
-
--- behind a null link the part is staged
-pub follows_staged : (n : HeapNumbers) (s : Seat PairsNote) (mark : Bool) (new : New) → ComesAfter n (WantNull mark) s new → HasStaged new
-follows_staged n s false new f = f
-follows_staged n s true new f = absurd f
 
 -- a part that is given
 pub given_part : (n : HeapNumbers) (half : Half) (from : Want) (s : Seat PairsNote) (value : ℕ) (h : Hold) (id : ℕ)

@@ -15,12 +15,6 @@ PostsJob (Post id op text) = Unit {0}
 PostsJob (Rush id op text) = Unit {0}
 PostsJob (Drop id) = ⊥
 
--- the line drops an id
-abbrev pub IsDrop : Line → Type 0
-IsDrop (Post id op text) = ⊥
-IsDrop (Rush id op text) = ⊥
-IsDrop (Drop id) = Unit {0}
-
 -- the id that a line posts or drops
 abbrev pub line_id : Line → ℕ
 line_id (Post id op text) = id

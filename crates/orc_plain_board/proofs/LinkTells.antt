@@ -2,7 +2,7 @@
 use Rattle.std.proofs.Common.{◌≡◌, ◌≢◌, ℕ, zero, suc, ◌<◌, ◌==◌, List, [], ◌∷◌, ◌++◌, length, Bool, true, false, true≢false, cond, if◌then◌else◌, Option, Some, None, slice_get, slice_index, refl, sym, ap, ◌∙◌, subst, arith, eq-eqb, ne_eqb}
 use mathlib.Core.Logic.{dite}
 use native.Mathlib.Decide.{ℕ_discrete}
-use Rattle.orc_words.specs.Bounds.{Bounds, bounds_of}
+use Rattle.orc_words.specs.Bounds.{bounds_of}
 use Rattle.orc_words.specs.Packed.{link_word}
 use Rattle.orc_words.specs.Places.{link_at as link_word_at, place as word_place}
 use Rattle.orc_words.specs.declared.packed.RowLink.{RowLink}
@@ -19,12 +19,10 @@ use Rattle.orc_heap.specs.declared.events.Event.{Event}
 use Rattle.orc_heap.specs.declared.events.Link.{Link}
 use Rattle.orc_heap.specs.declared.events.Place.{Place}
 use Rattle.orc_heap.proofs.Untouched.{names_other, target_from, untouched_after}
-use Rattle.orc_shared_words.specs.Steps.{Extends}
 use Rattle.orc_shared_words.specs.declared.journal.View.{View}
 use Rattle.orc_plain_board.specs.Calls.{AddsOwn, MissesWanted, FindsLink, KnowsPlace, KnowsTarget, Misses, Replaces, look_event, move_event, unless_linked}
 use Rattle.orc_plain_board.specs.Machine.{State, finds, id_by, index_of, link_at, link_by, numbers, place_by, project, project_from, run, run_from, taken, tested}
-use Rattle.orc_plain_board.specs.Rules.{plain_rules}
-use Rattle.orc_plain_board.specs.Views.{FreshHeld, Keeps, PlainView, heap_of, view_of}
+use Rattle.orc_plain_board.specs.Views.{FreshHeld, Keeps, heap_of}
 use Rattle.orc_plain_board.specs.Words.{IsWord}
 use Rattle.orc_plain_board.specs.declared.machine.PlainOp.{PlainOp}
 use Rattle.orc_plain_board.specs.declared.machine.PlainOp.TheVariants.{LinkLoad, LinkCas, LinkStore}

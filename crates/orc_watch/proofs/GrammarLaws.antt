@@ -1,5 +1,5 @@
 -- A line has no cause and is known by its record, and causes are in an order.
-use Rattle.std.proofs.Common.{◌≡◌, ◌∙◌, ◌<◌, ◌^◌, All, List, [], ◌∷◌, ℕ, codes, refl, arith, ap, ap₂, sym, get_or, inl, inr, IsUtf8, rules, ◌==◌, if◌then◌else◌}
+use Rattle.std.proofs.Common.{◌≡◌, ◌<◌, ◌^◌, All, List, [], ◌∷◌, ℕ, codes, refl, arith, ap, ap₂, sym, get_or, inl, inr, IsUtf8, rules, ◌==◌, if◌then◌else◌}
 use Rattle.std.proofs.lemmas.List.Elements.{All-cons, All-nil}
 use Rattle.std.specs.Fmt.{decimal}
 use Rattle.orc_jobs.proofs.Fields.{IsUtf8-decimal, first-field, two-texts}

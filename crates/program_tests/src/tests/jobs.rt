@@ -3,7 +3,7 @@ ghost use Rattle.orc_jobs.specs.Generated.{drawn};
 ghost use Rattle.orc_jobs.specs.GoodLines.{AreGood};
 ghost use Rattle.orc_jobs.specs.JobGrammar.{HasCause, IsFileOf, IsLine, Refuses, record_of, records_of};
 ghost use Rattle.orc_jobs.specs.JobValue.{IsJobValue, word_count};
-ghost use Rattle.orc_jobs.specs.Line.{IsDrop, PostsJob, line_id, jobs_in, text_size};
+ghost use Rattle.orc_jobs.specs.Line.{PostsJob, line_id, jobs_in, text_size};
 ghost use Rattle.orc_jobs.specs.Numbers.{IsNumber, SpellsNumbers};
 
 use orc_fault::NoMemory;
@@ -20,8 +20,6 @@ fn lines_by_hand()
     ensures post { PostsJob (Line.Post 7 Job.Bytes (codes "hello")) }
     ensures rush { PostsJob (Line.Rush 7 Job.Bytes (codes "hello")) }
     ensures not_post { ¬ PostsJob (Line.Drop 7) }
-    ensures drop { IsDrop (Line.Drop 7) }
-    ensures not_drop { ¬ IsDrop (Line.Rush 7 Job.Bytes (codes "hello")) }
     ensures id { line_id (Line.Drop 7) ≡ 7 }
     ensures size { text_size (Line.Post 7 Job.Bytes (codes "hello")) ≡ 5 }
     ensures none { text_size (Line.Drop 7) ≡ 0 }
