@@ -2,7 +2,7 @@ use Rattle.orc_jobs.specs.JobGrammar.{Refuses}
 use Rattle.orc_program.specs.Answers.{TellsJobs}
 use Rattle.orc_program.specs.Refusals.{cause_word}
 use Rattle.orc_program.proofs.Files.{is_refused, is_told}
-use Rattle.orc_program.proofs.jobs_mode.Setup.answer_jobs.Goals as goal
+use Rattle.orc_program.proofs.answer.Setup.answer_jobs.Goals as goal
 
 pub returns-in-Ok : goal.returns-in-Ok
 returns-in-Ok g c =

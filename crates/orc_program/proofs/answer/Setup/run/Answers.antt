@@ -5,7 +5,7 @@ use Rattle.orc_run.specs.Runs.{WorkedThrough}
 use Rattle.orc_run.specs.Sets.{IsInRange}
 use Rattle.orc_run.specs.declared.set.SetChoice.{SetChoice}
 use Rattle.orc_program.specs.Headline.{choice_of}
-use Rattle.orc_program.proofs.working.Setup.run.Goals as goal
+use Rattle.orc_program.proofs.answer.Setup.run.Goals as goal
 
 -- the buckets of the settings are in range
 in_range : (which : SetKind) (buckets : ℕ) → 1 ≤ buckets → buckets ≤ 256 → IsInRange (choice_of which buckets)

@@ -1,6 +1,6 @@
 use Rattle.std.proofs.Common.{rules, ◌≡◌, refl}
 use Rattle.orc_stages_text.specs.StagesText.{stages_report}
-use Rattle.orc_program.proofs.stages_mode.Setup.send_through.Goals as goal
+use Rattle.orc_program.proofs.answer.Setup.send_through.Goals as goal
 
 pub returns : goal.returns
 returns g c =

@@ -5,7 +5,7 @@ use Rattle.orc_run.specs.Runs.{set_bounds}
 use Rattle.orc_program.specs.Ended.{generated_lines}
 use Rattle.orc_program.specs.Headline.{WorkedThrough, set_of}
 use Rattle.orc_program.proofs.Sums.{can_be_reported, has-summed}
-use Rattle.orc_program.proofs.trial_mode.Setup.answer_trial.Goals as goal
+use Rattle.orc_program.proofs.answer.Setup.answer_trial.Goals as goal
 
 pub summary_text-requires-clause-reportable : goal.summary_text-requires-clause-reportable
 summary_text-requires-clause-reportable g c =

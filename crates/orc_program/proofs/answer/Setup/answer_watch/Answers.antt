@@ -1,7 +1,7 @@
 use Rattle.orc_program.specs.Ended.{HasWatched}
 use Rattle.orc_program.specs.Refusals.{watch_cause_word}
 use Rattle.orc_program.proofs.Files.{is_refused, is_told}
-use Rattle.orc_program.proofs.watch_mode.Setup.answer_watch.Goals as goal
+use Rattle.orc_program.proofs.answer.Setup.answer_watch.Goals as goal
 use Rattle.orc_watch.specs.WatchGrammar.{Refuses}
 
 pub returns-in-Ok : goal.returns-in-Ok

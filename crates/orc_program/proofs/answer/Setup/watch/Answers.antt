@@ -1,6 +1,6 @@
 use Rattle.std.proofs.Common.{rules, ◌≡◌, None, Some, if◌then◌else◌, refl}
 use Rattle.orc_program.specs.Ended.{cell_numbers}
-use Rattle.orc_program.proofs.watch_mode.Setup.watch.Goals as goal
+use Rattle.orc_program.proofs.answer.Setup.watch.Goals as goal
 use Rattle.orc_watch.specs.WatchText.{watch_report}
 
 pub returns : goal.returns

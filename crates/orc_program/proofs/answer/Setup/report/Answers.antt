@@ -1,7 +1,7 @@
 use Rattle.std.proofs.Common.{rules, ◌≡◌, None, Some, if◌then◌else◌, refl}
 use Rattle.orc_report.specs.Report.{report_of}
 use Rattle.orc_program.specs.Headline.{numbers_of_rest}
-use Rattle.orc_program.proofs.jobs_mode.Setup.report.Goals as goal
+use Rattle.orc_program.proofs.answer.Setup.report.Goals as goal
 
 pub returns : goal.returns
 returns g c =
