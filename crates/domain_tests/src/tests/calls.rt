@@ -1,8 +1,9 @@
 //! The calls, over any domain.
 
 ghost use Rattle.std.specs.Prelude.{◌≡◌, ◌<◌, All, None, Some, if◌then◌else◌, length};
+ghost use Rattle.orc_any_domain.specs.Domains.{IsIdlePass};
 ghost use Rattle.orc_heap.specs.Calls.{unless_node};
-ghost use Rattle.orc_heap.specs.Seats.{HoldsFresh, HoldsTarget, HoldsWant, IsIdle, link_in};
+ghost use Rattle.orc_heap.specs.Seats.{HoldsFresh, HoldsTarget, HoldsWant, link_in};
 ghost use Rattle.orc_heap.specs.Slots.{Holds, IsFree};
 ghost use Rattle.orc_shared_words.specs.Lists.{EachAt};
 
@@ -70,19 +71,17 @@ fn link_second<L: Links<Rule = Twins>>(links: &L, p: &mut L::Pass, one: &Held) -
     let linked = swing_root(links, p, &Want::Node(one, false), &Want::Node(&two, false));
     let unlinked = swing_root(links, p, &Want::Node(&two, false), &Want::Null(false));
     links.release(p, two);
-    aimed && linked && unlinked
+    aimed & linked & unlinked
 }
 
 // Links a new node from root 0, and another one in its place; unlinks that, and holds none of them. Answers whether all that
 // came about.
 fn link_twins<L: Links<Rule = Twins>>(links: &L, p: &mut L::Pass) -> bool
-    requires pass { L.belongs links.now p.old }
     requires roots { 0 < (L.numbers links.now).roots }
     requires two { (L.numbers links.now).links ≡ 2 }
-    requires idle { IsIdle (L.seat links.now p.old) }
-    ensures pass { L.belongs links.now p.new }
+    requires idle { IsIdlePass L.Links links.now p.old }
     ensures agent { (L.seat links.now p.new).agent ≡ (L.seat links.now p.old).agent }
-    ensures idle { IsIdle (L.seat links.now p.new) }
+    ensures idle { IsIdlePass L.Links links.now p.new }
 {
     let Ok(one) = links.give(p, 1, 7, 8) else {
         return false;
@@ -99,15 +98,13 @@ fn link_twins<L: Links<Rule = Twins>>(links: &L, p: &mut L::Pass) -> bool
 
 // Lets the first of all passes do so.
 pub fn first_links<L: Links<Rule = Twins>>(links: &L, passes: &mut [L::Pass]) -> bool
-    requires belong { All (λ p. L.belongs links.now p) passes.old }
     requires order { EachAt (λ i p. (L.seat links.now p).agent ≡ i) passes.old }
-    requires idle { All (λ p. IsIdle (L.seat links.now p)) passes.old }
+    requires idle { All (IsIdlePass L.Links links.now) passes.old }
     requires roots { 0 < (L.numbers links.now).roots }
     requires two { (L.numbers links.now).links ≡ 2 }
     ensures many { length passes.new ≡ length passes.old }
-    ensures belong { All (λ p. L.belongs links.now p) passes.new }
     ensures order { EachAt (λ i p. (L.seat links.now p).agent ≡ i) passes.new }
-    ensures idle { All (λ p. IsIdle (L.seat links.now p)) passes.new }
+    ensures idle { All (IsIdlePass L.Links links.now) passes.new }
 {
     if passes.is_empty() {
         return false;

@@ -15,23 +15,20 @@ const NULL: Link = Link {
     mark: false,
 };
 
-const TO_0: Link = Link {
-    to: Some(0),
-    mark: false,
-};
-
 #[test]
 fn events_are_compared_field_by_field(rt: HostRuntime) -> Result<(), Fail> {
+    let to = Some(0);
+    let to_0 = Link { to, ..NULL };
     let event = Event {
         agent: 1,
         act: Act::Move {
             place: Place::Next(4),
             from: NULL,
-            to: TO_0,
+            to: to_0,
         },
         note: Some(7_u32),
     };
-    let marked = Link { mark: true, ..TO_0 };
+    let marked = Link { mark: true, ..to_0 };
     let act = Act::Move {
         place: Place::Next(4),
         from: NULL,

@@ -1,7 +1,7 @@
 //! Holds that move on from one node to the next, over any domain.
 
 ghost use Rattle.std.specs.Prelude.{◌≡◌, ◌<◌, ℕ, None, Some, replicate, slice_set};
-ghost use Rattle.orc_heap.specs.Seats.{IsIdle};
+ghost use Rattle.orc_any_domain.specs.Domains.{IsIdlePass};
 
 use super::nodes::{replace_node, swing_root, unlink_node};
 use orc_heap::{AnyFit, At, Held, Links, Looked, LookedOn, Want};
@@ -30,11 +30,9 @@ pub enum Found {
 
 // Sets the mark of the link of root 0, and answers whether that came about.
 fn mark_node<L: Links<Rule = AnyFit>>(links: &L, p: &mut L::Pass) -> bool
-    requires pass { L.belongs links.now p.old }
-    requires idle { IsIdle (L.seat links.now p.old) }
+    requires idle { IsIdlePass L.Links links.now p.old }
     requires roots { 0 < (L.numbers links.now).roots }
-    ensures pass { L.belongs links.now p.new }
-    ensures idle { IsIdle (L.seat links.now p.new) }
+    ensures idle { IsIdlePass L.Links links.now p.new }
 {
     match links.look(p, &At::Root(0), 1) {
         Looked::Stable(_, Some(node)) => {
@@ -53,11 +51,9 @@ fn mark_node<L: Links<Rule = AnyFit>>(links: &L, p: &mut L::Pass) -> bool
 
 // Changes root 0, and answers whether that came about.
 fn change_root<L: Links<Rule = AnyFit>>(links: &L, p: &mut L::Pass, change: Change) -> bool
-    requires pass { L.belongs links.now p.old }
-    requires idle { IsIdle (L.seat links.now p.old) }
+    requires idle { IsIdlePass L.Links links.now p.old }
     requires roots { 0 < (L.numbers links.now).roots }
-    ensures pass { L.belongs links.now p.new }
-    ensures idle { IsIdle (L.seat links.now p.new) }
+    ensures idle { IsIdlePass L.Links links.now p.new }
 {
     match change {
         Change::Replace => replace_node(links, p, 9),
@@ -73,8 +69,7 @@ fn look_on_at_root<L: Links<Rule = AnyFit>>(links: &L, p: &mut L::Pass, node: He
     requires node { node.slot ≡ 1 }
     requires held { (id : ℕ) × ((L.seat links.now p.old).slots ≡ slice_set (replicate 8 None) 1 (Some (record { row = node.row; id = id }))) }
     requires linked { (L.seat links.now p.old).fresh ≡ None }
-    ensures pass { L.belongs links.now p.new }
-    ensures idle { IsIdle (L.seat links.now p.new) }
+    ensures idle { IsIdlePass L.Links links.now p.new }
 {
     match links.look_on(p, &At::Root(0), node, 2) {
         LookedOn::On(next) => {
@@ -107,11 +102,9 @@ pub fn look_after<L: Links<Rule = AnyFit>>(
     other: &mut L::Pass,
     change: Change,
 ) -> Option<(bool, Found)>
-    requires pass { L.belongs links.now p.old × L.belongs links.now other.old }
-    requires idle { IsIdle (L.seat links.now p.old) × IsIdle (L.seat links.now other.old) }
+    requires idle { IsIdlePass L.Links links.now p.old × IsIdlePass L.Links links.now other.old }
     requires roots { 0 < (L.numbers links.now).roots }
-    ensures pass { L.belongs links.now p.new × L.belongs links.now other.new }
-    ensures idle { IsIdle (L.seat links.now p.new) × IsIdle (L.seat links.now other.new) }
+    ensures idle { IsIdlePass L.Links links.now p.new × IsIdlePass L.Links links.now other.new }
 {
     match links.look(p, &At::Root(0), 1) {
         Looked::Stable(_, Some(node)) => {

@@ -1,8 +1,9 @@
 //! Nodes that are given, linked from root 0, held and unlinked, over any domain.
 
 ghost use Rattle.std.specs.Prelude.{◌≡◌, ◌<◌, All, IfSome, if◌then◌else◌, length};
+ghost use Rattle.orc_any_domain.specs.Domains.{IsIdlePass};
 ghost use Rattle.orc_heap.specs.Calls.{unless_node};
-ghost use Rattle.orc_heap.specs.Seats.{HoldsWant, IsIdle, link_in};
+ghost use Rattle.orc_heap.specs.Seats.{HoldsWant, link_in};
 ghost use Rattle.orc_shared_words.specs.Lists.{EachAt};
 
 use orc_heap::{AnyFit, At, Held, Links, Looked, Want};
@@ -10,12 +11,9 @@ use std::thread::{Threads, join_mut};
 
 // Takes the last pass that is left.
 fn next_pass<L: Links<Rule = AnyFit>>(links: &L, passes: &mut Vec<L::Pass>) -> Option<L::Pass>
-    requires pass { All (λ p. L.belongs links.now p) passes.old.items }
-    requires idle { All (λ p. IsIdle (L.seat links.now p)) passes.old.items }
-    ensures pass { All (λ p. L.belongs links.now p) passes.new.items }
-    ensures idle { All (λ p. IsIdle (L.seat links.now p)) passes.new.items }
-    ensures popped { IfSome result (λ p. L.belongs links.now p) }
-    ensures next { IfSome result (λ p. IsIdle (L.seat links.now p)) }
+    requires idle { All (IsIdlePass L.Links links.now) passes.old.items }
+    ensures idle { All (IsIdlePass L.Links links.now) passes.new.items }
+    ensures popped { IfSome result (IsIdlePass L.Links links.now) }
 {
     passes.pop()
 }
@@ -23,11 +21,9 @@ fn next_pass<L: Links<Rule = AnyFit>>(links: &L, passes: &mut Vec<L::Pass>) -> O
 // Gives a node, fills it, and releases it unlinked. Answers its second value, and whether root 0 was null meanwhile; none where
 // no row could be given.
 fn one_node<L: Links<Rule = AnyFit>>(links: &L, p: &mut L::Pass) -> Option<(u64, bool)>
-    requires pass { L.belongs links.now p.old }
-    requires idle { IsIdle (L.seat links.now p.old) }
+    requires idle { IsIdlePass L.Links links.now p.old }
     requires roots { 0 < (L.numbers links.now).roots }
-    ensures pass { L.belongs links.now p.new }
-    ensures idle { IsIdle (L.seat links.now p.new) }
+    ensures idle { IsIdlePass L.Links links.now p.new }
     ensures agent { (L.seat links.now p.new).agent ≡ (L.seat links.now p.old).agent }
 {
     let Ok(node) = links.give(p, 1, 7, 8) else {
@@ -45,14 +41,12 @@ pub fn first_gives<L: Links<Rule = AnyFit>>(
     links: &L,
     passes: &mut [L::Pass],
 ) -> Option<(u64, bool)>
-    requires belong { All (λ p. L.belongs links.now p) passes.old }
     requires order { EachAt (λ i p. (L.seat links.now p).agent ≡ i) passes.old }
-    requires idle { All (λ p. IsIdle (L.seat links.now p)) passes.old }
+    requires idle { All (IsIdlePass L.Links links.now) passes.old }
     requires roots { 0 < (L.numbers links.now).roots }
     ensures many { length passes.new ≡ length passes.old }
-    ensures belong { All (λ p. L.belongs links.now p) passes.new }
     ensures order { EachAt (λ i p. (L.seat links.now p).agent ≡ i) passes.new }
-    ensures idle { All (λ p. IsIdle (L.seat links.now p)) passes.new }
+    ensures idle { All (IsIdlePass L.Links links.now) passes.new }
 {
     if passes.is_empty() {
         return None;
@@ -81,11 +75,9 @@ pub fn swing_root<L: Links<Rule = AnyFit>>(
 
 // Links a new node with this value from root 0, where that is null. Answers whether that came about.
 fn link_node<L: Links<Rule = AnyFit>>(links: &L, p: &mut L::Pass, value: u64) -> bool
-    requires pass { L.belongs links.now p.old }
-    requires idle { IsIdle (L.seat links.now p.old) }
+    requires idle { IsIdlePass L.Links links.now p.old }
     requires roots { 0 < (L.numbers links.now).roots }
-    ensures pass { L.belongs links.now p.new }
-    ensures idle { IsIdle (L.seat links.now p.new) }
+    ensures idle { IsIdlePass L.Links links.now p.new }
 {
     let Ok(node) = links.give(p, 1, value, 0) else {
         return false;
@@ -100,11 +92,9 @@ pub fn with_a_node<L: Links<Rule = AnyFit>>(
     links: &L,
     mut passes: Vec<L::Pass>,
 ) -> Option<(L::Pass, L::Pass)>
-    requires pass { All (λ p. L.belongs links.now p) passes.items }
-    requires idle { All (λ p. IsIdle (L.seat links.now p)) passes.items }
+    requires idle { All (IsIdlePass L.Links links.now) passes.items }
     requires roots { 0 < (L.numbers links.now).roots }
-    ensures pass { IfSome result (λ two. L.belongs links.now two.0 × L.belongs links.now two.1) }
-    ensures idle { IfSome result (λ two. IsIdle (L.seat links.now two.0) × IsIdle (L.seat links.now two.1)) }
+    ensures idle { IfSome result (λ two. IsIdlePass L.Links links.now two.0 × IsIdlePass L.Links links.now two.1) }
 {
     let one = next_pass(links, &mut passes)?;
     let mut two = next_pass(links, &mut passes)?;
@@ -116,11 +106,9 @@ pub fn with_a_node<L: Links<Rule = AnyFit>>(
 
 // Unlinks what root 0 leads to, and works through the rows that the pass has in hand then. Answers whether that came about.
 pub fn unlink_node<L: Links<Rule = AnyFit>>(links: &L, p: &mut L::Pass) -> bool
-    requires pass { L.belongs links.now p.old }
-    requires idle { IsIdle (L.seat links.now p.old) }
+    requires idle { IsIdlePass L.Links links.now p.old }
     requires roots { 0 < (L.numbers links.now).roots }
-    ensures pass { L.belongs links.now p.new }
-    ensures idle { IsIdle (L.seat links.now p.new) }
+    ensures idle { IsIdlePass L.Links links.now p.new }
 {
     match links.look(p, &At::Root(0), 1) {
         Looked::Stable(_, Some(node)) => {
@@ -135,11 +123,9 @@ pub fn unlink_node<L: Links<Rule = AnyFit>>(links: &L, p: &mut L::Pass) -> bool
 
 // Unlinks what root 0 leads to, and links a node with this value there.
 pub fn replace_node<L: Links<Rule = AnyFit>>(links: &L, p: &mut L::Pass, value: u64) -> bool
-    requires pass { L.belongs links.now p.old }
-    requires idle { IsIdle (L.seat links.now p.old) }
+    requires idle { IsIdlePass L.Links links.now p.old }
     requires roots { 0 < (L.numbers links.now).roots }
-    ensures pass { L.belongs links.now p.new }
-    ensures idle { IsIdle (L.seat links.now p.new) }
+    ensures idle { IsIdlePass L.Links links.now p.new }
 {
     let unlinked = unlink_node(links, p);
     let linked = link_node(links, p, value);
@@ -148,11 +134,9 @@ pub fn replace_node<L: Links<Rule = AnyFit>>(links: &L, p: &mut L::Pass, value: 
 
 // Holds what root 0 leads to, and answers its first value.
 pub fn value_at_root<L: Links<Rule = AnyFit>>(links: &L, p: &mut L::Pass) -> Option<u64>
-    requires pass { L.belongs links.now p.old }
-    requires idle { IsIdle (L.seat links.now p.old) }
+    requires idle { IsIdlePass L.Links links.now p.old }
     requires roots { 0 < (L.numbers links.now).roots }
-    ensures pass { L.belongs links.now p.new }
-    ensures idle { IsIdle (L.seat links.now p.new) }
+    ensures idle { IsIdlePass L.Links links.now p.new }
 {
     match links.look(p, &At::Root(0), 1) {
         Looked::Stable(_, Some(node)) => {
@@ -171,11 +155,9 @@ pub fn sees_each<L: Links<Rule = AnyFit>>(
     other: &mut L::Pass,
     values: &[u64],
 ) -> bool
-    requires pass { L.belongs links.now p.old × L.belongs links.now other.old }
-    requires idle { IsIdle (L.seat links.now p.old) × IsIdle (L.seat links.now other.old) }
+    requires idle { IsIdlePass L.Links links.now p.old × IsIdlePass L.Links links.now other.old }
     requires roots { 0 < (L.numbers links.now).roots }
-    ensures pass { L.belongs links.now p.new × L.belongs links.now other.new }
-    ensures idle { IsIdle (L.seat links.now p.new) × IsIdle (L.seat links.now other.new) }
+    ensures idle { IsIdlePass L.Links links.now p.new × IsIdlePass L.Links links.now other.new }
 {
     let mut seen = true;
     for value in values {
@@ -199,11 +181,9 @@ pub fn learn_both<L: Links<Rule = AnyFit>>(links: &L, one: &mut L::Pass, two: &m
 
 // Gives another node, and releases it, and works through it. Answers whether that came about.
 fn one_more<L: Links<Rule = AnyFit>>(links: &L, p: &mut L::Pass) -> bool
-    requires pass { L.belongs links.now p.old }
-    requires idle { IsIdle (L.seat links.now p.old) }
+    requires idle { IsIdlePass L.Links links.now p.old }
     requires roots { 0 < (L.numbers links.now).roots }
-    ensures pass { L.belongs links.now p.new }
-    ensures idle { IsIdle (L.seat links.now p.new) }
+    ensures idle { IsIdlePass L.Links links.now p.new }
 {
     let given = one_node(links, p);
     links.settle(p);
@@ -212,11 +192,9 @@ fn one_more<L: Links<Rule = AnyFit>>(links: &L, p: &mut L::Pass) -> bool
 
 // Unlinks what root 0 leads to, and gives and releases two nodes more.
 fn goes_on<L: Links<Rule = AnyFit>>(links: &L, p: &mut L::Pass) -> bool
-    requires pass { L.belongs links.now p.old }
-    requires idle { IsIdle (L.seat links.now p.old) }
+    requires idle { IsIdlePass L.Links links.now p.old }
     requires roots { 0 < (L.numbers links.now).roots }
-    ensures pass { L.belongs links.now p.new }
-    ensures idle { IsIdle (L.seat links.now p.new) }
+    ensures idle { IsIdlePass L.Links links.now p.new }
 {
     let unlinked = unlink_node(links, p);
     let once = one_more(links, p);
@@ -231,11 +209,9 @@ pub fn held_meanwhile<L: Links<Rule = AnyFit>>(
     p: &mut L::Pass,
     other: &mut L::Pass,
 ) -> Option<(u64, u64, bool)>
-    requires pass { L.belongs links.now p.old × L.belongs links.now other.old }
-    requires idle { IsIdle (L.seat links.now p.old) × IsIdle (L.seat links.now other.old) }
+    requires idle { IsIdlePass L.Links links.now p.old × IsIdlePass L.Links links.now other.old }
     requires roots { 0 < (L.numbers links.now).roots }
-    ensures pass { L.belongs links.now p.new × L.belongs links.now other.new }
-    ensures idle { IsIdle (L.seat links.now p.new) × IsIdle (L.seat links.now other.new) }
+    ensures idle { IsIdlePass L.Links links.now p.new × IsIdlePass L.Links links.now other.new }
 {
     match links.look(p, &At::Root(0), 1) {
         Looked::Stable(_, Some(node)) => {
@@ -251,11 +227,9 @@ pub fn held_meanwhile<L: Links<Rule = AnyFit>>(
 
 // Looks at root 0 again and again, and tells whether each node that was held had one of the two values.
 fn look_often<L: Links<Rule = AnyFit>>(links: &L, p: &mut L::Pass) -> bool
-    requires pass { L.belongs links.now p.old }
-    requires idle { IsIdle (L.seat links.now p.old) }
+    requires idle { IsIdlePass L.Links links.now p.old }
     requires roots { 0 < (L.numbers links.now).roots }
-    ensures pass { L.belongs links.now p.new }
-    ensures idle { IsIdle (L.seat links.now p.new) }
+    ensures idle { IsIdlePass L.Links links.now p.new }
 {
     let mut one_of_both = true;
     for _turn in 0..200 {
@@ -274,11 +248,9 @@ pub fn on_two_threads<R: Threads + Sync, L: Links<Rule = AnyFit> + Sync>(
 ) -> (bool, bool)
 where
     L::Pass: Send,
-    requires pass { L.belongs links.now p.old × L.belongs links.now other.old }
-    requires idle { IsIdle (L.seat links.now p.old) × IsIdle (L.seat links.now other.old) }
+    requires idle { IsIdlePass L.Links links.now p.old × IsIdlePass L.Links links.now other.old }
     requires roots { 0 < (L.numbers links.now).roots }
-    ensures pass { L.belongs links.now p.new × L.belongs links.now other.new }
-    ensures idle { IsIdle (L.seat links.now p.new) × IsIdle (L.seat links.now other.new) }
+    ensures idle { IsIdlePass L.Links links.now p.new × IsIdlePass L.Links links.now other.new }
 {
     join_mut(
         rt,

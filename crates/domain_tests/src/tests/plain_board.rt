@@ -3,7 +3,7 @@
 ghost use Rattle.std.specs.Prelude.{◌≡◌, ◌<◌, All, IfSome, MatchBool, None, Some, false};
 ghost use Rattle.orc_plain_board.specs.Views.{Belongs, board_bounds, shows};
 
-use orc_heap::{AnyFit, Discipline, Seed};
+use orc_heap::{AnyFit, Seed};
 use orc_plain_board::{PlainBoard, PlainBoardPass};
 use orc_words::{RowLink, Shape, Word};
 use std::test::Fail;
@@ -106,20 +106,6 @@ fn look_at_root(board: &Board, p: &mut Pass) -> (u64, u64)
     let found = board.link_load(p, Word::Root(0), None, None);
     let again = board.link_load(p, Word::Root(0), Some(NULL), Some(5));
     (found, again)
-}
-
-fn is_shared<T: Sync>() {}
-
-fn is_sent<T: Send>() {}
-
-// Compiles for each discipline whose notes may cross threads.
-fn boards_and_passes_cross_threads<D: Discipline>()
-where
-    D::Note: Send + Sync,
-{
-    is_shared::<PlainBoard<D>>();
-    is_sent::<PlainBoard<D>>();
-    is_sent::<PlainBoardPass<D>>();
 }
 
 // Answers the last of the board's new passes.

@@ -1,8 +1,7 @@
 //! Domains of any kind that are made, called and brought to rest, and what they tell.
 
 ghost use Rattle.std.specs.Prelude.{◌≡◌, ◌<◌, [], All, IfSome, List, length};
-ghost use Rattle.orc_any_domain.specs.Domains.{heap_numbers};
-ghost use Rattle.orc_heap.specs.Seats.{IsIdle};
+ghost use Rattle.orc_any_domain.specs.Domains.{IsIdlePass, heap_numbers};
 ghost use Rattle.orc_shared_words.specs.Lists.{EachAt};
 ghost use Rattle.orc_words.specs.Bounds.{bounds_of};
 
@@ -22,9 +21,8 @@ use std::thread::Threads;
 fn new_domain<L: Domain + Drop>(alloc: Global, shape: &Shape) -> Option<(L, Vec<L::Pass>)>
     requires { L.Rule.holds (heap_numbers (bounds_of shape.now)) [] }
     ensures numbers { IfSome result (λ made. L.numbers made.0 ≡ heap_numbers (bounds_of shape.now)) }
-    ensures belong { IfSome result (λ made. All (λ p. L.belongs made.0 p) made.1.items) }
     ensures order { IfSome result (λ made. EachAt (λ i p. (L.seat made.0 p).agent ≡ i) made.1.items) }
-    ensures idle { IfSome result (λ made. All (λ p. IsIdle (L.seat made.0 p)) made.1.items) }
+    ensures idle { IfSome result (λ made. All (IsIdlePass L.Links made.0) made.1.items) }
     ensures many { IfSome result (λ made. length made.1.items ≡ L.agents made.0) }
 {
     match L::make(alloc, shape, Seed::Empty) {
@@ -39,9 +37,8 @@ fn two_rows<L: Domain<Rule = AnyFit> + Drop>(
     agents: u32,
 ) -> Option<(L, Vec<L::Pass>)>
     ensures roots { IfSome result (λ made. 0 < (L.numbers made.0).roots) }
-    ensures belong { IfSome result (λ made. All (λ p. L.belongs made.0 p) made.1.items) }
     ensures order { IfSome result (λ made. EachAt (λ i p. (L.seat made.0 p).agent ≡ i) made.1.items) }
-    ensures idle { IfSome result (λ made. All (λ p. IsIdle (L.seat made.0 p)) made.1.items) }
+    ensures idle { IfSome result (λ made. All (IsIdlePass L.Links made.0) made.1.items) }
     ensures many { IfSome result (λ made. length made.1.items ≡ L.agents made.0) }
 {
     let Ok(shape) = Shape::new(2, 1, agents, 8) else {
@@ -56,8 +53,7 @@ fn two_rows<L: Domain<Rule = AnyFit> + Drop>(
 pub fn two_rows_and_a_node<L: Domain<Rule = AnyFit> + Drop>(
     alloc: Global,
 ) -> Option<(L, L::Pass, L::Pass)>
-    ensures pass { IfSome result (λ made. L.belongs made.0 made.1 × L.belongs made.0 made.2) }
-    ensures idle { IfSome result (λ made. IsIdle (L.seat made.0 made.1) × IsIdle (L.seat made.0 made.2)) }
+    ensures idle { IfSome result (λ made. IsIdlePass L.Links made.0 made.1 × IsIdlePass L.Links made.0 made.2) }
     ensures roots { IfSome result (λ made. 0 < (L.numbers made.0).roots) }
 {
     let (domain, passes) = two_rows::<L>(alloc, 2)?;
@@ -65,12 +61,12 @@ pub fn two_rows_and_a_node<L: Domain<Rule = AnyFit> + Drop>(
     Some((domain, one, two))
 }
 
-// Lets the first of so many agents give a node three times, each of which it releases, and brings the domain to rest. Answers what
-// each call told, and the counts of the rows.
+// Lets the first of so many agents give a node three times, each of which it releases, and brings the domain to rest. Answers whether
+// two were given while root 0 was null, and no third, and the counts of the rows.
 pub fn gives_and_rests<L: Domain<Rule = AnyFit> + Drop>(
     alloc: Global,
     agents: u32,
-) -> Option<([Option<(u64, bool)>; 3], RowCounts)> {
+) -> Option<(bool, RowCounts)> {
     let (domain, mut passes) = two_rows::<L>(alloc, agents)?;
     let given = [
         first_gives(&domain, passes.as_mut_slice()),
@@ -78,7 +74,8 @@ pub fn gives_and_rests<L: Domain<Rule = AnyFit> + Drop>(
         first_gives(&domain, passes.as_mut_slice()),
     ];
     let rest = domain.end(passes);
-    Some((given, L::counts(&rest)))
+    let two = [Some((9, true)), Some((9, true)), None];
+    Some((given == two, L::counts(&rest)))
 }
 
 // Lets the one agent of a domain whose nodes have two links link nodes to each other, and brings it to rest. Answers whether all that
