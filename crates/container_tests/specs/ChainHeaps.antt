@@ -2,13 +2,15 @@
 use Rattle.std.specs.Prelude.{List, None, Option, Some, [], true, ℕ, ◌∷◌}
 use Rattle.orc_heap.specs.Acts.{as_linked, with_link}
 use Rattle.orc_heap.specs.Heap.{Heap, Node, link_to, null}
+use Rattle.orc_heap.specs.Journals.{event_by}
 use Rattle.orc_heap.specs.declared.events.Act.{Act}
-use Rattle.orc_heap.specs.declared.events.Act.TheVariants.{Move}
+use Rattle.orc_heap.specs.declared.events.Act.TheVariants.{Look, Move}
+use Rattle.orc_heap.specs.declared.events.Event.{Event}
 use Rattle.orc_heap.specs.declared.events.Link.{Link}
 use Rattle.orc_heap.specs.declared.events.Place.TheVariants.{Next, Root}
-use Rattle.orc_history.specs.declared.set.SetEntry.TheVariants.{Added, Removed}
+use Rattle.orc_history.specs.declared.set.SetEntry.TheVariants.{Added, Asked, Removed}
 use Rattle.orc_chain_rule.specs.declared.chain.ChainNote.{ChainNote}
-use Rattle.orc_chain_rule.specs.declared.chain.ChainNote.TheVariants.{Entry}
+use Rattle.orc_chain_rule.specs.declared.chain.ChainNote.TheVariants.{Entry, Unlink}
 use Rattle.orc_chain_rule.specs.Watches.{node_to_add}
 
 -- these nodes; one root, which leads to node 0
@@ -61,3 +63,12 @@ leads_root to = Move (Root 0) (link_to 0) to
 -- node 0 of the key 3 and node 1 of the key 5 are marked, and node 2 of the key 9 isn't; node 3 of the key 4 is aimed at node 2
 abbrev pub run_of_two : Heap
 run_of_two = one_root (marked_node 3 (Some 1) ∷ marked_node 5 (Some 2) ∷ linked_node 9 None ∷ unlinked_node 4 (Some 2) ∷ [])
+
+-- agent 1 looks at root 0; agent 2 adds 5 and takes it out, and agent 3 asks for it and leads past its node
+abbrev pub around_five : List (Event ChainNote)
+around_five =
+    event_by 1 (Look (Root 0) null) None
+    ∷ event_by 2 (Move (Root 0) null (link_to 0)) (Some (Entry (Added 2 5 true)))
+    ∷ event_by 3 (Look (Next 0) null) (Some (Entry (Asked 3 5 true)))
+    ∷ event_by 2 (Move (Next 0) null (marked_link None)) (Some (Entry (Removed 2 5 true)))
+    ∷ event_by 3 (Move (Root 0) (link_to 0) null) (Some Unlink) ∷ []

@@ -1,16 +1,12 @@
 //! Notes, and worked examples of the definitions.
 
+use super::plain_note;
 use orc_chain_rule::*;
-use orc_heap::Discipline;
 use orc_history::SetEntry;
 use std::test::Fail;
 
 mod examples;
 mod refusals;
-
-fn plain_note<D: Discipline>(note: D::Note) -> Option<D::Note> {
-    Some(note)
-}
 
 #[test]
 fn notes_are_compared_with_their_entries(rt: HostRuntime) -> Result<(), Fail> {

@@ -1,24 +1,19 @@
 //! Notes, and worked examples of the definitions.
 
+use super::plain_note;
 use orc_fifo_rule::*;
-use orc_heap::Discipline;
 use orc_history::QueueEntry;
 use std::test::Fail;
 
 mod examples;
 
-fn plain_note<D: Discipline>(note: D::Note) -> Option<D::Note> {
-    Some(note)
-}
-
 #[test]
 fn notes_are_compared_with_their_entries(rt: HostRuntime) -> Result<(), Fail> {
-    let put = QueueEntry::Put {
+    let note = FifoNote::Entry(QueueEntry::Put {
         agent: 1,
         job: 7,
         at: 5,
-    };
-    let note = FifoNote::Entry(put);
+    });
     assert_eq!(rt; plain_note::<Fifo>(note), Some(note));
     assert_ne!(rt; note, FifoNote::Entry(QueueEntry::Empty { agent: 1 }));
     assert_ne!(rt; FifoNote::Swing, FifoNote::Begin);

@@ -1,6 +1,6 @@
 //! Worked examples of the definitions, computed by hand and proved, and what a caller of the set sees.
 
-ghost use Rattle.std.specs.Prelude.{◌≡◌, List, ◌∷◌, [], IfErr, Some, None, true, false};
+ghost use Rattle.std.specs.Prelude.{◌≡◌, List, ◌∷◌, [], IfErr, Some, true, false};
 ghost use Rattle.orc_heap.specs.Heap.{null, link_to};
 ghost use Rattle.orc_heap.specs.Journals.{event_by};
 ghost use Rattle.orc_heap.specs.declared.events.Act.{Act};
@@ -8,6 +8,7 @@ ghost use Rattle.orc_heap.specs.declared.events.Event.{Event};
 ghost use Rattle.orc_heap.specs.declared.events.Place.{Place};
 ghost use Rattle.orc_history.specs.declared.set.SetEntry.{SetEntry};
 ghost use Rattle.orc_chain_rule.specs.declared.chain.ChainNote.{ChainNote};
+ghost use Rattle.container_tests.specs.ChainHeaps.{around_five};
 ghost use Rattle.orc_list.specs.Causes.{CostTurns, UsesTurns, entered_by_others};
 ghost use Rattle.orc_list.specs.ListCalls.{CostsOthers};
 ghost use Rattle.orc_list.specs.SetMembers.{IsUsable};
@@ -21,20 +22,8 @@ use orc_set::Set;
 // While agent 1 looked, agent 2 added 5 and took it out, and agent 3 led past its node: these use up three turns of agent 1, and
 // not four. An answer that changes nothing uses up none.
 fn others_use_up_turns()
-    ensures three { let es : List (Event ChainNote) =
-        event_by 1 (Act.Look (Place.Root 0) null) None
-        ∷ event_by 2 (Act.Move (Place.Root 0) null (link_to 0)) (Some (ChainNote.Entry (SetEntry.Added 2 5 true)))
-        ∷ event_by 3 (Act.Look (Place.Next 0) null) (Some (ChainNote.Entry (SetEntry.Asked 3 5 true)))
-        ∷ event_by 2 (Act.Move (Place.Next 0) null (record { to = None; mark = true })) (Some (ChainNote.Entry (SetEntry.Removed 2 5 true)))
-        ∷ event_by 3 (Act.Move (Place.Root 0) (link_to 0) null) (Some ChainNote.Unlink) ∷ [] in
-        UsesTurns {S = Event ChainNote} (record { roots = 1; links = 1 }) (λ e. e.agent) (λ j. j) 1 3 es 0 5 }
-    ensures not_four { let es : List (Event ChainNote) =
-        event_by 1 (Act.Look (Place.Root 0) null) None
-        ∷ event_by 2 (Act.Move (Place.Root 0) null (link_to 0)) (Some (ChainNote.Entry (SetEntry.Added 2 5 true)))
-        ∷ event_by 3 (Act.Look (Place.Next 0) null) (Some (ChainNote.Entry (SetEntry.Asked 3 5 true)))
-        ∷ event_by 2 (Act.Move (Place.Next 0) null (record { to = None; mark = true })) (Some (ChainNote.Entry (SetEntry.Removed 2 5 true)))
-        ∷ event_by 3 (Act.Move (Place.Root 0) (link_to 0) null) (Some ChainNote.Unlink) ∷ [] in
-        ¬ CostTurns {S = Event ChainNote} (record { roots = 1; links = 1 }) (λ j. j) 1 4 es 0 5 }
+    ensures three { UsesTurns {S = Event ChainNote} (record { roots = 1; links = 1 }) (λ e. e.agent) (λ j. j) 1 3 around_five 0 5 }
+    ensures not_four { ¬ CostTurns {S = Event ChainNote} (record { roots = 1; links = 1 }) (λ j. j) 1 4 around_five 0 5 }
     ensures entered { let es : List (Event ChainNote) =
         event_by 1 (Act.Look (Place.Root 0) null) (Some (ChainNote.Entry (SetEntry.Asked 1 5 false)))
         ∷ event_by 2 (Act.Move (Place.Root 0) null (link_to 0)) (Some (ChainNote.Entry (SetEntry.Added 2 5 true)))
