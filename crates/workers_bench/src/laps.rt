@@ -1,11 +1,14 @@
 //! Laps: so many posts on threads, and then the takes of all jobs.
 
-ghost use Rattle.std.specs.Prelude.{◌≡◌, ◌+◌, ◌<◌, ◌≤◌, ℕ, [], All, length, slice_index_or};
+ghost use Rattle.std.specs.Prelude.{◌≤◌, All};
 ghost use Rattle.orc_jobs.specs.GoodLines.{AreGood};
 
 use crate::bare::{next_passes, post_on_threads, take_bare};
 use orc_board::Gate;
-use orc_history::{LearnQueue, LearnSet, SharedQueue, SharedSet};
+use orc_chain_rule::Chain;
+use orc_containers::{Domain, new_queue, new_set};
+use orc_fifo_rule::Fifo;
+use orc_history::{SharedQueue, SharedSet};
 use orc_jobs::Lines;
 use orc_workers::{fresh_desks, run_at_desks};
 use std::alloc::Global;
@@ -14,6 +17,9 @@ use std::sync::Wait;
 use std::sync::atomic::{AtomicU64, Ordering};
 use std::thread::Threads;
 use std::time::{Clock, Instant};
+
+// How many rows each domain has.
+pub(crate) const ROWS: u32 = 65_535;
 
 // Microseconds until the caller begins to take, microseconds of the whole lap, and how many jobs were taken.
 #[derive(Clone, Copy, Drop)]
@@ -48,51 +54,40 @@ fn micros_since(clock: &impl Clock, start: Instant) -> u64 {
     }
 }
 
-// A lap by workers of the board, or none where memory is refused.
+// A lap by workers of the board over new domains of these types, or none where memory is refused.
 pub(crate) fn lap_of_workers<
     R: Threads + Wait + Clock + Sync,
-    Q: LearnQueue + Sync,
-    S: LearnSet + Sync,
+    F: Domain<Rule = Fifo> + Sync + Drop,
+    C: Domain<Rule = Chain> + Sync + Drop,
 >(
     rt: &R,
     alloc: Global,
     lines: &Lines,
+    buckets: u32,
     posters: u32,
     takers: u32,
-    queue: &Q,
-    rush: &Q,
-    set: &S,
-    queue_passes: Vec<Q::Pass>,
-    rush_passes: Vec<Q::Pass>,
-    set_passes: Vec<S::Pass>,
 ) -> io::Result<Option<Lap>>
 where
-    Q::Pass: Send,
-    S::Pass: Send,
+    F::Pass: Send,
+    C::Pass: Send,
     requires good { AreGood lines.now }
     requires posters { (1 ≤ posters) × (posters ≤ 8) × (takers ≤ 7) }
-    requires queue_usable { All (λ p. Q.usable queue.now p) queue_passes.items }
-    requires queue_fresh { All (λ p. Q.history queue.now (Q.journal p) ≡ []) queue_passes.items }
-    requires queue_numbered { (i : ℕ) (p : Q.Pass) → i < length queue_passes.items
-        → Q.agent_of queue.now (slice_index_or queue_passes.items i p) ≡ i }
-    requires queue_all { (length queue_passes.items ≡ 1 + (posters + takers)) × (Q.agents queue.now ≡ 1 + (posters + takers)) }
-    requires rush_usable { All (λ p. Q.usable rush.now p) rush_passes.items }
-    requires rush_fresh { All (λ p. Q.history rush.now (Q.journal p) ≡ []) rush_passes.items }
-    requires rush_numbered { (i : ℕ) (p : Q.Pass) → i < length rush_passes.items
-        → Q.agent_of rush.now (slice_index_or rush_passes.items i p) ≡ i }
-    requires rush_all { (length rush_passes.items ≡ 1 + (posters + takers)) × (Q.agents rush.now ≡ 1 + (posters + takers)) }
-    requires first { (Q.first queue.now ≡ 0) × (Q.first rush.now ≡ 0) }
-    requires set_usable { All (λ p. S.usable set.now p) set_passes.items }
-    requires set_fresh { All (λ p. S.history set.now (S.journal p) ≡ []) set_passes.items }
-    requires set_numbered { (i : ℕ) (p : S.Pass) → i < length set_passes.items
-        → S.agent_of set.now (slice_index_or set_passes.items i p) ≡ i }
-    requires set_all { (length set_passes.items ≡ 1 + (posters + takers)) × (S.agents set.now ≡ 1 + (posters + takers)) }
 {
+    let agents = 1 + posters + takers;
+    let Ok((queue, queue_passes)) = new_queue::<F>(alloc, ROWS, agents) else {
+        return Ok(None);
+    };
+    let Ok((rush, rush_passes)) = new_queue::<F>(alloc, ROWS, agents) else {
+        return Ok(None);
+    };
+    let Ok((set, set_passes)) = new_set::<C>(alloc, ROWS, agents, buckets) else {
+        return Ok(None);
+    };
     let Ok(mut desks) = fresh_desks(
         alloc,
-        queue,
-        rush,
-        set,
+        &queue,
+        &rush,
+        &set,
         queue_passes,
         rush_passes,
         set_passes,
@@ -106,18 +101,15 @@ where
         posting: AtomicU64::new(0),
     };
     let run = run_at_desks(
-        rt, alloc, lines, posters, takers, queue, rush, set, &mut desks, &watch,
+        rt, alloc, lines, posters, takers, &queue, &rush, &set, &mut desks, &watch,
     );
     let all = micros_since(rt, start);
     let posting = watch.posting.load(Ordering::SeqCst);
-    match run {
-        Ok(replies) => Ok(Some(Lap {
-            posting,
-            all,
-            jobs: replies.takes.len() as u64,
-        })),
-        Err(_) => Ok(None),
-    }
+    let Ok(replies) = run else {
+        return Ok(None);
+    };
+    let jobs = replies.takes.len() as u64;
+    Ok(Some(Lap { posting, all, jobs }))
 }
 
 // A lap by bare calls on so many threads, or none where there is no pass.
