@@ -1,5 +1,6 @@
 //! Which bytes are a watch file, and how others are refused.
 
+use orc_jobs::FileRefused;
 use orc_watch::{WatchCause, WatchLine, read_watch};
 use std::alloc::Global;
 use std::process::Abort;
