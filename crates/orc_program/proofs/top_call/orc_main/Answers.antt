@@ -13,6 +13,13 @@ not_read : (n : ℕ) → (n ≡ 2) ⊎ (n ≡ 5) → n ≡ 4 → ⊥
 not_read n (inl two) four = omega (arith, two, four)
 not_read n (inr five) four = omega (arith, five, four)
 
+-- what was answered is written, or its writing fails: no failure of reading or of memory
+not_failed : (status n : ℕ) → (status ≡ 0) ⊎ (status ≡ 3) ⊎ (status ≡ 6) ⊎ (status ≡ 8) → (n ≡ status) ⊎ (n ≡ 5) → (n ≡ 4) ⊎ (n ≡ 7) → ⊥
+not_failed status n said (inl is) (inl four) = (no_failure status said).0 (sym is ∙ four)
+not_failed status n said (inl is) (inr seven) = (no_failure status said).2 (sym is ∙ seven)
+not_failed status n said (inr five) (inl four) = omega (arith, five, four)
+not_failed status n said (inr five) (inr seven) = omega (arith, five, seven)
+
 pub returns-in-Err-Words-clause-cut_short : goal.returns-in-Err-Words-clause-cut_short
 returns-in-Err-Words-clause-cut_short g c five =
     let refuses : RefusesWords c.args.words.now = search rules in
@@ -89,10 +96,12 @@ returns-in-Ok-answer_of-clause-nothing_read g c none =
     c.read_input.ensures.nothing (λ is. none (c.in-Ok.settings, c.in-Ok.ensures.gives, is))
 
 pub returns-in-Ok-answer_of-clause-read_fault : goal.returns-in-Ok-answer_of-clause-read_fault
-returns-in-Ok-answer_of-clause-read_fault g c four = elim c.write_text.ensures.statuses [
-  | inl is ↦ absurd ((no_failure _ (statuses _ _ _ _ _ c.in-Ok-answer_of.ensures)).0 (sym is ∙ four))
-  | inr five ↦ absurd (omega (arith, five, four))
-]
+returns-in-Ok-answer_of-clause-read_fault g c four =
+    absurd (not_failed _ _ (statuses _ _ _ _ _ c.in-Ok-answer_of.ensures) c.write_text.ensures.statuses (inl four))
+
+pub returns-in-Ok-answer_of-clause-unanswered : goal.returns-in-Ok-answer_of-clause-unanswered
+returns-in-Ok-answer_of-clause-unanswered g c failed =
+    absurd (not_failed _ _ (statuses _ _ _ _ _ c.in-Ok-answer_of.ensures) c.write_text.ensures.statuses failed)
 
 pub returns-clause-nothing_read : goal.returns-clause-nothing_read
 returns-clause-nothing_read g c none = c.read_input.ensures.nothing (λ is. none (c.in-Ok.settings, c.in-Ok.ensures.gives, is))
