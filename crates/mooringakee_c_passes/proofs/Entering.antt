@@ -2,7 +2,7 @@
 use Rattle.std.proofs.Common.{List, [], length, refl, subst, sym, ℕ, ◌<◌, ◌≡◌}
 use Rattle.std.specs.List.{AllByRecursion}
 use Rattle.orc_core.specs.declared.records.Agent.{Agent}
-use Rattle.orc_domain.specs.Laws.Passes.{all_allowed, all_below}
+use Rattle.orc_domain.specs.Laws.Passes.{all_below}
 use Rattle.orc_domain.specs.Passes.{IsPassOf, domain_bounds, domain_numbers, journal_of, seat_of}
 use Rattle.orc_domain.specs.declared.domain.OrcDomain.{OrcDomain}
 use Rattle.orc_domain.specs.declared.domain.OrcPass.{OrcPass}
@@ -54,4 +54,4 @@ module _ {D N E W : Type 0} {d : discipline.Ghosts D N} {m : machine.Ghosts Recl
     quiet legal belongs only =
         entered kind x x refl turns old new legal only.puts.agent []
         (enters_none kind.entries_in kind.agent_of (d.may (domain_numbers x)) (own (domain_numbers x)) (domain_bounds x).agents (seat_of x old)
-        (seat_of x new) only (all_allowed x new belongs) (all_below x new belongs).1)
+        (seat_of x new) only belongs.board.keeps.now.each (all_below x new belongs).1)

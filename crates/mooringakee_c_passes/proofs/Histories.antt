@@ -4,7 +4,7 @@ use Rattle.orc_chain_rule.specs.contracts.chain.ChainDiscipline.TheImpl.{ghosts 
 use Rattle.orc_chain_rule.specs.declared.chain.Chain.{Chain}
 use Rattle.orc_chain_rule.specs.declared.chain.ChainNote.{ChainNote}
 use Rattle.orc_core.specs.declared.records.Agent.{Agent}
-use Rattle.orc_domain.specs.Laws.Passes.{all_allowed, all_obey, begins_so}
+use Rattle.orc_domain.specs.Laws.Passes.{begins_so}
 use Rattle.orc_domain.specs.Passes.{IsPassOf, domain_bounds, domain_numbers, domain_opening, journal_of, seat_of}
 use Rattle.orc_domain.specs.declared.domain.OrcDomain.{OrcDomain}
 use Rattle.orc_domain.specs.declared.domain.OrcPass.{OrcPass}
@@ -35,18 +35,18 @@ module _ {m : machine.Ghosts Reclaiming FifoNote (MachineShape FifoNote) Request
   legal_queue x p made zero belongs =
       subst (λ (n : ℕ). IsLegalQueue n (calls_in queue x (journal_of p))) zero
       (seen_legal (domain_numbers x) (domain_opening x) (seat_of x p).seen (project (domain_bounds x) (journal_of p)) made (begins_so x p belongs)
-      (all_allowed x p belongs) (all_obey x p belongs) refl)
+      belongs.board.keeps.now.each belongs.board.keeps.now.kept refl)
 
 module _ {m : machine.Ghosts Reclaiming ChainNote (MachineShape ChainNote) Request (Step ChainNote) Agent Agent} where
   -- of a bucketed set
   pub legal_set : (x : OrcDomain Chain ChainNote) (p : OrcPass Chain ChainNote (MachineShape ChainNote) Request (Step ChainNote) Agent Agent chain m)
       → IsPassOf x p → IsLegalSet (calls_in set x (journal_of p))
   legal_set x p belongs =
-      chain_legal (domain_numbers x) (seat_of x p).seen (project (domain_bounds x) (journal_of p)) (all_obey x p belongs) refl
+      chain_legal (domain_numbers x) (seat_of x p).seen (project (domain_bounds x) (journal_of p)) belongs.board.keeps.now.kept refl
 
 module _ {m : machine.Ghosts Reclaiming SplitNote (MachineShape SplitNote) Request (Step SplitNote) Agent Agent} where
   -- of a split-ordered set
   pub legal_split : (x : OrcDomain Split SplitNote) (p : OrcPass Split SplitNote (MachineShape SplitNote) Request (Step SplitNote) Agent Agent splits m)
       → IsPassOf x p → IsLegalSet (calls_in split x (journal_of p))
   legal_split x p belongs =
-      split_legal (domain_numbers x) (seat_of x p).seen (project (domain_bounds x) (journal_of p)) (all_obey x p belongs) refl
+      split_legal (domain_numbers x) (seat_of x p).seen (project (domain_bounds x) (journal_of p)) belongs.board.keeps.now.kept refl

@@ -8,7 +8,7 @@ ghost use Rattle.orc_queue.specs.Laws.Histories.{cause_puts, cause_stays, entrie
 ghost use Rattle.orc_domain.specs.Causes.{IsLacking};
 ghost use Rattle.orc_domain.specs.Laws.Adding.{one_more};
 ghost use Rattle.orc_domain.specs.Laws.Lasting.{lacking_later};
-ghost use Rattle.orc_domain.specs.Laws.Passes.{all_allowed, all_below, all_obey, begins_so};
+ghost use Rattle.orc_domain.specs.Laws.Passes.{all_below, begins_so};
 ghost use Rattle.orc_domain.specs.Rest.{IsRestOf};
 ghost use Rattle.orc_machine_board.specs.Views.{board_seed};
 ghost use Rattle.orc_at_rest.specs.Domains.{queue_seed, run_bounds};
@@ -73,7 +73,7 @@ impl SharedQueue for RunQueue {
 
     ghost legal = { λ q p h. seen_legal (domain_numbers q.queue.links) (domain_opening q.queue.links)
         (seat_of q.queue.links p).seen (project (domain_bounds q.queue.links) (journal_of p)) q.queue.made
-        (begins_so q.queue.links p h.0) (all_allowed q.queue.links p h.0) (all_obey q.queue.links p h.0) refl };
+        (begins_so q.queue.links p h.0) h.0.board.keeps.now.each h.0.board.keeps.now.kept refl };
 
     ghost licence_stays = { λ q agent turns why seen more from to h.
         cause_stays (λ s. s.agent) (λ j. project (domain_bounds q.queue.links) j)
@@ -112,7 +112,7 @@ impl LearnQueue for RunQueue {
     ghost agents_below = { λ q p h. (
       (all_below q.queue.links p h.0).0,
       entries_below (domain_numbers q.queue.links) (domain_bounds q.queue.links).agents (seat_of q.queue.links p).seen
-          (project (domain_bounds q.queue.links) (journal_of p)) (all_allowed q.queue.links p h.0)
+          (project (domain_bounds q.queue.links) (journal_of p)) h.0.board.keeps.now.each
           (all_below q.queue.links p h.0).1 refl,
     ) };
 
