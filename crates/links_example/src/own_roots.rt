@@ -1,7 +1,9 @@
 //! The discipline of roots of one's own.
 
-ghost use Rattle.links_example.specs.Laws.OwnRoots.{own_roots_allows_plain, own_roots_keeps, own_roots_moves_linked};
-ghost use Rattle.links_example.specs.OwnRoots.{OwnRootsHolds, OwnRootsMay};
+ghost use Rattle.links_example.specs.{
+  Laws.OwnRoots.{own_roots_allows_plain, own_roots_keeps, own_roots_moves_linked},
+  OwnRoots.{OwnRootsHolds, OwnRootsMay},
+};
 
 use orc_heap::Discipline;
 

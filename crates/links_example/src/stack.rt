@@ -1,8 +1,10 @@
 //! A stack of two nodes: built, read and taken away.
 
 ghost use Rattle.std.specs.Prelude.{◌≡◌, ◌≢◌, ℕ, ◌<◌, None, Some, IfOk, IfErr};
-ghost use Rattle.orc_heap.specs.Seats.{HoldsPlace, HoldsTarget, HoldsWant, IsIdle, Seat, link_in, place_in, target_in};
-ghost use Rattle.orc_heap.specs.Slots.{Holds, IsFree, Slots, id_in};
+ghost use Rattle.orc_heap.specs.{
+  Seats.{HoldsPlace, HoldsTarget, HoldsWant, IsIdle, Seat, link_in, place_in, target_in},
+  Slots.{Holds, IsFree, Slots, id_in},
+};
 ghost use Rattle.links_example.specs.Stacks.{Clears, FindsNode, HasTwo, HasTop, HoldsStackNode, StackLeadsTo, Pushes, StackStays, plain_link};
 
 use crate::own_roots::OwnRoots;

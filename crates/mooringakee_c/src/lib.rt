@@ -3,13 +3,15 @@
 
 ghost use Rattle.std.specs.Prelude.{◌≡◌, ◌⊎◌, pos};
 ghost use Rattle.mooringakee_c.specs.Closing.{ClosesPass};
-ghost use Rattle.mooringakee_c_passes.specs.Codes.{Says};
-ghost use Rattle.mooringakee_c_passes.specs.Making.{AreNewQueuePasses, AreNewSetPasses, AreNewSplitPasses, CanBeMade, CanBeSplit, MakesContainer};
-ghost use Rattle.mooringakee_c_passes.specs.QueueCalls.{AnswersPut, AnswersTake};
-ghost use Rattle.mooringakee_c_passes.specs.Seats.{AtQueue, AtSet, AtSplit, Through};
-ghost use Rattle.mooringakee_c_passes.specs.SetCalls.{AnswersQuestion, AnswersInsert, AnswersRemove};
-ghost use Rattle.mooringakee_c_passes.specs.Settling.{CountsBacklog, GivesPassUp, SettlesPass};
-ghost use Rattle.mooringakee_c_passes.specs.SplitCalls.{CountsBuckets};
+ghost use Rattle.mooringakee_c_passes.specs.{
+  Codes.{Says},
+  Making.{AreNewQueuePasses, AreNewSetPasses, AreNewSplitPasses, CanBeMade, CanBeSplit, MakesContainer},
+  QueueCalls.{AnswersPut, AnswersTake},
+  Seats.{AtQueue, AtSet, AtSplit, Through},
+  SetCalls.{AnswersQuestion, AnswersInsert, AnswersRemove},
+  Settling.{CountsBacklog, GivesPassUp, SettlesPass},
+  SplitCalls.{CountsBuckets},
+};
 
 use given_back::Unfinished;
 use mooringakee_c_passes::{

@@ -4,12 +4,10 @@ ghost use Rattle.std.specs.Prelude.{◌≡◌, All, IfOk, IfSome, IsTrue, length
 ghost use Rattle.given_back.specs.Places.{tags};
 ghost use Rattle.orc_heap.specs.Seats.{IsIdle};
 ghost use Rattle.orc_machine_board.specs.Rules.{run_of};
-ghost use Rattle.orc_domain.specs.Ends.{AreAll, AreIdle, SawAll, whole_journal};
-ghost use Rattle.orc_domain.specs.Passes.{IsPassOf, domain_bounds, seat_of};
+ghost use Rattle.orc_domain.specs.{Ends.{AreAll, AreIdle, SawAll, whole_journal}, Passes.{IsPassOf, domain_bounds, seat_of}};
 ghost use Rattle.orc_rest.specs.Rest.{IsAtRest};
 ghost use Rattle.orc_shared_words.specs.Lists.{EachAt};
-ghost use Rattle.mooringakee_c_passes.specs.Ending.{ArePlacesOf, TellsRows};
-ghost use Rattle.mooringakee_c_passes.specs.Usable.{CanBeUsed};
+ghost use Rattle.mooringakee_c_passes.specs.{Ending.{ArePlacesOf, TellsRows}, Usable.{CanBeUsed}};
 
 use given_back::{GivenBack, Keeps, Unfinished};
 use orc_any_domain::RowCounts;

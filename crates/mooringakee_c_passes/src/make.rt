@@ -4,8 +4,7 @@ ghost use Rattle.std.specs.Prelude.{◌≡◌, ◌↔◌, ◌+◌, All, IfSome, 
 ghost use Rattle.orc_shared_words.specs.Lists.{EachAt};
 ghost use Rattle.orc_split_rule.specs.SplitDiscipline.{IsSize};
 ghost use Rattle.orc_words.specs.Bounds.{bounds_of};
-ghost use Rattle.mooringakee_c_passes.specs.Making.{AreFree, CanBeMade, CanBeSplit, sizes_of};
-ghost use Rattle.mooringakee_c_passes.specs.Seats.{IsSeat};
+ghost use Rattle.mooringakee_c_passes.specs.{Making.{AreFree, CanBeMade, CanBeSplit, sizes_of}, Seats.{IsSeat}};
 
 use crate::pass::Pass;
 use crate::seat::Seat;

@@ -1,10 +1,8 @@
 //! New queues.
 
 ghost use Rattle.std.specs.Prelude.{◌≡◌, IfOk, length};
-ghost use Rattle.orc_fifo_rule.specs.declared.fifo.Fifo.{Fifo};
-ghost use Rattle.orc_fifo_rule.specs.declared.fifo.FifoNote.{FifoNote};
-ghost use Rattle.orc_domain.specs.Passes.{domain_bounds};
-ghost use Rattle.orc_domain.specs.declared.domain.OrcDomain.{OrcDomain};
+ghost use Rattle.orc_fifo_rule.specs.{declared.fifo.{Fifo.{Fifo}, FifoNote.{FifoNote}}};
+ghost use Rattle.orc_domain.specs.{Passes.{domain_bounds}, declared.domain.OrcDomain.{OrcDomain}};
 ghost use Rattle.orc_shared_words.specs.Lists.{EachAt};
 ghost use Rattle.orc_words.specs.Bounds.{bounds_of};
 ghost use Rattle.mooringakee_c_passes.specs.Making.{IsNewQueueSeat};

@@ -1,10 +1,8 @@
 //! New sets.
 
 ghost use Rattle.std.specs.Prelude.{◌≡◌, IfOk, length};
-ghost use Rattle.orc_chain_rule.specs.declared.chain.Chain.{Chain};
-ghost use Rattle.orc_chain_rule.specs.declared.chain.ChainNote.{ChainNote};
-ghost use Rattle.orc_domain.specs.Passes.{domain_bounds};
-ghost use Rattle.orc_domain.specs.declared.domain.OrcDomain.{OrcDomain};
+ghost use Rattle.orc_chain_rule.specs.{declared.chain.{Chain.{Chain}, ChainNote.{ChainNote}}};
+ghost use Rattle.orc_domain.specs.{Passes.{domain_bounds}, declared.domain.OrcDomain.{OrcDomain}};
 ghost use Rattle.orc_shared_words.specs.Lists.{EachAt};
 ghost use Rattle.orc_words.specs.Bounds.{bounds_of};
 ghost use Rattle.mooringakee_c_passes.specs.Making.{IsNewSetSeat};

@@ -1,11 +1,8 @@
 //! New split-ordered sets.
 
 ghost use Rattle.std.specs.Prelude.{◌≡◌, ◌+◌, IfOk, length};
-ghost use Rattle.orc_split_rule.specs.declared.split.Split.{Split};
-ghost use Rattle.orc_split_rule.specs.declared.split.SplitNote.{SplitNote};
-ghost use Rattle.orc_split_rule.specs.SplitDiscipline.{IsSize};
-ghost use Rattle.orc_domain.specs.Passes.{domain_bounds};
-ghost use Rattle.orc_domain.specs.declared.domain.OrcDomain.{OrcDomain};
+ghost use Rattle.orc_split_rule.specs.{declared.split.{Split.{Split}, SplitNote.{SplitNote}}, SplitDiscipline.{IsSize}};
+ghost use Rattle.orc_domain.specs.{Passes.{domain_bounds}, declared.domain.OrcDomain.{OrcDomain}};
 ghost use Rattle.orc_shared_words.specs.Lists.{EachAt};
 ghost use Rattle.orc_words.specs.Bounds.{bounds_of};
 ghost use Rattle.mooringakee_c_passes.specs.Making.{IsNewSplitSeat};

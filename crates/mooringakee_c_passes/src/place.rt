@@ -1,9 +1,11 @@
 //! One agent's place at a container.
 
 ghost use Rattle.std.specs.Prelude.{◌≡◌, ◌⊎◌, IfOk, IfSome};
-ghost use Rattle.mooringakee_c_passes.specs.Ending.{TellsRows};
-ghost use Rattle.mooringakee_c_passes.specs.Places.{IsUsablePlace, SettlesPlace, backlog_of};
-ghost use Rattle.mooringakee_c_passes.specs.SetCalls.{AnswersCall, view_over};
+ghost use Rattle.mooringakee_c_passes.specs.{
+  Ending.{TellsRows},
+  Places.{IsUsablePlace, SettlesPlace, backlog_of},
+  SetCalls.{AnswersCall, view_over},
+};
 
 use crate::answer::Answer;
 use crate::ending::{Places, close, leave};

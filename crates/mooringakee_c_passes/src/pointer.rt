@@ -1,8 +1,7 @@
 //! A seat's box as a pointer.
 
 ghost use Rattle.std.specs.Prelude.{◌≡◌, Some, None, IsSome, Option};
-ghost use Rattle.mooringakee_c_passes.specs.Seats.{IsPlaceOf, IsSeat};
-ghost use Rattle.mooringakee_c_passes.specs.declared.seat.Seat.{Seat};
+ghost use Rattle.mooringakee_c_passes.specs.{Seats.{IsPlaceOf, IsSeat}, declared.seat.Seat.{Seat}};
 
 use crate::seat::Seat;
 use raw_box::RawBox;
@@ -20,10 +19,7 @@ pub struct SeatPointer {
 
 impl Model for SeatPointer {
     ghost use Rattle.std.specs.Prelude.{Option};
-    ghost use Rattle.mooringakee_c_passes.specs.Held.{held_box};
-    ghost use Rattle.mooringakee_c_passes.specs.Seats.{IsSeat};
-    ghost use Rattle.mooringakee_c_passes.specs.declared.seat.Seat.{Seat};
-    ghost use Rattle.mooringakee_c_passes.specs.contracts.seat.Seat.{the_row};
+    ghost use Rattle.mooringakee_c_passes.specs.{Held.{held_box}, Seats.{IsSeat}, declared.seat.Seat.{Seat}, contracts.seat.Seat.{the_row}};
 
     ghost also_owns = { λ h. held_box h.alloc the_row IsSeat h.seat h.at };
 }

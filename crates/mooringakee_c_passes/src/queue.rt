@@ -1,9 +1,7 @@
 //! The calls of a queue.
 
 ghost use Rattle.std.specs.Prelude.{◌≡◌, ◌⊎◌};
-ghost use Rattle.mooringakee_c_passes.specs.QueueCalls.{AnswersPut, AnswersTake};
-ghost use Rattle.mooringakee_c_passes.specs.Seats.{AtQueue, IsSeat};
-ghost use Rattle.mooringakee_c_passes.specs.declared.seat.Seat.{Seat};
+ghost use Rattle.mooringakee_c_passes.specs.{QueueCalls.{AnswersPut, AnswersTake}, Seats.{AtQueue, IsSeat}, declared.seat.Seat.{Seat}};
 
 use crate::answer::Answer;
 use crate::on_domain::ReclaimingQueue;

@@ -1,11 +1,13 @@
 //! One agent's place at a container of any kind.
 
 ghost use Rattle.std.specs.Prelude.{◌≡◌, ◌⊎◌, IfOk, IfSome};
-ghost use Rattle.mooringakee_c_passes.specs.QueueCalls.{AnswersPut, AnswersTake};
-ghost use Rattle.mooringakee_c_passes.specs.Seats.{AtQueue, AtSet, AtSplit, IsSeat};
-ghost use Rattle.mooringakee_c_passes.specs.SetCalls.{AnswersCall, AnswersQuestion, AnswersInsert, AnswersRemove};
-ghost use Rattle.mooringakee_c_passes.specs.Settling.{SettlesPass, TellsCounts, backlog_at};
-ghost use Rattle.mooringakee_c_passes.specs.SplitCalls.{CountsBuckets};
+ghost use Rattle.mooringakee_c_passes.specs.{
+  QueueCalls.{AnswersPut, AnswersTake},
+  Seats.{AtQueue, AtSet, AtSplit, IsSeat},
+  SetCalls.{AnswersCall, AnswersQuestion, AnswersInsert, AnswersRemove},
+  Settling.{SettlesPass, TellsCounts, backlog_at},
+  SplitCalls.{CountsBuckets},
+};
 
 use crate::answer::Answer;
 use crate::on_domain::ReclaimingSet;

@@ -7,8 +7,7 @@ ghost use Rattle.orc_projection.specs.Mirror.{numbers_of};
 ghost use Rattle.orc_domain.specs.Passes.{domain_bounds, domain_opening, seat_of};
 ghost use Rattle.orc_shared_words.specs.Lists.{EachAt};
 ghost use Rattle.orc_words.specs.Bounds.{bounds_of};
-ghost use Rattle.mooringakee_c_passes.specs.Places.{GetsPlace};
-ghost use Rattle.mooringakee_c_passes.specs.Usable.{CanBeUsed};
+ghost use Rattle.mooringakee_c_passes.specs.{Places.{GetsPlace}, Usable.{CanBeUsed}};
 
 use crate::ending::Places;
 use crate::place::AgentPlace;

@@ -1,9 +1,7 @@
 //! What a split-ordered set tells of itself.
 
 ghost use Rattle.std.specs.Prelude.{◌≡◌, ◌⊎◌};
-ghost use Rattle.mooringakee_c_passes.specs.Seats.{AtSplit, IsSeat};
-ghost use Rattle.mooringakee_c_passes.specs.SplitCalls.{CountsBuckets};
-ghost use Rattle.mooringakee_c_passes.specs.declared.seat.Seat.{Seat};
+ghost use Rattle.mooringakee_c_passes.specs.{Seats.{AtSplit, IsSeat}, SplitCalls.{CountsBuckets}, declared.seat.Seat.{Seat}};
 
 use crate::answer::Answer;
 use crate::on_domain::ReclaimingSplit;

@@ -1,13 +1,15 @@
 //! Calls that are made again until they are answered.
 ghost use Rattle.std.specs.Prelude.{◌≡◌, ◌≢◌, [], ◌∷◌, IfOk, IfErr, Ok, Err};
-ghost use Rattle.orc_history.specs.declared.queue.QueueEntry.{QueueEntry};
-ghost use Rattle.orc_history.specs.declared.queue.QueueRefused.{QueueRefused};
-ghost use Rattle.orc_history.specs.declared.set.SetEntry.{SetEntry};
-ghost use Rattle.orc_history.specs.declared.set.ListRefused.{ListRefused};
-ghost use Rattle.orc_history.specs.QueueHistory.{entry_of_dequeue};
-ghost use Rattle.orc_board.specs.DeskCalls.{KeepsQueueAgent, KeepsSetAgent, QueueCall, QueueEndsWith, QueueRefuses, SetCall, SetRefuses};
-ghost use Rattle.orc_board.specs.Stretches.{turns};
-ghost use Rattle.orc_board.specs.Table.{took_of};
+ghost use Rattle.orc_history.specs.{
+  declared.queue.{QueueEntry.{QueueEntry}, QueueRefused.{QueueRefused}},
+  declared.set.{SetEntry.{SetEntry}, ListRefused.{ListRefused}},
+  QueueHistory.{entry_of_dequeue},
+};
+ghost use Rattle.orc_board.specs.{
+  DeskCalls.{KeepsQueueAgent, KeepsSetAgent, QueueCall, QueueEndsWith, QueueRefuses, SetCall, SetRefuses},
+  Stretches.{turns},
+  Table.{took_of},
+};
 
 use orc_history::{ListRefused, QueueRefused, SharedQueue, SharedSet};
 use std::sync::Wait;

@@ -1,9 +1,11 @@
 //! One line posted or dropped, and one job taken.
 ghost use Rattle.std.specs.Prelude.{◌≡◌, IfSome, IfNone};
 ghost use Rattle.orc_jobs.specs.GoodLines.{AreGood};
-ghost use Rattle.orc_board.specs.Desk.{IsDesk};
-ghost use Rattle.orc_board.specs.DeskCalls.{Closes, KeepsSetAgent, KeepsQueueAgent, LeavesLast, Replies, TakesNext, Opens, Drops};
-ghost use Rattle.orc_board.specs.Table.{PostRow, JobPart, IsWordOf, IsPlacedAt, DropPart, TakenRow, PostsWithId, PostsNone, IsJob, IsNoJob};
+ghost use Rattle.orc_board.specs.{
+  Desk.{IsDesk},
+  DeskCalls.{Closes, KeepsSetAgent, KeepsQueueAgent, LeavesLast, Replies, TakesNext, Opens, Drops},
+  Table.{PostRow, JobPart, IsWordOf, IsPlacedAt, DropPart, TakenRow, PostsWithId, PostsNone, IsJob, IsNoJob},
+};
 
 use crate::again::{insert_key, put_job, remove_key, take_job};
 use crate::{PostReply, PostWord, TakeReply, TakeWord};

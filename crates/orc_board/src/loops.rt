@@ -1,9 +1,7 @@
 //! The work of one poster, and of a taker that takes what is left.
 ghost use Rattle.std.specs.Prelude.{◌≡◌, ◌≢◌, ◌≤◌, ◌+◌, [], length, map};
 ghost use Rattle.orc_jobs.specs.GoodLines.{AreGood};
-ghost use Rattle.orc_board.specs.Desk.{IsDesk};
-ghost use Rattle.orc_board.specs.DeskCalls.{FindsBothEmpty, Posts, TakesRest};
-ghost use Rattle.orc_board.specs.Follows.{own_records};
+ghost use Rattle.orc_board.specs.{Desk.{IsDesk}, DeskCalls.{FindsBothEmpty, Posts, TakesRest}, Follows.{own_records}};
 
 use crate::desk::reply_to;
 use crate::{Desk, Gate, PostList, TakeList, take_one};

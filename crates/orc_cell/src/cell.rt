@@ -3,16 +3,18 @@
 ghost use Rattle.std.specs.Prelude.{◌≡◌, ◌≢◌, ◌⊎◌, ◌+◌, ◌*◌, ◌<◌, ◌^◌, [], ◌∷◌, Err, IfErr, IfOk, IfSome, IsErr, None, length};
 ghost use mathlib.Core.List.{IsPrefix};
 ghost use Rattle.orc_fault.specs.declared.Spent.{Spent as SpentRow};
-ghost use Rattle.orc_heap.specs.Domains.{IsCallAlone, MakesNoEvent, agent, heap};
-ghost use Rattle.orc_heap.specs.Seats.{IsIdle};
-ghost use Rattle.orc_heap.specs.Slots.{id_in};
+ghost use Rattle.orc_heap.specs.{Domains.{IsCallAlone, MakesNoEvent, agent, heap}, Seats.{IsIdle}, Slots.{id_in}};
 ghost use Rattle.orc_history.specs.Journals.{LearnsEntries, Within};
-ghost use Rattle.orc_pairs_rule.specs.CellHistory.{IsLegalCell, agent_of_entry, no_parts, parts_after};
-ghost use Rattle.orc_pairs_rule.specs.PairsDiscipline.{HasPart, ShowsParts, entries_of};
-ghost use Rattle.orc_pairs_rule.specs.declared.entry.CellEntry.{CellEntry};
-ghost use Rattle.orc_cell.specs.CellCalls.{Enters, EntersNone, FindsWorn, GivesAtMost, IsUsable, LacksRow, StagesPart, UsesAllTurns, history};
-ghost use Rattle.orc_cell.specs.Turns.{IsCellDomain};
-ghost use Rattle.orc_cell.specs.declared.refused.CellRefused.{CellRefused};
+ghost use Rattle.orc_pairs_rule.specs.{
+  CellHistory.{IsLegalCell, agent_of_entry, no_parts, parts_after},
+  PairsDiscipline.{HasPart, ShowsParts, entries_of},
+  declared.entry.CellEntry.{CellEntry},
+};
+ghost use Rattle.orc_cell.specs.{
+  CellCalls.{Enters, EntersNone, FindsWorn, GivesAtMost, IsUsable, LacksRow, StagesPart, UsesAllTurns, history},
+  Turns.{IsCellDomain},
+  declared.refused.CellRefused.{CellRefused},
+};
 
 use crate::new_parts::{Staging, stage, unstage};
 use crate::read::read_turns;

@@ -2,19 +2,23 @@
 
 ghost use Rattle.std.specs.Prelude.{◌≡◌, ◌<◌, ℕ, [], ◌∷◌, Some, None, IfOk, IfErr, length};
 ghost use mathlib.Core.List.{IsPrefix};
-ghost use Rattle.orc_heap.specs.Calls.{move_of};
-ghost use Rattle.orc_heap.specs.Allowed.{AllowedLater};
-ghost use Rattle.orc_heap.specs.Heap.{link_to, null, shown};
-ghost use Rattle.orc_heap.specs.OwnEvents.{Only};
-ghost use Rattle.orc_heap.specs.Seats.{HoldsWant, heap_of, link_in};
-ghost use Rattle.orc_heap.specs.Slots.{Holds, IsFree, id_in};
-ghost use Rattle.orc_heap.specs.declared.events.Place.{Place};
-ghost use Rattle.orc_heap.specs.declared.holds.At.{At};
+ghost use Rattle.orc_heap.specs.{
+  Calls.{move_of},
+  Allowed.{AllowedLater},
+  Heap.{link_to, null, shown},
+  OwnEvents.{Only},
+  Seats.{HoldsWant, heap_of, link_in},
+  Slots.{Holds, IsFree, id_in},
+  declared.events.Place.{Place},
+  declared.holds.At.{At},
+};
 ghost use Rattle.orc_history.specs.Journals.{Within};
 ghost use Rattle.orc_pairs_rule.specs.PairsDiscipline.{IsStaging, PairsMay};
 ghost use Rattle.std.specs.Prelude.{false};
-ghost use Rattle.orc_cell.specs.Publishes.{IsPublished, LetsGo, MovesFreely, MovesStaging, Readies, SideHeld, Stages, Unstages, given_of};
-ghost use Rattle.orc_cell.specs.Turns.{IsCellDomain};
+ghost use Rattle.orc_cell.specs.{
+  Publishes.{IsPublished, LetsGo, MovesFreely, MovesStaging, Readies, SideHeld, Stages, Unstages, given_of},
+  Turns.{IsCellDomain},
+};
 
 use crate::publish::New;
 use orc_fault::NoNode;

@@ -2,17 +2,20 @@
 
 ghost use Rattle.std.specs.Prelude.{◌≡◌, ◌≢◌, ◌<◌, ℕ, [], ◌∷◌, Some, None, IfOk, IfErr, length};
 ghost use mathlib.Core.List.{IsPrefix};
-ghost use Rattle.orc_heap.specs.Calls.{event_of};
-ghost use Rattle.orc_heap.specs.Heap.{link_to, shown};
-ghost use Rattle.orc_heap.specs.OwnEvents.{Only};
-ghost use Rattle.orc_heap.specs.Seats.{HoldsFresh, HoldsWant, heap_of, link_in};
-ghost use Rattle.orc_heap.specs.Slots.{Holds, IsFree, id_in};
+ghost use Rattle.orc_heap.specs.{
+  Calls.{event_of},
+  Heap.{link_to, shown},
+  OwnEvents.{Only},
+  Seats.{HoldsFresh, HoldsWant, heap_of, link_in},
+  Slots.{Holds, IsFree, id_in},
+};
 ghost use Rattle.orc_history.specs.Journals.{Within};
-ghost use Rattle.orc_cell.specs.Publishes.{Aims, AimsGiven, ComesAfter, IsHalfReady, IsPartOf, IsPrepared, MayPublish, NotFresh, PublishesFrom, PublishesGiven, PublishesTurns, SideHeld, Staged, SwingsPair, aim_act, given_of, half_at, staging_root};
+ghost use Rattle.orc_cell.specs.{
+  Publishes.{Aims, AimsGiven, ComesAfter, IsHalfReady, IsPartOf, IsPrepared, MayPublish, NotFresh, PublishesFrom, PublishesGiven, PublishesTurns, SideHeld, Staged, SwingsPair, aim_act, given_of, half_at, staging_root},
+  declared.publish.{Half.{Half}, PublishTurn.{PublishTurn}},
+  Turns.{HoldsPart, IsCellDomain, IsPairOf},
+};
 ghost use Rattle.orc_fault.specs.declared.Spent.{Spent as SpentRow};
-ghost use Rattle.orc_cell.specs.declared.publish.Half.{Half};
-ghost use Rattle.orc_cell.specs.declared.publish.PublishTurn.{PublishTurn};
-ghost use Rattle.orc_cell.specs.Turns.{HoldsPart, IsCellDomain, IsPairOf};
 
 use crate::read::{PAIR, hold_part};
 use orc_fault::Spent;

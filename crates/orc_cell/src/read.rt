@@ -2,11 +2,15 @@
 
 ghost use Rattle.std.specs.Prelude.{◌≡◌, ◌<◌, ℕ, [], IsErr, Some};
 ghost use mathlib.Core.List.{IsPrefix};
-ghost use Rattle.orc_heap.specs.OwnEvents.{Only};
-ghost use Rattle.orc_heap.specs.Seats.{HoldsPlace, HoldsWant, heap_of, link_in, place_in};
-ghost use Rattle.orc_heap.specs.Slots.{Hold, Holds, IsFree, id_in};
-ghost use Rattle.orc_cell.specs.Answers.{ReadAnswers};
-ghost use Rattle.orc_cell.specs.Turns.{Confirms, HoldsPart, IsCellDomain, IsPairOf, LeadsToPart, MaySee, ReadsPair, ReadsPart, ReadsTurns};
+ghost use Rattle.orc_heap.specs.{
+  OwnEvents.{Only},
+  Seats.{HoldsPlace, HoldsWant, heap_of, link_in, place_in},
+  Slots.{Hold, Holds, IsFree, id_in},
+};
+ghost use Rattle.orc_cell.specs.{
+  Answers.{ReadAnswers},
+  Turns.{Confirms, HoldsPart, IsCellDomain, IsPairOf, LeadsToPart, MaySee, ReadsPair, ReadsPart, ReadsTurns},
+};
 
 use orc_fault::Again;
 use orc_heap::{At, Held, Links, Looked, Want};

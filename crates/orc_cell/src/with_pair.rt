@@ -2,18 +2,22 @@
 
 ghost use Rattle.std.specs.Prelude.{Err, IfErr, None, Some, [], false, length, ℕ, ◌<◌, ◌≡◌};
 ghost use mathlib.Core.List.{IsPrefix};
-ghost use Rattle.orc_heap.specs.Slots.{IsFree};
-ghost use Rattle.orc_heap.specs.OwnEvents.{Only};
+ghost use Rattle.orc_heap.specs.{
+  Slots.{IsFree},
+  OwnEvents.{Only},
+  Heap.{null, shown},
+  Seats.{IsIdle, heap_of},
+  declared.events.Place.{Place},
+};
 ghost use Rattle.orc_history.specs.Parts.{part_begin};
-ghost use Rattle.orc_heap.specs.Heap.{null, shown};
-ghost use Rattle.orc_heap.specs.Seats.{IsIdle, heap_of};
-ghost use Rattle.orc_heap.specs.declared.events.Place.{Place};
-ghost use Rattle.orc_cell.specs.Answers.{PublishAnswers};
-ghost use Rattle.orc_cell.specs.Causes.{CausedInPart, CausedWithin};
-ghost use Rattle.orc_cell.specs.Publishes.{IsPublished, SideHeld, given_of, staging_root};
-ghost use Rattle.orc_cell.specs.Turns.{FindsOnly, IsCellDomain};
-ghost use Rattle.orc_cell.specs.declared.publish.Half.{Half};
-ghost use Rattle.orc_cell.specs.declared.refused.CellRefused.{CellRefused};
+ghost use Rattle.orc_cell.specs.{
+  Answers.{PublishAnswers},
+  Causes.{CausedInPart, CausedWithin},
+  Publishes.{IsPublished, SideHeld, given_of, staging_root},
+  Turns.{FindsOnly, IsCellDomain},
+  declared.publish.Half.{Half},
+  declared.refused.CellRefused.{CellRefused},
+};
 
 use crate::new_parts::{Staging, let_go, ready};
 use crate::publish::{New, PublishTurn, publish_given};

@@ -1,7 +1,9 @@
 //! The discipline as an implementation of the traits of disciplines.
 
-ghost use Rattle.orc_chain_rule.specs.ChainDiscipline.{ChainHolds, ChainMay, chain_rank};
-ghost use Rattle.orc_chain_rule.specs.Laws.Kept.{chain_allows_plain, chain_keeps, chain_moves_linked, chain_rises};
+ghost use Rattle.orc_chain_rule.specs.{
+  ChainDiscipline.{ChainHolds, ChainMay, chain_rank},
+  Laws.Kept.{chain_allows_plain, chain_keeps, chain_moves_linked, chain_rises},
+};
 
 use orc_heap::{Discipline, Ranked};
 use orc_history::SetEntry;

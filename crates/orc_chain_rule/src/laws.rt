@@ -1,22 +1,21 @@
 //! Laws of the chain discipline.
 
 ghost use Rattle.std.specs.Prelude.{Contains, ◌≡◌, ℕ, ◌%◌, List, [], ◌∷◌, ◌++◌, ◌+◌, ◌-◌, ◌*◌, ◌≤◌, Option, Some, length, true, false, slice_get};
-ghost use Rattle.orc_heap.specs.Allowed.{AllAllowed, AllowedLater, HasLink, IsLinkedNode, Later, events_by};
-ghost use Rattle.orc_heap.specs.Heap.{HeapNumbers, Node, link_to, shown};
-ghost use Rattle.orc_heap.specs.Journals.{event_by, run_heap};
-ghost use Rattle.orc_heap.specs.Moves.{moves_in};
-ghost use Rattle.orc_heap.specs.declared.events.Act.{Act};
-ghost use Rattle.orc_heap.specs.declared.events.Event.{Event};
-ghost use Rattle.orc_heap.specs.declared.events.Link.{Link};
-ghost use Rattle.orc_heap.specs.declared.events.Place.{Place};
-ghost use Rattle.orc_history.specs.Journals.{own_of};
-ghost use Rattle.orc_history.specs.SetHistory.{IsLegalSet, agent_of_set_entry, has};
-ghost use Rattle.orc_history.specs.declared.set.SetEntry.{SetEntry};
-ghost use Rattle.orc_chain_rule.specs.declared.chain.ChainNote.{ChainNote};
+ghost use Rattle.orc_heap.specs.{
+  Allowed.{AllAllowed, AllowedLater, HasLink, IsLinkedNode, Later, events_by},
+  Heap.{HeapNumbers, Node, link_to, shown},
+  Journals.{event_by, run_heap},
+  Moves.{moves_in},
+  declared.events.{Act.{Act}, Event.{Event}, Link.{Link}, Place.{Place}},
+};
+ghost use Rattle.orc_history.specs.{Journals.{own_of}, SetHistory.{IsLegalSet, agent_of_set_entry, has}, declared.set.SetEntry.{SetEntry}};
+ghost use Rattle.orc_chain_rule.specs.{
+  declared.chain.ChainNote.{ChainNote},
+  ChainDiscipline.{ChainHolds, ChainMay, FollowsOn, HasKey, IsAbove, IsChainPlace, IsOnNoChain, entries_of, set_after},
+  Counts.{AreLeftOver, adds_in, removes_in, unlinks_in},
+  Watches.{LeavesOut, node_to_add},
+};
 ghost use Rattle.orc_ordered_chains.specs.Chains.{IsOnChain, IsRun, link_over};
-ghost use Rattle.orc_chain_rule.specs.ChainDiscipline.{ChainHolds, ChainMay, FollowsOn, HasKey, IsAbove, IsChainPlace, IsOnNoChain, entries_of, set_after};
-ghost use Rattle.orc_chain_rule.specs.Counts.{AreLeftOver, adds_in, removes_in, unlinks_in};
-ghost use Rattle.orc_chain_rule.specs.Watches.{LeavesOut, node_to_add};
 
 /// The empty list obeys the discipline, and so does each list that goes on with events that are allowed where
 /// they stand.

@@ -2,8 +2,7 @@
 
 ghost use Rattle.std.specs.Prelude.{◌≡◌, ◌<◌, ◌≤◌, ◌^◌, ℕ, [], All, IfOk, length, slice_index_or};
 ghost use Rattle.orc_fifo_rule.specs.declared.fifo.FifoNote.TheVariants.{Begin};
-ghost use Rattle.orc_heap.specs.Seeds.{opening_events};
-ghost use Rattle.orc_heap.specs.declared.seed.Seed.TheVariants.{Dummy};
+ghost use Rattle.orc_heap.specs.{Seeds.{opening_events}, declared.seed.Seed.TheVariants.{Dummy}};
 ghost use Rattle.orc_words.specs.Bounds.{Bounds, bounds_of};
 
 use crate::unmade::Unmade;

@@ -1,9 +1,11 @@
 //! Counting over a state.
 
 ghost use Rattle.std.specs.Prelude.{◌≡◌, ℕ, ◌<◌, ◌&&◌, ◌||◌, ◌≤◌, length, slice_index_or, false};
-ghost use Rattle.orc_core.specs.Sums.{count_below, sum_below};
-ghost use Rattle.orc_core.specs.Machine.{record_at};
-ghost use Rattle.orc_core.specs.Counts.{census_of, handovers, is_out, is_row_target, is_retired, is_root_target, is_target, links_to, some_links_to};
+ghost use Rattle.orc_core.specs.{
+  Sums.{count_below, sum_below},
+  Machine.{record_at},
+  Counts.{census_of, handovers, is_out, is_row_target, is_retired, is_root_target, is_target, links_to, some_links_to},
+};
 
 use crate::counts::Census;
 use crate::state::State;

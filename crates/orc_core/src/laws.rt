@@ -1,18 +1,16 @@
 //! Laws of the machine's definitions.
 
 ghost use Rattle.std.specs.Prelude.{◌≡◌, ◌≢◌, ℕ, ◌↔◌, ◌⊎◌, ◌++◌, List, Some, None, true, false};
-ghost use Rattle.orc_words.specs.declared.place.Word.{Word};
-ghost use Rattle.orc_words.specs.Bounds.{Bounds, IsShape};
-ghost use Rattle.orc_words.specs.Places.{IsWithin};
-ghost use Rattle.orc_core.specs.declared.ops.Op.{Op};
-ghost use Rattle.orc_core.specs.declared.records.Agent.{Agent};
-ghost use Rattle.orc_core.specs.declared.records.Reading.{Reading};
-ghost use Rattle.orc_words.specs.Operations.{word_after};
-ghost use Rattle.orc_core.specs.Actions.{action_of};
-ghost use Rattle.orc_core.specs.After.{after};
-ghost use Rattle.orc_core.specs.Allowed.{completes, may};
-ghost use Rattle.orc_core.specs.Machine.{IsWhole, Machine, answer, is_allowed, new_machine, record_at, step, word_in, word_read};
-ghost use Rattle.orc_core.specs.Runs.{IsLawful, run};
+ghost use Rattle.orc_words.specs.{declared.place.Word.{Word}, Bounds.{Bounds, IsShape}, Places.{IsWithin}, Operations.{word_after}};
+ghost use Rattle.orc_core.specs.{
+  declared.ops.Op.{Op},
+  declared.records.{Agent.{Agent}, Reading.{Reading}},
+  Actions.{action_of},
+  After.{after},
+  Allowed.{completes, may},
+  Machine.{IsWhole, Machine, answer, is_allowed, new_machine, record_at, step, word_in, word_read},
+  Runs.{IsLawful, run},
+};
 
 /// What is pending comes first. An agent with a due row may try that row's bit alone; else one with a
 /// pending increment may make it alone; else one with a pending decrement may arm and make it, or make it under a hold, alone. All

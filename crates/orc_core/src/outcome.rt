@@ -3,8 +3,7 @@
 ghost use Rattle.std.specs.Prelude.{◌≡◌, ◌<◌, ◌≤◌, ◌^◌, ◌%◌, length};
 ghost use Rattle.std.specs.Option.{ForSome};
 ghost use Rattle.orc_words.specs.declared.place.Word.{Word};
-ghost use Rattle.orc_core.specs.Actions.{IsPackable};
-ghost use Rattle.orc_core.specs.After.{IsRecordable, after, bared, cut_of, due_after, promoted, scan_on};
+ghost use Rattle.orc_core.specs.{Actions.{IsPackable}, After.{IsRecordable, after, bared, cut_of, due_after, promoted, scan_on}};
 
 use crate::actions::clear_word;
 use crate::ops::{CounterUse, Op};

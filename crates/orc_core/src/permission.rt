@@ -2,8 +2,10 @@
 
 ghost use Rattle.std.specs.Prelude.{◌≡◌, ◌&&◌, ◌||◌, not};
 ghost use Rattle.orc_words.specs.Bounds.{bounds_of};
-ghost use Rattle.orc_core.specs.RecordParts.{any_holds, names};
-ghost use Rattle.orc_core.specs.Allowed.{arms_or_decrements, fits, forced, increments, may, may_change, may_place, may_target, stands, tries_bit};
+ghost use Rattle.orc_core.specs.{
+  RecordParts.{any_holds, names},
+  Allowed.{arms_or_decrements, fits, forced, increments, may, may_change, may_place, may_target, stands, tries_bit},
+};
 
 use crate::ops::{CounterUse, Op};
 use crate::parts::{doom_at, doom_cut, names, scan_at, scan_empty, scan_found};

@@ -1,15 +1,15 @@
 //! The state of the machine, and one step of it.
 
 ghost use Rattle.std.specs.Prelude.{◌≡◌, ◌+◌, ◌*◌, ◌<◌, ◌≤◌, true, false, IfOk, IsTrue, OnErr, OnOk, length, replicate, slice_index, slice_set};
-ghost use Rattle.orc_words.specs.Bounds.{bounds_of};
-ghost use Rattle.orc_words.specs.Places.{IsWithin, places};
-ghost use Rattle.orc_core.specs.declared.ops.Op.{Op};
-ghost use Rattle.orc_words.specs.Operations.{answer_of, word_after};
-ghost use Rattle.orc_core.specs.Actions.{action_of};
-ghost use Rattle.orc_core.specs.After.{after};
-ghost use Rattle.orc_core.specs.Allowed.{may};
-ghost use Rattle.orc_core.specs.Counts.{is_out, is_retired};
-ghost use Rattle.orc_core.specs.Machine.{IsWhole, LeavesRoom, answer, has_room, is_allowed, new_machine, nobody, place_acted_on, record_at, step, word_in};
+ghost use Rattle.orc_words.specs.{Bounds.{bounds_of}, Places.{IsWithin, places}, Operations.{answer_of, word_after}};
+ghost use Rattle.orc_core.specs.{
+  declared.ops.Op.{Op},
+  Actions.{action_of},
+  After.{after},
+  Allowed.{may},
+  Counts.{is_out, is_retired},
+  Machine.{IsWhole, LeavesRoom, answer, has_room, is_allowed, new_machine, nobody, place_acted_on, record_at, step, word_in},
+};
 
 use crate::actions::action_of;
 use crate::ops::Op;
@@ -31,8 +31,7 @@ pub struct State {
 
 impl Model for State {
     ghost use Rattle.std.specs.Prelude.{◌≡◌, length};
-    ghost use Rattle.orc_words.specs.Bounds.{bounds_of};
-    ghost use Rattle.orc_words.specs.Places.{places};
+    ghost use Rattle.orc_words.specs.{Bounds.{bounds_of}, Places.{places}};
     ghost use Rattle.orc_core.specs.Machine.{EachWithRoom, Machine};
 
     ghost Value = { Machine };

@@ -3,8 +3,7 @@
 
 ghost use Rattle.std.specs.Prelude.{◌≡◌, ◌==◌, ◌^◌, ◌<◌, IfNone, IfSome, length, slice_index, true, false};
 ghost use Rattle.std.specs.Fmt.{decimal};
-ghost use Rattle.orc_decimal.specs.Decimals.{IsDecimal};
-ghost use Rattle.orc_decimal.specs.Canonical.{IsCanonical};
+ghost use Rattle.orc_decimal.specs.{Decimals.{IsDecimal}, Canonical.{IsCanonical}};
 
 use std::str;
 

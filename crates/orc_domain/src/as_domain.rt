@@ -6,9 +6,11 @@ ghost use Rattle.orc_any_domain.specs.Domains.{AreAllIdle, heap_numbers};
 ghost use Rattle.orc_heap.specs.Seeds.{SeedAllowed, opening_events};
 ghost use Rattle.orc_machine_board.specs.Rules.{run_of};
 ghost use Rattle.orc_machine_rest.specs.Ends.{CountsOf};
-ghost use Rattle.orc_domain.specs.Ends.{AddsNoEvents, AreAll, SawAll, whole_journal};
-ghost use Rattle.orc_domain.specs.Passes.{domain_bounds, domain_opening, seat_of};
-ghost use Rattle.orc_domain.specs.Rest.{IsRestOf, rest_domain, rest_journal};
+ghost use Rattle.orc_domain.specs.{
+  Ends.{AddsNoEvents, AreAll, SawAll, whole_journal},
+  Passes.{domain_bounds, domain_opening, seat_of},
+  Rest.{IsRestOf, rest_domain, rest_journal},
+};
 ghost use Rattle.orc_rest.specs.Rest.{IsAtRest};
 ghost use Rattle.orc_words.specs.Bounds.{bounds_of};
 

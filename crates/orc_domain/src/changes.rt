@@ -2,21 +2,23 @@
 
 ghost use Rattle.std.specs.Prelude.{◌≡◌, ◌<◌, ◌∷◌, [], IfErr, IfOk, None, Some, false, true, ℕ};
 ghost use mathlib.Core.List.{IsPrefix};
-ghost use Rattle.orc_core.specs.Allowed.{may_change};
-ghost use Rattle.orc_core.specs.RecordParts.{checked_below, names};
-ghost use Rattle.orc_plain_domain.specs.Calls.{MayAimLink, aim_at};
-ghost use Rattle.orc_plain_domain.specs.Rows.{row_link};
-ghost use Rattle.orc_heap.specs.Calls.{IsWorn, MayMove, RefusesAim, RefusesSwing, Swings};
-ghost use Rattle.orc_heap.specs.OwnEvents.{Only};
-ghost use Rattle.orc_heap.specs.Seats.{HoldsPlace, HoldsWant, IsNotFresh};
-ghost use Rattle.orc_heap.specs.Slots.{Holds};
+ghost use Rattle.orc_core.specs.{Allowed.{may_change}, RecordParts.{checked_below, names}};
+ghost use Rattle.orc_plain_domain.specs.{Calls.{MayAimLink, aim_at}, Rows.{row_link}};
+ghost use Rattle.orc_heap.specs.{
+  Calls.{IsWorn, MayMove, RefusesAim, RefusesSwing, Swings},
+  OwnEvents.{Only},
+  Seats.{HoldsPlace, HoldsWant, IsNotFresh},
+  Slots.{Holds},
+};
 ghost use Rattle.orc_machine_board.specs.Views.{Belongs, shows};
-ghost use Rattle.orc_domain.specs.Causes.{ReadsWorn};
-ghost use Rattle.orc_domain.specs.Changes.{MayStore, Stores};
+ghost use Rattle.orc_domain.specs.{
+  Causes.{ReadsWorn},
+  Changes.{MayStore, Stores},
+  Passes.{IsFreshUntouched, IsPassOf, domain_bounds, domain_numbers, journal_of, next_row, seat_of},
+  Searches.{Idles},
+  Seats.{IsBetweenCalls, seat_by},
+};
 ghost use Rattle.orc_machine_rest.specs.OwnSteps.{LeavesNothing};
-ghost use Rattle.orc_domain.specs.Passes.{IsFreshUntouched, IsPassOf, domain_bounds, domain_numbers, journal_of, next_row, seat_of};
-ghost use Rattle.orc_domain.specs.Searches.{Idles};
-ghost use Rattle.orc_domain.specs.Seats.{IsBetweenCalls, seat_by};
 ghost use Rattle.orc_words.specs.Bounds.{link_limit};
 
 use crate::domain::{OrcDomain, OrcPass};

@@ -4,8 +4,7 @@ ghost use Rattle.std.specs.Prelude.{◌≡◌, None, Some, true};
 ghost use Rattle.std.specs.Option.{ForSome};
 ghost use Rattle.orc_core.specs.RecordParts.{any_holds};
 ghost use Rattle.orc_machine_board.specs.Views.{Belongs, shows};
-ghost use Rattle.orc_domain.specs.Changes.{Becomes, IsCountable, MayTryDue};
-ghost use Rattle.orc_domain.specs.Passes.{domain_bounds};
+ghost use Rattle.orc_domain.specs.{Changes.{Becomes, IsCountable, MayTryDue}, Passes.{domain_bounds}};
 
 use crate::domain::OrcDomain;
 use orc_core::Reading;

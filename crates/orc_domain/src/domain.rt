@@ -1,8 +1,7 @@
 //! The domain and its passes.
 
 ghost use Rattle.std.specs.Prelude.{◌≡◌};
-ghost use Rattle.orc_machine_board.specs.Passes.{backlog_in};
-ghost use Rattle.orc_machine_board.specs.Views.{shows};
+ghost use Rattle.orc_machine_board.specs.{Passes.{backlog_in}, Views.{shows}};
 ghost use Rattle.orc_domain.specs.Passes.{IsPassOf};
 
 use orc_heap::Discipline;

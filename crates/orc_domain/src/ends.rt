@@ -4,19 +4,16 @@ ghost use Rattle.std.specs.Prelude.{◌≡◌, ◌+◌, ◌*◌, [], All, suc};
 ghost use Rattle.std.specs.List.{AllByRecursion};
 ghost use mathlib.Core.List.{IsPrefix};
 ghost use Rattle.orc_any_domain.specs.Learning.{Hears};
-ghost use Rattle.orc_heap.specs.OwnEvents.{Only};
-ghost use Rattle.orc_heap.specs.Seats.{IsIdle};
+ghost use Rattle.orc_heap.specs.{OwnEvents.{Only}, Seats.{IsIdle}};
 ghost use Rattle.orc_history.specs.Parts.{IsAlone};
-ghost use Rattle.orc_machine_rest.specs.Drains.{Drains};
-ghost use Rattle.orc_machine_rest.specs.OwnSteps.{AtMostMore, LeavesNothing, TakesInAll, most_rounds, steps_a_round};
-ghost use Rattle.orc_machine_board.specs.Passes.{backlog_in};
-ghost use Rattle.orc_machine_board.specs.Rules.{run_of};
-ghost use Rattle.orc_machine_board.specs.Views.{shows};
-ghost use Rattle.orc_domain.specs.Drains.{AreNumbered, DrainInTurn};
-ghost use Rattle.orc_domain.specs.Ends.{AddsNoEvents, AreAll, AreIdle, HaveNoBacklog, IsNoLonger, SawAll, SawOneList, whole_journal};
-ghost use Rattle.orc_domain.specs.Passes.{IsPassOf, domain_bounds, journal_of, next_row, seat_of};
-ghost use Rattle.orc_rest.specs.Rest.{IsAtRest};
-ghost use Rattle.orc_rest.specs.Turns.{NoneHanded};
+ghost use Rattle.orc_machine_rest.specs.{Drains.{Drains}, OwnSteps.{AtMostMore, LeavesNothing, TakesInAll, most_rounds, steps_a_round}};
+ghost use Rattle.orc_machine_board.specs.{Passes.{backlog_in}, Rules.{run_of}, Views.{shows}};
+ghost use Rattle.orc_domain.specs.{
+  Drains.{AreNumbered, DrainInTurn},
+  Ends.{AddsNoEvents, AreAll, AreIdle, HaveNoBacklog, IsNoLonger, SawAll, SawOneList, whole_journal},
+  Passes.{IsPassOf, domain_bounds, journal_of, next_row, seat_of},
+};
+ghost use Rattle.orc_rest.specs.{Rest.{IsAtRest}, Turns.{NoneHanded}};
 
 use crate::domain::{OrcDomain, OrcPass};
 use orc_any_domain::learn_all;

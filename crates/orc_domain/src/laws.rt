@@ -2,19 +2,16 @@
 
 ghost use Rattle.std.specs.Prelude.{◌≡◌, ◌≤◌, ◌*◌, List, ℕ};
 ghost use Rattle.orc_fault.specs.declared.Spent.{Spent};
-ghost use Rattle.orc_machine_board.specs.Passes.{backlog_in};
-ghost use Rattle.orc_machine_board.specs.Views.{shows};
+ghost use Rattle.orc_machine_board.specs.{Passes.{backlog_in}, Views.{shows}, Rules.{run_of}};
 ghost use Rattle.orc_core.specs.Machine.{new_machine};
-ghost use Rattle.orc_machine_board.specs.Rules.{run_of};
-ghost use Rattle.orc_sound.specs.Backlog.{backlog};
-ghost use Rattle.orc_sound.specs.Journals.{IsLawfulJournal};
-ghost use Rattle.orc_sound.specs.Sound.{IsSound};
-ghost use Rattle.orc_sound.specs.declared.steps.Step.{Step};
+ghost use Rattle.orc_sound.specs.{Backlog.{backlog}, Journals.{IsLawfulJournal}, Sound.{IsSound}, declared.steps.Step.{Step}};
 ghost use Rattle.orc_projection.specs.Projection.{project};
 ghost use Rattle.orc_machine_rest.specs.OwnSteps.{LeavesNothing};
-ghost use Rattle.orc_domain.specs.Causes.{IsLacking, IsWornIn};
-ghost use Rattle.orc_domain.specs.OwnSteps.{TakesInMoved};
-ghost use Rattle.orc_domain.specs.Passes.{IsPassOf, domain_bounds, domain_numbers, domain_opening, journal_of, seat_of};
+ghost use Rattle.orc_domain.specs.{
+  Causes.{IsLacking, IsWornIn},
+  OwnSteps.{TakesInMoved},
+  Passes.{IsPassOf, domain_bounds, domain_numbers, domain_opening, journal_of, seat_of},
+};
 
 use crate::domain::{OrcDomain, OrcPass};
 use orc_heap::{Discipline, Links};

@@ -3,17 +3,21 @@
 ghost use Rattle.std.specs.Prelude.{◌≡◌, ◌≢◌, ◌<◌, ◌*◌, ◌+◌, ◌%◌, ◌∷◌, [], IfErr, IfOk, None, Some, refl};
 ghost use mathlib.Core.List.{IsPrefix};
 ghost use Rattle.orc_plain_domain.specs.Turns.{IsNext};
-ghost use Rattle.orc_heap.specs.Calls.{Gives, Learns, Looks, MayAim, MayAimSide, MayLook, MayMove, MovesOn, ReadsValue, RefusesAim, RefusesSwing, Releases, Swings, Tests, aim_of, aim_side_of, fill_of};
-ghost use Rattle.orc_heap.specs.Journals.{run_heap};
-ghost use Rattle.orc_heap.specs.OwnEvents.{Only};
-ghost use Rattle.orc_heap.specs.Seats.{HoldsFresh, HoldsPlace, HoldsTarget, HoldsWant, IsIdle, IsNotFresh, IsOutside, place_in};
-ghost use Rattle.orc_heap.specs.Slots.{Holds, IsFree, id_in};
+ghost use Rattle.orc_heap.specs.{
+  Calls.{Gives, Learns, Looks, MayAim, MayAimSide, MayLook, MayMove, MovesOn, ReadsValue, RefusesAim, RefusesSwing, Releases, Swings, Tests, aim_of, aim_side_of, fill_of},
+  Journals.{run_heap},
+  OwnEvents.{Only},
+  Seats.{HoldsFresh, HoldsPlace, HoldsTarget, HoldsWant, IsIdle, IsNotFresh, IsOutside, place_in},
+  Slots.{Holds, IsFree, id_in},
+};
 ghost use Rattle.orc_history.specs.Parts.{InPart, IsAlone};
-ghost use Rattle.orc_domain.specs.Causes.{IsLacking, IsWornIn, ReadsWorn};
+ghost use Rattle.orc_domain.specs.{
+  Causes.{IsLacking, IsWornIn, ReadsWorn},
+  OwnSteps.{TakesInFree},
+  Passes.{IsPassOf, domain_bounds, domain_numbers, journal_of, next_row, seat_of},
+  Searches.{Found},
+};
 ghost use Rattle.orc_machine_rest.specs.OwnSteps.{AtMostMore, HasTakenIn, LeavesNothing, most_rounds, steps_a_round};
-ghost use Rattle.orc_domain.specs.OwnSteps.{TakesInFree};
-ghost use Rattle.orc_domain.specs.Passes.{IsPassOf, domain_bounds, domain_numbers, journal_of, next_row, seat_of};
-ghost use Rattle.orc_domain.specs.Searches.{Found};
 
 use crate::domain::{OrcDomain, OrcPass};
 use crate::steps::numbers_of;
@@ -25,14 +29,12 @@ use orc_sound::Step;
 use orc_words::pack_link;
 
 impl<D: Discipline> Links for OrcDomain<D> {
-    ghost use Rattle.orc_machine_board.specs.Passes.{backlog_in};
-    ghost use Rattle.orc_machine_board.specs.Views.{shows};
+    ghost use Rattle.orc_machine_board.specs.{Passes.{backlog_in}, Views.{shows}};
     ghost use Rattle.orc_projection.specs.Projection.{project};
-    ghost use Rattle.orc_domain.specs.Laws.Adding.{one_more};
-    ghost use Rattle.orc_domain.specs.Laws.Lacking.{lacking_all};
-    ghost use Rattle.orc_domain.specs.Laws.Lasting.{lacking_later, worn_later};
-    ghost use Rattle.orc_domain.specs.Laws.Passes.{all_below, all_of_agents, begins_so, held_known};
-    ghost use Rattle.orc_domain.specs.Passes.{domain_opening};
+    ghost use Rattle.orc_domain.specs.{
+      Laws.{Adding.{one_more}, Lacking.{lacking_all}, Lasting.{lacking_later, worn_later}, Passes.{all_below, all_of_agents, begins_so, held_known}},
+      Passes.{domain_opening},
+    };
 
     type Rule = D;
 

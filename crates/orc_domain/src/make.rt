@@ -3,8 +3,7 @@
 ghost use Rattle.std.specs.Prelude.{◌≡◌, ◌<◌, ◌%◌, [], All, IfOk, length};
 ghost use Rattle.orc_words.specs.Bounds.{bounds_of};
 ghost use Rattle.orc_plain_domain.specs.Turns.{first_row};
-ghost use Rattle.orc_heap.specs.Seats.{IsIdle};
-ghost use Rattle.orc_heap.specs.Seeds.{SeedAllowed, opening_events};
+ghost use Rattle.orc_heap.specs.{Seats.{IsIdle}, Seeds.{SeedAllowed, opening_events}};
 ghost use Rattle.orc_machine_board.specs.Views.{board_seed, shows};
 ghost use Rattle.orc_projection.specs.Mirror.{numbers_of};
 ghost use Rattle.orc_shared_words.specs.Lists.{EachAt, EachFrom};

@@ -4,12 +4,9 @@ ghost use Rattle.std.specs.Prelude.{◌≡◌, List, length, ℕ};
 ghost use Rattle.orc_heap.specs.Journals.{run_heap};
 ghost use Rattle.orc_machine_board.specs.Rules.{run_of};
 ghost use Rattle.orc_projection.specs.Projection.{present_ids, project};
-ghost use Rattle.orc_domain.specs.Passes.{domain_bounds, domain_numbers};
-ghost use Rattle.orc_domain.specs.Rest.{IsShown, rest_domain, rest_journal};
-ghost use Rattle.orc_rest.specs.Reached.{AreTheReached, IsReached, LiesInOneRow};
+ghost use Rattle.orc_domain.specs.{Passes.{domain_bounds, domain_numbers}, Rest.{IsShown, rest_domain, rest_journal}};
+ghost use Rattle.orc_rest.specs.{Reached.{AreTheReached, IsReached, LiesInOneRow}, Rest.{IsAtRest}, Reuse.{rows_out}};
 ghost use Rattle.orc_sound.specs.Linked.{IsOut};
-ghost use Rattle.orc_rest.specs.Rest.{IsAtRest};
-ghost use Rattle.orc_rest.specs.Reuse.{rows_out};
 
 use crate::at_rest::OrcRest;
 use orc_heap::Ranked;

@@ -2,18 +2,16 @@
 
 ghost use Rattle.std.specs.Prelude.{◌≡◌, ◌+◌, ◌++◌};
 ghost use Rattle.std.specs.List.{AllByRecursion};
-ghost use Rattle.orc_machine_rest.specs.Ends.{CountsOf, TakesInSteps};
-ghost use Rattle.orc_machine_rest.specs.Looks.{gate_looks};
+ghost use Rattle.orc_machine_rest.specs.{Ends.{CountsOf, TakesInSteps}, Looks.{gate_looks}};
 ghost use Rattle.orc_core.specs.Machine.{new_machine};
 ghost use Rattle.orc_layout.specs.Layout.{index, lay};
-ghost use Rattle.orc_machine_board.specs.Passes.{TookInAll};
-ghost use Rattle.orc_machine_board.specs.Rules.{run_of};
-ghost use Rattle.orc_machine_board.specs.Views.{Belongs, shows};
-ghost use Rattle.orc_domain.specs.Ends.{AreAll, SawAll, whole_journal};
-ghost use Rattle.orc_domain.specs.Passes.{IsPassOf, domain_bounds};
-ghost use Rattle.orc_domain.specs.Rest.{ComesToRest, IsShown, rest_domain, rest_journal};
-ghost use Rattle.orc_rest.specs.Rest.{IsAtRest};
-ghost use Rattle.orc_rest.specs.Reuse.{given, reused, rows_out};
+ghost use Rattle.orc_machine_board.specs.{Passes.{TookInAll}, Rules.{run_of}, Views.{Belongs, shows}};
+ghost use Rattle.orc_domain.specs.{
+  Ends.{AreAll, SawAll, whole_journal},
+  Passes.{IsPassOf, domain_bounds},
+  Rest.{ComesToRest, IsShown, rest_domain, rest_journal},
+};
+ghost use Rattle.orc_rest.specs.{Rest.{IsAtRest}, Reuse.{given, reused, rows_out}};
 ghost use Rattle.orc_sound.specs.Journals.{plain};
 
 use crate::at_rest::OrcRest;

@@ -6,9 +6,7 @@ ghost use Rattle.orc_core.specs.RecordParts.{is_empty, slot_of};
 ghost use Rattle.orc_machine_rest.specs.OwnSteps.{HasTakenIn};
 ghost use Rattle.orc_plain_domain.specs.Turns.{IsNext};
 ghost use Rattle.orc_machine_board.specs.Views.{Belongs, shows};
-ghost use Rattle.orc_domain.specs.Passes.{domain_bounds};
-ghost use Rattle.orc_domain.specs.Searches.{Fails, Found, Gets, Idles, TriesAll};
-ghost use Rattle.orc_domain.specs.Seats.{IsCalm, IsBetweenCalls};
+ghost use Rattle.orc_domain.specs.{Passes.{domain_bounds}, Searches.{Fails, Found, Gets, Idles, TriesAll}, Seats.{IsCalm, IsBetweenCalls}};
 
 use crate::domain::OrcDomain;
 use orc_core::{CounterUse, SEQUENCE};

@@ -1,16 +1,16 @@
 //! The parts of which the calls are made.
 
 ghost use Rattle.std.specs.Prelude.{◌≡◌, None, Some, false, true};
-ghost use Rattle.orc_core.specs.RecordParts.{names};
-ghost use Rattle.orc_core.specs.declared.ops.Op.{Op};
-ghost use Rattle.orc_machine_board.specs.Kinds.{MakesPlain, MayDo};
-ghost use Rattle.orc_machine_board.specs.Views.{Belongs, shows};
+ghost use Rattle.orc_core.specs.{RecordParts.{names}, declared.ops.Op.{Op}};
+ghost use Rattle.orc_machine_board.specs.{Kinds.{MakesPlain, MayDo}, Views.{Belongs, shows}};
 ghost use Rattle.orc_plain_domain.specs.Rows.{word_at};
 ghost use Rattle.orc_words.specs.Packed.{link_of, link_word};
-ghost use Rattle.orc_domain.specs.Calls.{Retires, Unlocks};
-ghost use Rattle.orc_domain.specs.Passes.{IsFreshUntouched, domain_bounds, domain_numbers};
-ghost use Rattle.orc_domain.specs.Protections.{MayProtect, Protects, ReadsAgain, word_by};
-ghost use Rattle.orc_domain.specs.Seats.{IsCalm, IsBetweenCalls, seat_by};
+ghost use Rattle.orc_domain.specs.{
+  Calls.{Retires, Unlocks},
+  Passes.{IsFreshUntouched, domain_bounds, domain_numbers},
+  Protections.{MayProtect, Protects, ReadsAgain, word_by},
+  Seats.{IsCalm, IsBetweenCalls, seat_by},
+};
 
 use crate::domain::OrcDomain;
 use orc_core::{CounterUse, SEQUENCE};

@@ -1,8 +1,10 @@
 ghost use Rattle.std.specs.Prelude.{◌≡◌, ◌+◌, ◌^◌, ◌<◌, ◌≤◌, List, IfErr, IfOk, OnErr, OnOk, length, Some, ℕ};
 ghost use Rattle.std.specs.Io.KnownBytes.{Appends, Consumes, IsAtEnd};
-ghost use Rattle.orc_feed.specs.declared.all.ReadAll.TheVariants.{NoMemory};
-ghost use Rattle.orc_feed.specs.Faults.{CountsFaults, Rose};
-ghost use Rattle.orc_feed.specs.Whole.{AppendsPrefix, TakesAtMost, TakesWhole};
+ghost use Rattle.orc_feed.specs.{
+  declared.all.ReadAll.TheVariants.{NoMemory},
+  Faults.{CountsFaults, Rose},
+  Whole.{AppendsPrefix, TakesAtMost, TakesWhole},
+};
 
 use crate::{Sink, Source};
 use orc_fault::Failed;

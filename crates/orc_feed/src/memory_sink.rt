@@ -1,8 +1,7 @@
 ghost use Rattle.std.specs.Prelude.{Contains, IfOk, IsErr, OnErr, ◌≡◌, ◌-◌, ◌^◌, ◌<◌, ◌≤◌, ◌↔◌, [], length, Some};
 ghost use Rattle.std.specs.Io.{WritesAtMost};
 ghost use Rattle.std.specs.Io.KnownBytes.{WriteAppends};
-ghost use Rattle.orc_feed.specs.Faults.{CountsWriteFaults, one_more};
-ghost use Rattle.orc_feed.specs.InMemory.{moved_count, new_plan, next_plan};
+ghost use Rattle.orc_feed.specs.{Faults.{CountsWriteFaults, one_more}, InMemory.{moved_count, new_plan, next_plan}};
 
 use crate::Sink;
 use crate::plan::Plan;

@@ -1,8 +1,7 @@
 ghost use Rattle.std.specs.Prelude.{Contains, IfOk, IsErr, OnErr, ◌≡◌, ◌^◌, ◌<◌, ◌≤◌, ◌↔◌, length, Some};
 ghost use Rattle.std.specs.Io.{ReadsAtMost};
 ghost use Rattle.std.specs.Io.KnownBytes.{ReadConsumes};
-ghost use Rattle.orc_feed.specs.Faults.{CountsFaults, one_more};
-ghost use Rattle.orc_feed.specs.InMemory.{moved_count, new_plan, next_plan};
+ghost use Rattle.orc_feed.specs.{Faults.{CountsFaults, one_more}, InMemory.{moved_count, new_plan, next_plan}};
 
 use crate::Source;
 use crate::plan::Plan;

@@ -1,7 +1,9 @@
 //! The discipline as an implementation of the traits of disciplines.
 
-ghost use Rattle.orc_fifo_rule.specs.QueueDiscipline.{FifoHolds, FifoMay, fifo_rank};
-ghost use Rattle.orc_fifo_rule.specs.Laws.Kept.{fifo_allows_plain, fifo_keeps, fifo_moves_linked, fifo_rises};
+ghost use Rattle.orc_fifo_rule.specs.{
+  QueueDiscipline.{FifoHolds, FifoMay, fifo_rank},
+  Laws.Kept.{fifo_allows_plain, fifo_keeps, fifo_moves_linked, fifo_rises},
+};
 
 use orc_heap::{Discipline, Ranked};
 use orc_history::QueueEntry;

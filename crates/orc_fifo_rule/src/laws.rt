@@ -1,21 +1,25 @@
 //! Laws of the queue discipline.
 
 ghost use Rattle.std.specs.Prelude.{◌≡◌, ◌≢◌, ℕ, ◌+◌, ◌/◌, ◌<◌, ◌≤◌, ◌^◌, List, [], ◌∷◌, ◌++◌, Some, true, false, slice_get};
-ghost use Rattle.orc_heap.specs.Allowed.{AllAllowed, AllowedLater, Later, IsLinkedNode, events_by, HasLink};
-ghost use Rattle.orc_heap.specs.Heap.{HeapNumbers, Node, null, shown, link_to};
-ghost use Rattle.orc_heap.specs.Journals.{run_heap, event_by};
-ghost use Rattle.orc_heap.specs.declared.events.Act.{Act};
-ghost use Rattle.orc_heap.specs.declared.events.Event.{Event};
-ghost use Rattle.orc_heap.specs.declared.events.Place.{Place};
-ghost use Rattle.orc_history.specs.Journals.{own_of};
-ghost use Rattle.orc_history.specs.QueueHistory.{IsLegalQueue, agent_of_entry, puts_in};
-ghost use Rattle.orc_history.specs.declared.queue.QueueEntry.{QueueEntry};
-ghost use Rattle.orc_fifo_rule.specs.declared.fifo.FifoNote.{FifoNote};
-ghost use Rattle.orc_heap.specs.Calls.{links_made};
-ghost use Rattle.orc_heap.specs.Moves.{moves_in};
-ghost use Rattle.orc_fifo_rule.specs.Counts.{off_the_head, swings_in, tooks_in};
-ghost use Rattle.orc_fifo_rule.specs.QueueDiscipline.{FifoHolds, FifoMay, HasJob, entries_of, has_begun, position_of};
-ghost use Rattle.orc_fifo_rule.specs.Watches.{IsLeftBehind, WasNamed, node_to_put};
+ghost use Rattle.orc_heap.specs.{
+  Allowed.{AllAllowed, AllowedLater, Later, IsLinkedNode, events_by, HasLink},
+  Heap.{HeapNumbers, Node, null, shown, link_to},
+  Journals.{run_heap, event_by},
+  declared.events.{Act.{Act}, Event.{Event}, Place.{Place}},
+  Calls.{links_made},
+  Moves.{moves_in},
+};
+ghost use Rattle.orc_history.specs.{
+  Journals.{own_of},
+  QueueHistory.{IsLegalQueue, agent_of_entry, puts_in},
+  declared.queue.QueueEntry.{QueueEntry},
+};
+ghost use Rattle.orc_fifo_rule.specs.{
+  declared.fifo.FifoNote.{FifoNote},
+  Counts.{off_the_head, swings_in, tooks_in},
+  QueueDiscipline.{FifoHolds, FifoMay, HasJob, entries_of, has_begun, position_of},
+  Watches.{IsLeftBehind, WasNamed, node_to_put},
+};
 
 /// The empty list obeys the discipline, and so does each list that goes on with events that are allowed where
 /// they stand.

@@ -1,7 +1,6 @@
 //! A discipline for boards that serve no container.
 
-ghost use Rattle.orc_heap.specs.AnyFit.{AnyFit};
-ghost use Rattle.orc_heap.specs.Laws.AnyFit.{plain_fits};
+ghost use Rattle.orc_heap.specs.{AnyFit.{AnyFit}, Laws.AnyFit.{plain_fits}};
 
 use crate::discipline::Discipline;
 

@@ -1,10 +1,12 @@
 //! Disciplines: which events a container allows, and what these keep.
 
 ghost use Rattle.std.specs.Prelude.{ℕ, List, [], ◌∷◌, ◌++◌};
-ghost use Rattle.orc_heap.specs.Heap.{HeapNumbers};
-ghost use Rattle.orc_heap.specs.Journals.{FitsAfter, IsPlain, run_heap};
-ghost use Rattle.orc_heap.specs.Allowed.{MovesLinked, Rises};
-ghost use Rattle.orc_heap.specs.declared.events.Event.{Event};
+ghost use Rattle.orc_heap.specs.{
+  Heap.{HeapNumbers},
+  Journals.{FitsAfter, IsPlain, run_heap},
+  Allowed.{MovesLinked, Rises},
+  declared.events.Event.{Event},
+};
 
 /// What the events of a container obey.
 pub trait Discipline {

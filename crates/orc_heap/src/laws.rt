@@ -2,14 +2,13 @@
 
 ghost use Rattle.std.specs.List.{list_any};
 ghost use Rattle.std.specs.Prelude.{◌≡◌, ◌≢◌, ℕ, ◌↔◌, ◌++◌, List, Some, true, slice_get};
-ghost use Rattle.orc_heap.specs.Heap.{Heap, HeapNumbers, Node, shown};
-ghost use Rattle.orc_heap.specs.Acts.{Fits, StaysLinked, heap_after, moved_link, moved_side};
-ghost use Rattle.orc_heap.specs.Journals.{IsLawful, IsLawfulFrom, is_once_linked, is_once_named, run_from, run_heap};
-ghost use Rattle.orc_heap.specs.Moves.{IsLinkedPlace, moves_place};
-ghost use Rattle.orc_heap.specs.declared.events.Act.{Act};
-ghost use Rattle.orc_heap.specs.declared.events.Event.{Event};
-ghost use Rattle.orc_heap.specs.declared.events.Link.{Link};
-ghost use Rattle.orc_heap.specs.declared.events.Place.{Place};
+ghost use Rattle.orc_heap.specs.{
+  Heap.{Heap, HeapNumbers, Node, shown},
+  Acts.{Fits, StaysLinked, heap_after, moved_link, moved_side},
+  Journals.{IsLawful, IsLawfulFrom, is_once_linked, is_once_named, run_from, run_heap},
+  Moves.{IsLinkedPlace, moves_place},
+  declared.events.{Act.{Act}, Event.{Event}, Link.{Link}, Place.{Place}},
+};
 
 /// A node to which a Move made a link stays such a node, keeps both values, and keeps each of its links but for a
 /// Move of it.

@@ -4,17 +4,19 @@ ghost use Rattle.std.specs.Prelude.{◌≡◌, ◌≢◌, ℕ, ◌+◌, ◌<◌,
 ghost use Rattle.std.specs.List.{AllByRecursion, list_all};
 ghost use mathlib.Core.List.{IsPrefix};
 ghost use Rattle.orc_fault.specs.declared.Spent.{Spent};
-ghost use Rattle.orc_heap.specs.Heap.{HeapNumbers};
-ghost use Rattle.orc_heap.specs.Acts.{IsKnown};
-ghost use Rattle.orc_heap.specs.Journals.{run_heap};
-ghost use Rattle.orc_heap.specs.Moves.{gives_in};
-ghost use Rattle.orc_heap.specs.Allowed.{AllAllowed};
-ghost use Rattle.orc_heap.specs.Slots.{Hold, Holds, IsFree, id_in};
-ghost use Rattle.orc_heap.specs.Seats.{HoldsFresh, HoldsPlace, HoldsTarget, HoldsWant, IsIdle, IsNotFresh, IsOutside, IsUntouched, Seat, place_in};
-ghost use Rattle.orc_heap.specs.OwnEvents.{IsBelow, Only};
+ghost use Rattle.orc_heap.specs.{
+  Heap.{HeapNumbers},
+  Acts.{IsKnown},
+  Journals.{run_heap},
+  Moves.{gives_in},
+  Allowed.{AllAllowed},
+  Slots.{Hold, Holds, IsFree, id_in},
+  Seats.{HoldsFresh, HoldsPlace, HoldsTarget, HoldsWant, IsIdle, IsNotFresh, IsOutside, IsUntouched, Seat, place_in},
+  OwnEvents.{IsBelow, Only},
+  Calls.{Gives, Learns, Looks, MayAim, MayAimSide, MayLook, MayMove, MovesOn, ReadsValue, RefusesAim, RefusesSwing, Releases, Swings, Tests, aim_of, aim_side_of, fill_of},
+  declared.events.Event.{Event},
+};
 ghost use Rattle.orc_history.specs.Parts.{InPart, IsAlone};
-ghost use Rattle.orc_heap.specs.Calls.{Gives, Learns, Looks, MayAim, MayAimSide, MayLook, MayMove, MovesOn, ReadsValue, RefusesAim, RefusesSwing, Releases, Swings, Tests, aim_of, aim_side_of, fill_of};
-ghost use Rattle.orc_heap.specs.declared.events.Event.{Event};
 
 use crate::discipline::Discipline;
 use crate::holds::{At, Held, Looked, LookedOn, Want};

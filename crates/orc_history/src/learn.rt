@@ -1,9 +1,7 @@
 //! Containers whose passes can learn from each other what they have seen.
 ghost use Rattle.std.specs.List.{AllByRecursion};
 ghost use Rattle.std.specs.Prelude.{◌≡◌, ◌≢◌, ℕ, ◌<◌};
-ghost use Rattle.orc_history.specs.Journals.{LearnsEntries};
-ghost use Rattle.orc_history.specs.QueueHistory.{agent_of_entry};
-ghost use Rattle.orc_history.specs.SetHistory.{agent_of_set_entry};
+ghost use Rattle.orc_history.specs.{Journals.{LearnsEntries}, QueueHistory.{agent_of_entry}, SetHistory.{agent_of_set_entry}};
 
 use crate::queue::SharedQueue;
 use crate::set::SharedSet;

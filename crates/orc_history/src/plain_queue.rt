@@ -1,10 +1,11 @@
 //! A queue on one thread, which stores its history.
 ghost use Rattle.std.specs.Prelude.{◌≡◌, ℕ, ◌+◌, ◌<◌, ◌≤◌, ◌^◌, ◌↔◌, List, [], ◌∷◌, ◌++◌, length, slice_get, true, false, refl, IfOk, IsErr, OnErr};
-ghost use Rattle.orc_history.specs.QueueHistory.{entry_of_dequeue, puts_in, waiting_after};
-ghost use Rattle.orc_history.specs.StoredHistory.{LacksTurn, RefusedAt, RefusedAt-append};
-ghost use Rattle.orc_history.specs.PlainQueue.{IsQueuePass, QueuePassView, RefusesEnqueue, enough_puts};
-ghost use Rattle.orc_history.specs.declared.queue.QueueEntry.{QueueEntry};
-ghost use Rattle.orc_history.specs.declared.queue.QueueRefused.{QueueRefused};
+ghost use Rattle.orc_history.specs.{
+  QueueHistory.{entry_of_dequeue, puts_in, waiting_after},
+  StoredHistory.{LacksTurn, RefusedAt, RefusedAt-append},
+  PlainQueue.{IsQueuePass, QueuePassView, RefusesEnqueue, enough_puts},
+  declared.queue.{QueueEntry.{QueueEntry}, QueueRefused.{QueueRefused}},
+};
 
 use crate::stored_history::{has_turn, new_history};
 use crate::{QueueEntry, QueueRefused, SharedQueue};
@@ -92,8 +93,7 @@ pub struct PlainQueuePass {
 impl Model for PlainQueuePass {
     ghost use Rattle.std.specs.Prelude.{◌≤◌, vec_capacity};
     ghost use Rattle.std.specs.VecDeque.{deque_capacity};
-    ghost use Rattle.orc_history.specs.StoredHistory.{history_room};
-    ghost use Rattle.orc_history.specs.PlainQueue.{QueuePassView, HoldsQueue};
+    ghost use Rattle.orc_history.specs.{StoredHistory.{history_room}, PlainQueue.{QueuePassView, HoldsQueue}};
 
     ghost Value = { QueuePassView };
 

@@ -1,10 +1,11 @@
 //! A set on one thread, which stores its history.
 ghost use Rattle.std.specs.Prelude.{◌≡◌, ℕ, ◌≢◌, ◌≤◌, ◌↔◌, List, [], ◌∷◌, ◌++◌, length, true, false, not, refl, IfOk, IsErr, OnErr};
-ghost use Rattle.orc_history.specs.SetHistory.{has, keys_after};
-ghost use Rattle.orc_history.specs.StoredHistory.{LacksTurn, RefusedAt, RefusedAt-append};
-ghost use Rattle.orc_history.specs.PlainSet.{IsSetPass, RefusesInsert, SetPassView};
-ghost use Rattle.orc_history.specs.declared.set.SetEntry.{SetEntry};
-ghost use Rattle.orc_history.specs.declared.set.ListRefused.{ListRefused};
+ghost use Rattle.orc_history.specs.{
+  SetHistory.{has, keys_after},
+  StoredHistory.{LacksTurn, RefusedAt, RefusedAt-append},
+  PlainSet.{IsSetPass, RefusesInsert, SetPassView},
+  declared.set.{SetEntry.{SetEntry}, ListRefused.{ListRefused}},
+};
 
 use crate::sorted_keys::{add_key, has_key, take_key};
 use crate::stored_history::{has_turn, new_history};
@@ -80,8 +81,7 @@ pub struct PlainSetPass {
 impl Model for PlainSetPass {
     ghost use Rattle.std.specs.Prelude.{◌≤◌, vec_capacity};
     ghost use Rattle.std.specs.VecDeque.{deque_capacity};
-    ghost use Rattle.orc_history.specs.StoredHistory.{history_room};
-    ghost use Rattle.orc_history.specs.PlainSet.{SetPassView, HoldsSet};
+    ghost use Rattle.orc_history.specs.{StoredHistory.{history_room}, PlainSet.{SetPassView, HoldsSet}};
 
     ghost Value = { SetPassView };
 

@@ -1,10 +1,11 @@
 //! Histories of queues, and the trait of the queues that several agents share.
 ghost use Rattle.std.specs.Prelude.{◌≡◌, ℕ, ◌+◌, ◌≤◌, ◌^◌, List, [], ◌∷◌, ◌++◌, length, IfOk, IfErr};
 ghost use mathlib.Core.List.{IsPrefix};
-ghost use Rattle.orc_history.specs.Journals.{Adds, Within};
-ghost use Rattle.orc_history.specs.QueueHistory.{IsLegalQueue, agent_of_entry, entry_of_dequeue, puts_in};
-ghost use Rattle.orc_history.specs.declared.queue.QueueEntry.{QueueEntry};
-ghost use Rattle.orc_history.specs.declared.queue.QueueRefused.{QueueRefused};
+ghost use Rattle.orc_history.specs.{
+  Journals.{Adds, Within},
+  QueueHistory.{IsLegalQueue, agent_of_entry, entry_of_dequeue, puts_in},
+  declared.queue.{QueueEntry.{QueueEntry}, QueueRefused.{QueueRefused}},
+};
 
 use orc_fault::Again;
 

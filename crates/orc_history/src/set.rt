@@ -1,10 +1,11 @@
 //! Histories of sets, and the trait of the sets that several agents share.
 ghost use Rattle.std.specs.Prelude.{◌≡◌, ℕ, List, [], ◌∷◌, ◌++◌, length, IfOk, IfErr};
 ghost use mathlib.Core.List.{IsPrefix};
-ghost use Rattle.orc_history.specs.Journals.{Adds, Within};
-ghost use Rattle.orc_history.specs.SetHistory.{IsLegalSet, agent_of_set_entry};
-ghost use Rattle.orc_history.specs.declared.set.SetEntry.{SetEntry};
-ghost use Rattle.orc_history.specs.declared.set.ListRefused.{ListRefused};
+ghost use Rattle.orc_history.specs.{
+  Journals.{Adds, Within},
+  SetHistory.{IsLegalSet, agent_of_set_entry},
+  declared.set.{SetEntry.{SetEntry}, ListRefused.{ListRefused}},
+};
 
 use orc_fault::{Again, Spent};
 

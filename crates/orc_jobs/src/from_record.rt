@@ -1,7 +1,6 @@
 ghost use Rattle.std.specs.Prelude.{◌≡◌, List, ℕ, IfErr, IfOk};
 ghost use Rattle.csv.specs.Records.{fields_of};
-ghost use Rattle.orc_jobs.specs.OneRecord.{Explains};
-ghost use Rattle.orc_jobs.specs.declared.from_record.RecordRefused.TheVariants.{NoMemory as Refused};
+ghost use Rattle.orc_jobs.specs.{OneRecord.{Explains}, declared.from_record.RecordRefused.TheVariants.{NoMemory as Refused}};
 
 use csv::ByteRecord;
 use orc_fault::NoMemory;

@@ -2,9 +2,11 @@
 ghost use Rattle.std.specs.Prelude.{◌≡◌, ◌≤◌, ◌++◌, ◌∷◌, [], List, ℕ, IfOk, OnOk, length};
 ghost use Rattle.std.specs.List.{join_with_byte};
 ghost use Rattle.std.specs.String.{string_bytes};
-ghost use Rattle.orc_jobs.specs.Generated.{behind, behind_line, behind_text, drawn as next_draw, generated, line_from, op_of as chosen, text_of as drawn_text};
-ghost use Rattle.orc_jobs.specs.GoodLines.{AreGood};
-ghost use Rattle.orc_jobs.specs.declared.line.Job.{Job};
+ghost use Rattle.orc_jobs.specs.{
+  Generated.{behind, behind_line, behind_text, drawn as next_draw, generated, line_from, op_of as chosen, text_of as drawn_text},
+  GoodLines.{AreGood},
+  declared.line.Job.{Job},
+};
 
 use crate::{Job, Line, Lines, Text};
 use orc_fault::NoMemory;

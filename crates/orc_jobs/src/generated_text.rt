@@ -1,7 +1,6 @@
 //! The text of generated lines.
 ghost use Rattle.std.specs.Prelude.{◌≡◌, ◌≤◌, ◌++◌, ℕ, IfOk, OnOk};
-ghost use Rattle.orc_jobs.specs.Generated.{generated, line_text, text_of_lines};
-ghost use Rattle.orc_jobs.specs.JobGrammar.{IsFileOf};
+ghost use Rattle.orc_jobs.specs.{Generated.{generated, line_text, text_of_lines}, JobGrammar.{IsFileOf}};
 
 use crate::{Line, Lines, Text};
 use orc_fault::NoMemory;

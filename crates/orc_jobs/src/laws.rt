@@ -1,9 +1,11 @@
 ghost use Rattle.std.specs.Prelude.{◌≡◌, ◌≢◌, List, ℕ};
-ghost use Rattle.orc_jobs.specs.JobGrammar.{HasCause, IsLine, record_of};
-ghost use Rattle.orc_jobs.specs.JobValue.{IsJobValue};
-ghost use Rattle.orc_jobs.specs.Numbers.{SpellsNumbers};
-ghost use Rattle.orc_jobs.specs.declared.cause.Cause.{Cause};
-ghost use Rattle.orc_jobs.specs.declared.line.Line.{Line};
+ghost use Rattle.orc_jobs.specs.{
+  JobGrammar.{HasCause, IsLine, record_of},
+  JobValue.{IsJobValue},
+  Numbers.{SpellsNumbers},
+  declared.cause.Cause.{Cause},
+  declared.line.Line.{Line},
+};
 
 /// A law, with nothing to run: a record is the spelling of one line at most, has one cause at most,
 /// and never both or neither.

@@ -1,9 +1,11 @@
 ghost use Rattle.std.specs.Prelude.{◌≤◌, List, ℕ, IfErr, IfOk, length};
-ghost use Rattle.orc_jobs.specs.GoodLines.{AreGood};
-ghost use Rattle.orc_jobs.specs.JobGrammar.{IsFileOf, Refuses};
-ghost use Rattle.orc_jobs.specs.OneRecord.{GivesFault, GivesLines};
-ghost use Rattle.orc_jobs.specs.declared.cause.Cause.{Cause};
-ghost use Rattle.orc_jobs.specs.declared.line.Line.{Line};
+ghost use Rattle.orc_jobs.specs.{
+  GoodLines.{AreGood},
+  JobGrammar.{IsFileOf, Refuses},
+  OneRecord.{GivesFault, GivesLines},
+  declared.cause.Cause.{Cause},
+  declared.line.Line.{Line},
+};
 
 use crate::{Cause, FileRefused, Lines, MOST_BYTES, read_records};
 use std::alloc::Global;

@@ -1,9 +1,7 @@
 //! Files of records, of which each stands for a line.
 ghost use Rattle.std.specs.Prelude.{◌≡◌, ◌≤◌, IfErr, IfOk, OnOk, length};
-ghost use Rattle.csv.specs.Records.{fields_of};
-ghost use Rattle.csv.specs.Reading.{NotLengths, error_kind};
-ghost use Rattle.orc_jobs.specs.OneRecord.{RefusesFile, RefusesRecord};
-ghost use Rattle.orc_jobs.specs.RecordFiles.{IsFile, TakesRecord};
+ghost use Rattle.csv.specs.{Records.{fields_of}, Reading.{NotLengths, error_kind}};
+ghost use Rattle.orc_jobs.specs.{OneRecord.{RefusesFile, RefusesRecord}, RecordFiles.{IsFile, TakesRecord}};
 
 use crate::{FromRecord, LineList, RecordRefused};
 use csv::{ByteRecord, Error, ErrorKind, ReaderBuilder};

@@ -1,6 +1,5 @@
 ghost use Rattle.std.specs.Prelude.{◌≡◌, ◌==◌, ◌&&◌, ◌∷◌, ◌^◌, ◌<◌, ◌≤◌, [], ℕ, length, not};
-ghost use Rattle.orc_jobs.specs.GoodLines.{AreGood};
-ghost use Rattle.orc_jobs.specs.JobValue.{IsJobValue, word_count};
+ghost use Rattle.orc_jobs.specs.{GoodLines.{AreGood}, JobValue.{IsJobValue, word_count}};
 
 use crate::number::sum_of;
 use crate::{Job, Line};

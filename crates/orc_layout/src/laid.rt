@@ -1,8 +1,7 @@
 //! Words that are laid at their indices.
 
 ghost use Rattle.std.specs.Prelude.{◌≡◌, IfOk, length};
-ghost use Rattle.orc_words.specs.Bounds.{bounds_of};
-ghost use Rattle.orc_words.specs.Places.{places};
+ghost use Rattle.orc_words.specs.{Bounds.{bounds_of}, Places.{places}};
 ghost use Rattle.orc_layout.specs.Layout.{index, lay, table_length};
 
 use crate::layout::Layout;

@@ -1,9 +1,11 @@
 //! The index of each word of a table.
 
 ghost use Rattle.std.specs.Prelude.{◌≡◌, ◌<◌, ◌≤◌, ◌*◌, ◌+◌, ◌%◌, ℕ};
-ghost use Rattle.orc_words.specs.Bounds.{Bounds, bounds_of};
-ghost use Rattle.orc_words.specs.Places.{IsWithin, place, places};
-ghost use Rattle.orc_words.specs.declared.place.Word.TheVariants.{Enrolled, Gate, Root, Slot};
+ghost use Rattle.orc_words.specs.{
+  Bounds.{Bounds, bounds_of},
+  Places.{IsWithin, place, places},
+  declared.place.Word.TheVariants.{Enrolled, Gate, Root, Slot},
+};
 ghost use Rattle.orc_layout.specs.Layout.{index, layout_of, table_length};
 
 use orc_words::{Shape, Word};
@@ -20,8 +22,7 @@ pub struct Layout {
 
 impl Layout {
     ghost use Rattle.std.specs.Prelude.{◌≡◌, ◌<◌, ◌≤◌};
-    ghost use Rattle.orc_words.specs.Bounds.{bounds_of};
-    ghost use Rattle.orc_words.specs.Places.{IsWithin, place, places};
+    ghost use Rattle.orc_words.specs.{Bounds.{bounds_of}, Places.{IsWithin, place, places}};
     ghost use Rattle.orc_layout.specs.Layout.{index, layout_of, table_length};
 
     /// The layout of tables of this shape.

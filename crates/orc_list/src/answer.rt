@@ -2,12 +2,8 @@
 
 ghost use Rattle.std.specs.Prelude.{◌≡◌, ◌<◌, ◌%◌, Ok, Some, true};
 ghost use mathlib.Core.List.{IsPrefix};
-ghost use Rattle.orc_list.specs.Searches.{list_reading};
-ghost use Rattle.orc_list.specs.Turns.{MadeFew, TakesOff};
-ghost use Rattle.orc_ordered_search.specs.Causes.{HasWorn};
-ghost use Rattle.orc_ordered_search.specs.Entries.{entry_by};
-ghost use Rattle.orc_ordered_search.specs.Searches.{HasRoom};
-ghost use Rattle.orc_ordered_search.specs.Turns.{AnswersTurn, AnswersTurns};
+ghost use Rattle.orc_list.specs.{Searches.{list_reading}, Turns.{MadeFew, TakesOff}};
+ghost use Rattle.orc_ordered_search.specs.{Causes.{HasWorn}, Entries.{entry_by}, Searches.{HasRoom}, Turns.{AnswersTurn, AnswersTurns}};
 
 use crate::key::Key;
 use orc_chain_rule::Chain;

@@ -3,17 +3,14 @@
 ghost use Rattle.std.specs.Prelude.{◌≡◌, ◌<◌, ◌%◌, ℕ, Err, None, Ok, true};
 ghost use mathlib.Core.List.{IsPrefix};
 ghost use Rattle.orc_fault.specs.declared.Spent.{Spent};
-ghost use Rattle.orc_heap.specs.Seats.{IsIdle, heap_of};
-ghost use Rattle.orc_heap.specs.Slots.{Slots};
-ghost use Rattle.orc_history.specs.Parts.{WithinPart};
-ghost use Rattle.orc_history.specs.declared.set.ListRefused.{ListRefused};
-ghost use Rattle.orc_history.specs.declared.set.SetEntry.{SetEntry};
-ghost use Rattle.orc_list.specs.Inserts.{LeavesRunOff, SeesAbsent};
-ghost use Rattle.orc_list.specs.Searches.{list_reading};
-ghost use Rattle.orc_list.specs.Turns.{MadeFew};
-ghost use Rattle.orc_ordered_search.specs.Inserts.{HasRoomFor, InsertAnswers, Inserts, InsertsTurns, KeepsNode};
-ghost use Rattle.orc_ordered_search.specs.Turns.{made_from};
-ghost use Rattle.orc_ordered_search.specs.declared.turn.InsertTurn.{InsertTurn};
+ghost use Rattle.orc_heap.specs.{Seats.{IsIdle, heap_of}, Slots.{Slots}};
+ghost use Rattle.orc_history.specs.{Parts.{WithinPart}, declared.set.{ListRefused.{ListRefused}, SetEntry.{SetEntry}}};
+ghost use Rattle.orc_list.specs.{Inserts.{LeavesRunOff, SeesAbsent}, Searches.{list_reading}, Turns.{MadeFew}};
+ghost use Rattle.orc_ordered_search.specs.{
+  Inserts.{HasRoomFor, InsertAnswers, Inserts, InsertsTurns, KeepsNode},
+  Turns.{made_from},
+  declared.turn.InsertTurn.{InsertTurn},
+};
 
 use crate::key::Key;
 use orc_chain_rule::Chain;

@@ -1,9 +1,10 @@
 //! Keys as ranks.
 
 ghost use Rattle.orc_chain_rule.specs.declared.chain.ChainNote.{ChainNote};
-ghost use Rattle.orc_list.specs.Laws.Entries.{list_allows_absence, list_allows_add, list_allows_aim, list_allows_mark, list_allows_presence, list_allows_unlink, list_enters, list_enters_none};
-ghost use Rattle.orc_list.specs.Laws.Ordered.{list_ordered};
-ghost use Rattle.orc_list.specs.Searches.{list_manner};
+ghost use Rattle.orc_list.specs.{
+  Laws.{Entries.{list_allows_absence, list_allows_add, list_allows_aim, list_allows_mark, list_allows_presence, list_allows_unlink, list_enters, list_enters_none}, Ordered.{list_ordered}},
+  Searches.{list_manner},
+};
 ghost use Rattle.std.specs.Prelude.{false};
 
 use orc_chain_rule::{Chain, ChainNote};

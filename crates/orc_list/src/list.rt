@@ -2,12 +2,11 @@
 
 ghost use Rattle.std.specs.Prelude.{◌≡◌, ◌⊎◌, [], ◌∷◌, Err, IfErr, IfOk, IsErr, Ok, false, true};
 ghost use mathlib.Core.List.{IsPrefix};
-ghost use Rattle.orc_heap.specs.Domains.{IsCallAlone, MakesNoEvent, agent};
-ghost use Rattle.orc_heap.specs.Seats.{IsIdle};
-ghost use Rattle.orc_history.specs.declared.set.ListRefused.{ListRefused};
-ghost use Rattle.orc_history.specs.declared.set.SetEntry.{SetEntry};
-ghost use Rattle.orc_list.specs.ListCalls.{CostsOthers, Enters, EntersNone, FindsAbsent, FindsWorn, GivesAtMost, IsRootOf, LacksRow};
-ghost use Rattle.orc_list.specs.ListCalls.{LeavesMarked, LeavesOffChain, LeavesRunOffChain, LooksAlone, MakesFew, StopsBeforeWorn, UsesAllTurns};
+ghost use Rattle.orc_heap.specs.{Domains.{IsCallAlone, MakesNoEvent, agent}, Seats.{IsIdle}};
+ghost use Rattle.orc_history.specs.{declared.set.{ListRefused.{ListRefused}, SetEntry.{SetEntry}}};
+ghost use Rattle.orc_list.specs.{
+  ListCalls.{CostsOthers, Enters, EntersNone, FindsAbsent, FindsWorn, GivesAtMost, IsRootOf, LacksRow, LeavesMarked, LeavesOffChain, LeavesRunOffChain, LooksAlone, MakesFew, StopsBeforeWorn, UsesAllTurns},
+};
 ghost use Rattle.orc_ordered_search.specs.Entries.{entry_by};
 
 use crate::answer::call_turns;

@@ -2,8 +2,7 @@
 
 ghost use Rattle.std.specs.Prelude.{◌≡◌};
 ghost use Rattle.orc_core.specs.declared.ops.Op.{Op};
-ghost use Rattle.orc_machine_board.specs.Kinds.{MayDo, MakesPlain};
-ghost use Rattle.orc_machine_board.specs.Views.{Belongs, board_bounds, shows};
+ghost use Rattle.orc_machine_board.specs.{Kinds.{MayDo, MakesPlain}, Views.{Belongs, board_bounds, shows}};
 
 use crate::board::{MachineBoard, MachineBoardPass};
 use orc_core::{CounterUse, Op};

@@ -2,10 +2,12 @@
 
 ghost use Rattle.std.specs.Option.{ForSome};
 ghost use Rattle.std.specs.Prelude.{◌≡◌, ◌<◌, ◌≤◌, ◌==◌, ◌%◌, ◌/◌, ◌^◌, None, Some, cond, length};
-ghost use Rattle.orc_core.specs.Actions.{IsPackable};
-ghost use Rattle.orc_core.specs.After.{IsRecordable, after, due_after, scan_by, scan_on};
-ghost use Rattle.orc_core.specs.RecordParts.{same_target};
-ghost use Rattle.orc_core.specs.declared.ops.CounterUse.{CounterUse};
+ghost use Rattle.orc_core.specs.{
+  Actions.{IsPackable},
+  After.{IsRecordable, after, due_after, scan_by, scan_on},
+  RecordParts.{same_target},
+  declared.ops.CounterUse.{CounterUse},
+};
 ghost use Rattle.orc_machine_board.specs.Kept.{IsInUse, kept_of};
 ghost use Rattle.orc_words.specs.Packed.{link_word};
 

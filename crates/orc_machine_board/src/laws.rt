@@ -3,15 +3,16 @@
 ghost use Rattle.std.specs.Prelude.{◌≡◌, ◌<◌, ◌++◌, ◌∷◌, [], List, Option, ℕ};
 ghost use Rattle.orc_core.specs.Machine.{new_machine, record_at};
 ghost use Rattle.orc_history.specs.Journals.{own_of};
-ghost use Rattle.orc_machine_board.specs.Holding.{HasRow};
-ghost use Rattle.orc_machine_board.specs.Passes.{TookInAll};
-ghost use Rattle.orc_machine_board.specs.Rules.{run_of, step_of};
-ghost use Rattle.orc_machine_board.specs.Views.{MachineView, Makes};
-ghost use Rattle.orc_machine_board.specs.declared.machine.Request.{Request};
+ghost use Rattle.orc_machine_board.specs.{
+  Holding.{HasRow},
+  Passes.{TookInAll},
+  Rules.{run_of, step_of},
+  Views.{MachineView, Makes},
+  declared.machine.Request.{Request},
+};
 ghost use Rattle.orc_projection.specs.Projection.{present_ids};
 ghost use Rattle.orc_shared_words.specs.Runs.{AgentsBelow};
-ghost use Rattle.orc_sound.specs.Journals.{IsLawfulJournal};
-ghost use Rattle.orc_sound.specs.declared.steps.Step.{Step};
+ghost use Rattle.orc_sound.specs.{Journals.{IsLawfulJournal}, declared.steps.Step.{Step}};
 ghost use Rattle.orc_words.specs.Bounds.{Bounds, IsShape};
 
 /// A row keeps its node while an agent holds it, or has it fresh, whatever others do.

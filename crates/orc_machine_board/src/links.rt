@@ -1,13 +1,14 @@
 //! Steps on links.
 
 ghost use Rattle.std.specs.Prelude.{◌≡◌, None, Some, false, true};
-ghost use Rattle.orc_core.specs.RecordParts.{names};
-ghost use Rattle.orc_core.specs.declared.ops.Op.{Op};
+ghost use Rattle.orc_core.specs.{RecordParts.{names}, declared.ops.Op.{Op}};
 ghost use Rattle.orc_sound.specs.Journals.{IsWanted};
 ghost use Rattle.orc_words.specs.declared.packed.RowLink.{RowLink};
-ghost use Rattle.orc_machine_board.specs.Kinds.{MayDo, asks, wants};
-ghost use Rattle.orc_machine_board.specs.Licences.{AimAllowed, LookAllowed, MoveAllowed};
-ghost use Rattle.orc_machine_board.specs.Views.{Belongs, Makes, board_bounds, board_numbers, shows};
+ghost use Rattle.orc_machine_board.specs.{
+  Kinds.{MayDo, asks, wants},
+  Licences.{AimAllowed, LookAllowed, MoveAllowed},
+  Views.{Belongs, Makes, board_bounds, board_numbers, shows},
+};
 
 use crate::board::{MachineBoard, MachineBoardPass};
 use crate::machine::Request;

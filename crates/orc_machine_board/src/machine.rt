@@ -46,10 +46,11 @@ pub struct Request {
 pub struct Reclaiming;
 
 impl<N: Copy> Machine<N> for Reclaiming {
-    ghost use Rattle.orc_machine_board.specs.Kept.{kept_of};
-    ghost use Rattle.orc_machine_board.specs.Rules.{ListHasRoom, counted_rules, heap_numbers};
-    ghost use Rattle.orc_machine_board.specs.Laws.Kept.{kept_once};
-    ghost use Rattle.orc_machine_board.specs.Laws.Steps.{counted_leaves_room, counted_obeys};
+    ghost use Rattle.orc_machine_board.specs.{
+      Kept.{kept_of},
+      Rules.{ListHasRoom, counted_rules, heap_numbers},
+      Laws.{Kept.{kept_once}, Steps.{counted_leaves_room, counted_obeys}},
+    };
 
     type Shape = MachineShape<N>;
 

@@ -1,19 +1,19 @@
 //! New boards.
 
 ghost use Rattle.std.specs.Prelude.{◌≡◌, ◌∷◌, [], All, IfOk, List, length, ℕ};
-ghost use Rattle.orc_core.specs.Runs.{run};
-ghost use Rattle.orc_core.specs.Machine.{new_machine};
+ghost use Rattle.orc_core.specs.{Runs.{run}, Machine.{new_machine}, declared.ops.Op.{Op}};
 ghost use Rattle.orc_words.specs.Bounds.{Bounds, bounds_of};
 ghost use Rattle.orc_heap.specs.Seeds.{HasRoots, SeedAllowed};
 ghost use Rattle.orc_layout.specs.Layout.{index, lay, table_length};
-ghost use Rattle.orc_machine_board.specs.Passes.{HasNothing};
-ghost use Rattle.orc_machine_board.specs.Rules.{enrolments, machine_opening, run_of, seeding};
-ghost use Rattle.orc_machine_board.specs.Views.{Belongs, board_bounds, board_seed, shows};
+ghost use Rattle.orc_machine_board.specs.{
+  Passes.{HasNothing},
+  Rules.{enrolments, machine_opening, run_of, seeding},
+  Views.{Belongs, board_bounds, board_seed, shows},
+  Plays.{PlaysOn, by_agent},
+};
 ghost use Rattle.orc_projection.specs.Mirror.{numbers_of};
 ghost use Rattle.orc_shared_words.specs.Lists.{EachAt, EachFrom};
 ghost use Rattle.orc_sound.specs.Journals.{plain};
-ghost use Rattle.orc_core.specs.declared.ops.Op.{Op};
-ghost use Rattle.orc_machine_board.specs.Plays.{PlaysOn, by_agent};
 
 use crate::board::{MachineBoard, MachineBoardPass};
 use crate::machine::{MachineShape, Reclaiming};

@@ -1,12 +1,13 @@
 //! What passes tell, what they learn from each other, and how a board ends.
 
 ghost use Rattle.std.specs.Prelude.{◌≡◌, ◌<◌, [], ℕ};
-ghost use Rattle.orc_core.specs.Machine.{new_machine, record_at};
-ghost use Rattle.orc_core.specs.RecordParts.{is_empty, slot_of};
+ghost use Rattle.orc_core.specs.{Machine.{new_machine, record_at}, RecordParts.{is_empty, slot_of}};
 ghost use Rattle.orc_heap.specs.Allowed.{AllAllowed};
-ghost use Rattle.orc_machine_board.specs.Passes.{AbsorbsSteps, LearnsSteps, TookInAll, backlog_in};
-ghost use Rattle.orc_machine_board.specs.Rules.{machine_opening, run_of};
-ghost use Rattle.orc_machine_board.specs.Views.{Belongs, board_bounds, board_numbers, board_seed, shows};
+ghost use Rattle.orc_machine_board.specs.{
+  Passes.{AbsorbsSteps, LearnsSteps, TookInAll, backlog_in},
+  Rules.{machine_opening, run_of},
+  Views.{Belongs, board_bounds, board_numbers, board_seed, shows},
+};
 ghost use Rattle.orc_projection.specs.Projection.{StoresUnmarked, project};
 ghost use mathlib.Core.List.{IsPrefix};
 ghost use Rattle.orc_layout.specs.Layout.{index, lay};

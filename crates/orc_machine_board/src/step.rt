@@ -3,9 +3,11 @@
 ghost use Rattle.std.specs.Prelude.{◌≡◌, None, true};
 ghost use Rattle.orc_shared_words.specs.Steps.{IsAllowedLater};
 ghost use Rattle.orc_sound.specs.Journals.{IsWanted};
-ghost use Rattle.orc_machine_board.specs.Kinds.{MayDo, is_plain_kind, wants};
-ghost use Rattle.orc_machine_board.specs.Rules.{RequestAllowed, counted_rules};
-ghost use Rattle.orc_machine_board.specs.Views.{Belongs, Makes, board_bounds, board_numbers, shows};
+ghost use Rattle.orc_machine_board.specs.{
+  Kinds.{MayDo, is_plain_kind, wants},
+  Rules.{RequestAllowed, counted_rules},
+  Views.{Belongs, Makes, board_bounds, board_numbers, shows},
+};
 
 use crate::board::{MachineBoard, MachineBoardPass};
 use crate::machine::Request;

@@ -3,9 +3,7 @@
 ghost use Rattle.std.specs.Prelude.{◌≡◌, ◌+◌, ◌++◌};
 ghost use Rattle.orc_machine_rest.specs.Looks.{MayLookAtGates, gate_looks};
 ghost use Rattle.orc_core.specs.Machine.{new_machine};
-ghost use Rattle.orc_machine_board.specs.Passes.{TookInAll};
-ghost use Rattle.orc_machine_board.specs.Rules.{run_of};
-ghost use Rattle.orc_machine_board.specs.Views.{Belongs, board_bounds, shows};
+ghost use Rattle.orc_machine_board.specs.{Passes.{TookInAll}, Rules.{run_of}, Views.{Belongs, board_bounds, shows}};
 ghost use Rattle.orc_rest.specs.Reuse.{given, reused, rows_out};
 ghost use Rattle.orc_sound.specs.Journals.{plain};
 

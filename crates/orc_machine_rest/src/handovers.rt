@@ -1,14 +1,15 @@
 //! Taking in slot by slot, and draining.
 
 ghost use Rattle.std.specs.Prelude.{◌≡◌, ◌<◌, ◌≤◌, ◌+◌, ◌-◌, ◌*◌, ℕ};
-ghost use Rattle.orc_machine_rest.specs.Drains.{Drains, TakesInFrom};
-ghost use Rattle.orc_machine_rest.specs.OwnSteps.{AtMostMore, HasTakenIn, LeavesNothing, TakesInAll, most_rounds, steps_a_round};
-ghost use Rattle.orc_machine_rest.specs.Parts.{NoEvents};
-ghost use Rattle.orc_machine_rest.specs.Passes.{IsPassOf, agent_record, state_of};
+ghost use Rattle.orc_machine_rest.specs.{
+  Drains.{Drains, TakesInFrom},
+  OwnSteps.{AtMostMore, HasTakenIn, LeavesNothing, TakesInAll, most_rounds, steps_a_round},
+  Parts.{NoEvents},
+  Passes.{IsPassOf, agent_record, state_of},
+};
 ghost use Rattle.orc_history.specs.Parts.{IsAlone};
 ghost use Rattle.orc_machine_board.specs.Views.{Belongs, board_bounds, shows};
-ghost use Rattle.orc_rest.specs.Records.{IsBetweenRounds, IsDone};
-ghost use Rattle.orc_rest.specs.Turns.{NoneHanded};
+ghost use Rattle.orc_rest.specs.{Records.{IsBetweenRounds, IsDone}, Turns.{NoneHanded}};
 
 use crate::rounds::settle_all;
 use crate::steps::take_in;

@@ -1,10 +1,12 @@
 //! Rounds, and settling by as many of them as it takes.
 
 ghost use Rattle.std.specs.Prelude.{◌≡◌, ◌-◌, ◌+◌, ◌*◌, ◌≤◌, IfSome, None, true};
-ghost use Rattle.orc_machine_rest.specs.Drains.{TakesInAndSettles};
-ghost use Rattle.orc_machine_rest.specs.OwnSteps.{AtMostMore, HasTakenIn, LeavesNothing, most_rounds, steps_a_round};
-ghost use Rattle.orc_machine_rest.specs.Parts.{MakesRounds, NoEvents, OpensTurn, Settles};
-ghost use Rattle.orc_machine_rest.specs.Passes.{IsPassOf, agent_record};
+ghost use Rattle.orc_machine_rest.specs.{
+  Drains.{TakesInAndSettles},
+  OwnSteps.{AtMostMore, HasTakenIn, LeavesNothing, most_rounds, steps_a_round},
+  Parts.{MakesRounds, NoEvents, OpensTurn, Settles},
+  Passes.{IsPassOf, agent_record},
+};
 ghost use Rattle.orc_core.specs.RecordParts.{scans};
 ghost use Rattle.orc_history.specs.Parts.{IsAlone};
 ghost use Rattle.orc_machine_board.specs.Views.{Belongs, board_bounds, shows};

@@ -1,20 +1,25 @@
 //! The parts of a round: steps, and what follows one another without a choice.
 
 ghost use Rattle.std.specs.Prelude.{◌≡◌, ◌<◌, ◌*◌, ◌+◌, None, Some, [], ◌∷◌, false, true};
-ghost use Rattle.orc_machine_rest.specs.Drains.{TakesInOne};
-ghost use Rattle.orc_machine_rest.specs.OwnSteps.{AtMostMore, HasTakenIn, TakesInCleared, answers_word};
-ghost use Rattle.orc_core.specs.After.{after};
-ghost use Rattle.orc_machine_rest.specs.Parts.{Goes, OpensTurn};
-ghost use Rattle.orc_machine_rest.specs.Passes.{IsPassOf, agent_record, state_of};
-ghost use Rattle.orc_core.specs.Machine.{is_allowed, word_in};
-ghost use Rattle.orc_core.specs.RecordParts.{is_empty, scan_empty, scan_found, scans, slot_of};
-ghost use Rattle.orc_core.specs.declared.ops.Op.{Op};
-ghost use Rattle.orc_core.specs.declared.records.SlotUse.TheVariants.{Empty};
-ghost use Rattle.orc_machine_board.specs.Kinds.{is_plain_kind};
-ghost use Rattle.orc_machine_board.specs.Views.{board_bounds, shows};
-ghost use Rattle.orc_rest.specs.Records.{DueFits, IsBetweenRounds, IsDoomOf, IsScanOf, IsSettling, IsStill, SameTasks};
-ghost use Rattle.orc_rest.specs.Rounds.{AfterStep, IsNoHand, LooksAtSlot};
-ghost use Rattle.orc_rest.specs.Work.{IsSettlingStep, drop_of};
+ghost use Rattle.orc_machine_rest.specs.{
+  Drains.{TakesInOne},
+  OwnSteps.{AtMostMore, HasTakenIn, TakesInCleared, answers_word},
+  Parts.{Goes, OpensTurn},
+  Passes.{IsPassOf, agent_record, state_of},
+};
+ghost use Rattle.orc_core.specs.{
+  After.{after},
+  Machine.{is_allowed, word_in},
+  RecordParts.{is_empty, scan_empty, scan_found, scans, slot_of},
+  declared.ops.Op.{Op},
+  declared.records.SlotUse.TheVariants.{Empty},
+};
+ghost use Rattle.orc_machine_board.specs.{Kinds.{is_plain_kind}, Views.{board_bounds, shows}};
+ghost use Rattle.orc_rest.specs.{
+  Records.{DueFits, IsBetweenRounds, IsDoomOf, IsScanOf, IsSettling, IsStill, SameTasks},
+  Rounds.{AfterStep, IsNoHand, LooksAtSlot},
+  Work.{IsSettlingStep, drop_of},
+};
 
 use orc_core::{Agent, Op, Reading};
 use orc_heap::Discipline;

@@ -2,8 +2,7 @@
 
 ghost use Rattle.std.specs.Prelude.{◌≡◌, ◌∷◌, [], codes, map, false, IfOk};
 ghost use Rattle.clap.specs.Words.{app_of, rule_of};
-ghost use Rattle.orc_options.specs.Options.{IsCommand, choice_rule, number_rule};
-ghost use Rattle.orc_options.specs.Ranges.{range_of};
+ghost use Rattle.orc_options.specs.{Options.{IsCommand, choice_rule, number_rule}, Ranges.{range_of}};
 
 use crate::ranges::{BUCKETS, LINES, NumberRange, POSTERS, ROWS, SEED, STAGES, TAKERS};
 use clap::builder::ValueParser;

@@ -2,10 +2,11 @@
 
 ghost use Rattle.std.specs.Prelude.{◌≡◌, ◌≢◌, ◌≤◌, IfErr, IfOk, List, ℕ, option_map};
 ghost use Rattle.clap.specs.Words.{found_of, one_text, rows_of};
-ghost use Rattle.orc_options.specs.declared.settings.Settings.{Settings};
-ghost use Rattle.orc_options.specs.Ranges.{range_of};
-ghost use Rattle.orc_options.specs.Settings.{AreInRange, GivesSettings, RefusesWords, mode_in, number_in, set_in, yes_in};
-ghost use Rattle.orc_options.specs.Settings.{settings_in as read_settings};
+ghost use Rattle.orc_options.specs.{
+  declared.settings.Settings.{Settings},
+  Ranges.{range_of},
+  Settings.{AreInRange, GivesSettings, RefusesWords, mode_in, number_in, set_in, yes_in, settings_in as read_settings},
+};
 
 use crate::CommandWords;
 use crate::command::command;

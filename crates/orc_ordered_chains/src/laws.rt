@@ -1,12 +1,12 @@
 //! Laws of ordered chains.
 
 ghost use Rattle.std.specs.Prelude.{◌≡◌, ℕ, ◌<◌, List, Option, Some, true, false};
-ghost use Rattle.orc_heap.specs.Acts.{Fits, heap_after};
-ghost use Rattle.orc_heap.specs.Heap.{Heap, HeapNumbers, new_heap, shown};
-ghost use Rattle.orc_heap.specs.Moves.{move_with};
-ghost use Rattle.orc_heap.specs.declared.events.Act.{Act};
-ghost use Rattle.orc_heap.specs.declared.events.Link.{Link};
-ghost use Rattle.orc_heap.specs.declared.events.Place.{Place};
+ghost use Rattle.orc_heap.specs.{
+  Acts.{Fits, heap_after},
+  Heap.{Heap, HeapNumbers, new_heap, shown},
+  Moves.{move_with},
+  declared.events.{Act.{Act}, Link.{Link}, Place.{Place}},
+};
 ghost use Rattle.orc_ordered_chains.specs.Chains.{AreChains, FollowsOn, HasRank, IsAbove, IsLive, IsOnChain, IsPath, IsRun, MayLink, MayMark, MayUnlink, Order};
 
 /// The chains of a new heap are in order, and stay so where a node is linked, where one is marked, where marked nodes

@@ -2,12 +2,13 @@
 
 ghost use Rattle.std.specs.Prelude.{◌≡◌, ◌<◌, ℕ};
 ghost use mathlib.Core.List.{IsPrefix};
-ghost use Rattle.orc_heap.specs.Seats.{Seat};
-ghost use Rattle.orc_heap.specs.declared.events.Place.{Place};
-ghost use Rattle.orc_ordered_search.specs.Entries.{IsAbsence, IsPresence};
-ghost use Rattle.orc_ordered_search.specs.Reading.{reading_by};
-ghost use Rattle.orc_ordered_search.specs.Searches.{FindsAbsent, FindsPresent};
-ghost use Rattle.orc_ordered_search.specs.Turns.{EntersFew, LoadsOnce};
+ghost use Rattle.orc_heap.specs.{Seats.{Seat}, declared.events.Place.{Place}};
+ghost use Rattle.orc_ordered_search.specs.{
+  Entries.{IsAbsence, IsPresence},
+  Reading.{reading_by},
+  Searches.{FindsAbsent, FindsPresent},
+  Turns.{EntersFew, LoadsOnce},
+};
 
 use crate::in_hand::{let_all_go, link_of, link_to, place_of};
 use crate::set_rank::SetRank;

@@ -2,15 +2,16 @@
 
 ghost use Rattle.std.specs.Prelude.{◌≡◌, ◌≢◌, ◌<◌, if◌then◌else◌, None, Some, true};
 ghost use mathlib.Core.List.{IsPrefix};
-ghost use Rattle.orc_heap.specs.Seats.{Seat};
-ghost use Rattle.orc_heap.specs.declared.events.Place.{Place};
+ghost use Rattle.orc_heap.specs.{Seats.{Seat}, declared.events.Place.{Place}};
 ghost use Rattle.orc_history.specs.declared.set.SetEntry.{SetEntry};
-ghost use Rattle.orc_ordered_search.specs.Causes.{HasWorn};
-ghost use Rattle.orc_ordered_search.specs.Entries.{entry_by};
-ghost use Rattle.orc_ordered_search.specs.Reading.{reading_by};
-ghost use Rattle.orc_ordered_search.specs.Steps.{Finds};
-ghost use Rattle.orc_ordered_search.specs.Turns.{AnswersTurn, LoadsOnce, TakesFound, made_from};
-ghost use Rattle.orc_ordered_search.specs.Ways.{IsFew};
+ghost use Rattle.orc_ordered_search.specs.{
+  Causes.{HasWorn},
+  Entries.{entry_by},
+  Reading.{reading_by},
+  Steps.{Finds},
+  Turns.{AnswersTurn, LoadsOnce, TakesFound, made_from},
+  Ways.{IsFew},
+};
 
 use crate::answer::{enter_absent, enter_present};
 use crate::remove::take_out;

@@ -2,11 +2,11 @@
 
 ghost use Rattle.std.specs.Prelude.{◌≡◌, ◌≢◌, ◌≤◌, ◌<◌, Some, false};
 ghost use mathlib.Core.List.{IsPrefix};
-ghost use Rattle.orc_heap.specs.Heap.{HeapNumbers};
-ghost use Rattle.orc_heap.specs.Slots.{Holds, Slots};
-ghost use Rattle.orc_heap.specs.Seats.{HoldsPlace, HoldsWant, link_in, place_in};
-ghost use Rattle.orc_ordered_search.specs.Reading.{reading_by};
-ghost use Rattle.orc_ordered_search.specs.Searches.{AllGone, HoldsIfAny, InHand, KeepsFirst, LetsGo, first_or, place_at, slot_in, target_at};
+ghost use Rattle.orc_heap.specs.{Heap.{HeapNumbers}, Slots.{Holds, Slots}, Seats.{HoldsPlace, HoldsWant, link_in, place_in}};
+ghost use Rattle.orc_ordered_search.specs.{
+  Reading.{reading_by},
+  Searches.{AllGone, HoldsIfAny, InHand, KeepsFirst, LetsGo, first_or, place_at, slot_in, target_at},
+};
 
 use crate::rank::Rank;
 use orc_heap::{At, Held, Links, Want};

@@ -4,15 +4,16 @@ ghost use Rattle.std.specs.Prelude.{◌≡◌, ◌<◌, ◌+◌, ◌*◌, ℕ, E
 ghost use mathlib.Core.List.{IsPrefix};
 ghost use Rattle.orc_fault.specs.declared.Spent.{Spent};
 ghost use Rattle.orc_heap.specs.Moves.{gives_in};
-ghost use Rattle.orc_history.specs.Journals.{Within};
-ghost use Rattle.orc_history.specs.declared.set.SetEntry.{SetEntry};
-ghost use Rattle.orc_ordered_search.specs.Inserts.{AddsFound, AddsNode, Borrows, Inserts, LinksAndGoes, LinksTo, NodeToAdd, SeesAbsent, Sought, answer_by, turn_by};
-ghost use Rattle.orc_ordered_search.specs.Reading.{reading_by};
-ghost use Rattle.orc_ordered_search.specs.Searches.{left_place, node_of};
-ghost use Rattle.orc_ordered_search.specs.Turns.{made_from};
-ghost use Rattle.orc_ordered_search.specs.Ways.{IsFew};
-ghost use Rattle.orc_ordered_search.specs.declared.turn.InsertTurn.{InsertTurn};
-ghost use Rattle.orc_ordered_search.specs.declared.walk.Searched.{Searched};
+ghost use Rattle.orc_history.specs.{Journals.{Within}, declared.set.SetEntry.{SetEntry}};
+ghost use Rattle.orc_ordered_search.specs.{
+  Inserts.{AddsFound, AddsNode, Borrows, Inserts, LinksAndGoes, LinksTo, NodeToAdd, SeesAbsent, Sought, answer_by, turn_by},
+  Reading.{reading_by},
+  Searches.{left_place, node_of},
+  Turns.{made_from},
+  Ways.{IsFew},
+  declared.turn.InsertTurn.{InsertTurn},
+  declared.walk.Searched.{Searched},
+};
 
 use crate::answer::enter_present;
 use crate::in_hand::{let_all_go, link_of, place_of};

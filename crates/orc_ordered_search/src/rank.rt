@@ -2,13 +2,8 @@
 
 ghost use Rattle.std.specs.Prelude.{◌≡◌, ◌<◌, ◌≤◌, ◌^◌, ℕ, Bool, [], true, false};
 ghost use mathlib.Core.List.{IsPrefix};
-ghost use Rattle.orc_heap.specs.Allowed.{IsLinkedNode};
-ghost use Rattle.orc_heap.specs.Heap.{HeapNumbers};
-ghost use Rattle.orc_heap.specs.OwnEvents.{Only};
-ghost use Rattle.orc_heap.specs.Seats.{heap_of};
-ghost use Rattle.orc_heap.specs.Slots.{Holds, id_in};
-ghost use Rattle.orc_ordered_search.specs.Reading.{Manner, Orders, reading_by};
-ghost use Rattle.orc_ordered_search.specs.Steps.{ReadsRank};
+ghost use Rattle.orc_heap.specs.{Allowed.{IsLinkedNode}, Heap.{HeapNumbers}, OwnEvents.{Only}, Seats.{heap_of}, Slots.{Holds, id_in}};
+ghost use Rattle.orc_ordered_search.specs.{Reading.{Manner, Orders, reading_by}, Steps.{ReadsRank}};
 
 use orc_heap::{Discipline, Held, Links};
 

@@ -2,15 +2,15 @@
 
 ghost use Rattle.std.specs.Prelude.{◌≡◌, ◌<◌, ℕ, List, ◌∷◌, Some, true};
 ghost use mathlib.Core.List.{IsPrefix};
-ghost use Rattle.orc_heap.specs.Seats.{Seat, heap_of};
-ghost use Rattle.orc_heap.specs.Slots.{Holds, id_in};
-ghost use Rattle.orc_heap.specs.declared.events.Place.{Place};
+ghost use Rattle.orc_heap.specs.{Seats.{Seat, heap_of}, Slots.{Holds, id_in}, declared.events.Place.{Place}};
 ghost use Rattle.orc_history.specs.declared.set.SetEntry.{SetEntry};
 ghost use Rattle.orc_ordered_chains.specs.Chains.{HasRank, IsChainPlace, IsRun, link_over};
-ghost use Rattle.orc_ordered_search.specs.Causes.{HasWorn};
-ghost use Rattle.orc_ordered_search.specs.Reading.{reading_by};
-ghost use Rattle.orc_ordered_search.specs.Searches.{FindsPresent, HoldsIfAny, NextFollows, place_at, target_at};
-ghost use Rattle.orc_ordered_search.specs.Turns.{Marks, TakesOut, TriesUnlink};
+ghost use Rattle.orc_ordered_search.specs.{
+  Causes.{HasWorn},
+  Reading.{reading_by},
+  Searches.{FindsPresent, HoldsIfAny, NextFollows, place_at, target_at},
+  Turns.{Marks, TakesOut, TriesUnlink},
+};
 
 use crate::in_hand::{let_all_go, link_to, node_or, place_of};
 use crate::set_rank::SetRank;

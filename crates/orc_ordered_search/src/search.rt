@@ -2,12 +2,13 @@
 
 ghost use Rattle.std.specs.Prelude.{◌≡◌, ◌+◌, ◌<◌, ℕ, None, Some, false, true};
 ghost use mathlib.Core.List.{IsPrefix};
-ghost use Rattle.orc_heap.specs.Seats.{Seat};
-ghost use Rattle.orc_heap.specs.declared.events.Place.{Place};
-ghost use Rattle.orc_ordered_search.specs.Reading.{reading_by};
-ghost use Rattle.orc_ordered_search.specs.Searches.{FindsMoved, HasRoom, LooksBy, LooksOn, Passed, Stops, Walks, count_on};
-ghost use Rattle.orc_ordered_search.specs.Steps.{BeginsPlain, Finds, StepsTo};
-ghost use Rattle.orc_ordered_search.specs.Ways.{IsFew};
+ghost use Rattle.orc_heap.specs.{Seats.{Seat}, declared.events.Place.{Place}};
+ghost use Rattle.orc_ordered_search.specs.{
+  Reading.{reading_by},
+  Searches.{FindsMoved, HasRoom, LooksBy, LooksOn, Passed, Stops, Walks, count_on},
+  Steps.{BeginsPlain, Finds, StepsTo},
+  Ways.{IsFew},
+};
 
 use crate::in_hand::{keep_first, let_all_go, let_go, place_of, slot_of, spare_slot};
 use crate::rank::Rank;

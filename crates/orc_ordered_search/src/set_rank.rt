@@ -3,8 +3,10 @@
 ghost use Rattle.std.specs.Prelude.{◌≡◌, ◌∷◌, ℕ, Some, []};
 ghost use Rattle.orc_heap.specs.Heap.{HeapNumbers};
 ghost use Rattle.orc_history.specs.declared.set.SetEntry.{SetEntry};
-ghost use Rattle.orc_ordered_search.specs.Entries.{AllowsAbsence, AllowsAdd, AllowsAim, AllowsMark, AllowsPresence, AllowsUnlink};
-ghost use Rattle.orc_ordered_search.specs.Reading.{reading_by};
+ghost use Rattle.orc_ordered_search.specs.{
+  Entries.{AllowsAbsence, AllowsAdd, AllowsAim, AllowsMark, AllowsPresence, AllowsUnlink},
+  Reading.{reading_by},
+};
 
 use crate::rank::Rank;
 use orc_heap::Discipline;

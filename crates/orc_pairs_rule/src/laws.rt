@@ -1,20 +1,21 @@
 //! Laws of the discipline of a cell.
 
 ghost use Rattle.std.specs.Prelude.{◌≡◌, ◌⊎◌, ℕ, ◌<◌, List, [], ◌∷◌, ◌++◌, None, Option, Some, false, true, slice_get};
-ghost use Rattle.orc_heap.specs.Allowed.{AllAllowed, AllowedLater, IsLinkedNode, Later, events_by};
-ghost use Rattle.orc_heap.specs.Heap.{HeapNumbers, Node, link_to, null, shown};
-ghost use Rattle.orc_heap.specs.Journals.{event_by, run_heap};
-ghost use Rattle.orc_heap.specs.Moves.{moves_place};
-ghost use Rattle.orc_heap.specs.declared.events.Act.{Act};
-ghost use Rattle.orc_heap.specs.declared.events.Event.{Event};
-ghost use Rattle.orc_heap.specs.declared.events.Link.{Link};
-ghost use Rattle.orc_heap.specs.declared.events.Place.{Place};
+ghost use Rattle.orc_heap.specs.{
+  Allowed.{AllAllowed, AllowedLater, IsLinkedNode, Later, events_by},
+  Heap.{HeapNumbers, Node, link_to, null, shown},
+  Journals.{event_by, run_heap},
+  Moves.{moves_place},
+  declared.events.{Act.{Act}, Event.{Event}, Link.{Link}, Place.{Place}},
+};
 ghost use Rattle.orc_history.specs.Journals.{own_of};
-ghost use Rattle.orc_pairs_rule.specs.CellHistory.{IsLegalCell, Parts, agent_of_entry, no_parts, parts_after, replaced};
-ghost use Rattle.orc_pairs_rule.specs.PairsDiscipline.{HasPair, HasPart, IsPart, IsStaging, PairsHolds, PairsMay, ShowsParts, entries_in, entries_of, pairs_rank, parts_of};
-ghost use Rattle.orc_pairs_rule.specs.Watches.{MayFollow, IsOwnPair};
-ghost use Rattle.orc_pairs_rule.specs.declared.entry.CellEntry.{CellEntry};
-ghost use Rattle.orc_pairs_rule.specs.declared.pairs.PairsNote.{PairsNote};
+ghost use Rattle.orc_pairs_rule.specs.{
+  CellHistory.{IsLegalCell, Parts, agent_of_entry, no_parts, parts_after, replaced},
+  PairsDiscipline.{HasPair, HasPart, IsPart, IsStaging, PairsHolds, PairsMay, ShowsParts, entries_in, entries_of, pairs_rank, parts_of},
+  Watches.{MayFollow, IsOwnPair},
+  declared.entry.CellEntry.{CellEntry},
+  declared.pairs.PairsNote.{PairsNote},
+};
 
 /// The empty list obeys the discipline over a heap with a root, and so does each list that goes on with events that are
 /// allowed where they stand.

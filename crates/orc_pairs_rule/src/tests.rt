@@ -1,8 +1,7 @@
 //! Entries and notes are compared field by field, each law may be called, and a worked history, computed by hand and proved.
 
 ghost use Rattle.std.specs.Prelude.{◌≡◌, List, ◌∷◌, [], Some, None};
-ghost use Rattle.orc_pairs_rule.specs.CellHistory.{IsLegalCell, no_parts, parts_after};
-ghost use Rattle.orc_pairs_rule.specs.declared.entry.CellEntry.{CellEntry as Entry};
+ghost use Rattle.orc_pairs_rule.specs.{CellHistory.{IsLegalCell, no_parts, parts_after}, declared.entry.CellEntry.{CellEntry as Entry}};
 
 use super::*;
 use std::test::Fail;

@@ -2,19 +2,23 @@
 
 ghost use Rattle.std.specs.Prelude.{◌≡◌, ◌<◌, ◌++◌, ◌⊎◌, ℕ, List, Some, [], length, slice_get};
 ghost use Rattle.orc_words.specs.Bounds.{Bounds};
-ghost use Rattle.orc_heap.specs.Allowed.{AllAllowed};
-ghost use Rattle.orc_heap.specs.Heap.{HeapNumbers};
-ghost use Rattle.orc_heap.specs.OwnEvents.{IsBelow};
-ghost use Rattle.orc_heap.specs.Journals.{IsLawful, run_heap};
-ghost use Rattle.orc_heap.specs.declared.events.Event.{Event};
+ghost use Rattle.orc_heap.specs.{
+  Allowed.{AllAllowed},
+  Heap.{HeapNumbers},
+  OwnEvents.{IsBelow},
+  Journals.{IsLawful, run_heap},
+  declared.events.Event.{Event},
+  Seeds.{opening_events},
+};
 ghost use mathlib.Core.List.{IsPrefix};
 ghost use Rattle.orc_shared_words.specs.Lists.{Among};
-ghost use Rattle.orc_plain_board.specs.Calls.{AddsOwn};
-ghost use Rattle.orc_plain_board.specs.Machine.{AllowedFrom, index_of, numbers, project, run};
-ghost use Rattle.orc_heap.specs.Seeds.{opening_events};
-ghost use Rattle.orc_plain_board.specs.Views.{Belongs, IsFreshRow, PlainView, board_bounds, board_numbers, board_seed, heap_of, shows};
-ghost use Rattle.orc_plain_board.specs.Words.{Once, Tie};
-ghost use Rattle.orc_plain_board.specs.declared.machine.PlainStep.{PlainStep};
+ghost use Rattle.orc_plain_board.specs.{
+  Calls.{AddsOwn},
+  Machine.{AllowedFrom, index_of, numbers, project, run},
+  Views.{Belongs, IsFreshRow, PlainView, board_bounds, board_numbers, board_seed, heap_of, shows},
+  Words.{Once, Tie},
+  declared.machine.PlainStep.{PlainStep},
+};
 
 use crate::pass::{PlainBoard, PlainBoardPass};
 use orc_heap::Discipline;

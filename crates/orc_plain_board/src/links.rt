@@ -1,11 +1,12 @@
 //! Calls on links.
 
 ghost use Rattle.std.specs.Prelude.{◌≡◌, ◌≢◌, ◌<◌, ◌≤◌, None, Some, false};
-ghost use Rattle.orc_words.specs.Packed.{link_word};
-ghost use Rattle.orc_words.specs.declared.packed.RowLink.{RowLink};
-ghost use Rattle.orc_plain_board.specs.BoardCalls.{FailsToMove, FindsWord, IsFresh, KeepsFresh, KeepsFreshUnless, KeepsLook, KnowsLink, KnowsPlace, MakesLook, MakesMove, MayAim, MayLook, MayMove, MissesLink, ReplacesWord};
-ghost use Rattle.orc_plain_board.specs.Calls.{unless_linked};
-ghost use Rattle.orc_plain_board.specs.Views.{Belongs, board_bounds};
+ghost use Rattle.orc_words.specs.{Packed.{link_word}, declared.packed.RowLink.{RowLink}};
+ghost use Rattle.orc_plain_board.specs.{
+  BoardCalls.{FailsToMove, FindsWord, IsFresh, KeepsFresh, KeepsFreshUnless, KeepsLook, KnowsLink, KnowsPlace, MakesLook, MakesMove, MayAim, MayLook, MayMove, MissesLink, ReplacesWord},
+  Calls.{unless_linked},
+  Views.{Belongs, board_bounds},
+};
 
 use crate::machine::PlainOp;
 use crate::pass::{PlainBoard, PlainBoardPass};

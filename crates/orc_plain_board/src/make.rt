@@ -1,14 +1,11 @@
 //! New boards.
 
 ghost use Rattle.std.specs.Prelude.{◌≡◌, ◌<◌, [], All, IfOk, None, length};
-ghost use Rattle.orc_words.specs.Bounds.{bounds_of};
+ghost use Rattle.orc_words.specs.{Bounds.{bounds_of}, Places.{places}};
 ghost use Rattle.orc_layout.specs.Layout.{index, lay, table_length};
-ghost use Rattle.orc_words.specs.Places.{places};
 ghost use Rattle.orc_shared_words.specs.Lists.{EachAt, EachFrom};
-ghost use Rattle.orc_plain_board.specs.Machine.{numbers, run};
+ghost use Rattle.orc_plain_board.specs.{Machine.{numbers, run}, Rules.{opening_steps}, Views.{Belongs, board_bounds, board_seed, shows}};
 ghost use Rattle.orc_heap.specs.Seeds.{HasRoots, SeedAllowed, opening_events};
-ghost use Rattle.orc_plain_board.specs.Rules.{opening_steps};
-ghost use Rattle.orc_plain_board.specs.Views.{Belongs, board_bounds, board_seed, shows};
 
 use crate::machine::{OUT, Plain};
 use crate::pass::{PlainBoard, PlainBoardPass};

@@ -2,8 +2,7 @@
 
 ghost use Rattle.std.specs.Prelude.{◌≡◌};
 ghost use Rattle.orc_words.specs.Bounds.{Bounds, bounds_of};
-ghost use Rattle.orc_plain_board.specs.BoardCalls.{GivesUp, IsFresh, Learn, TakesIn};
-ghost use Rattle.orc_plain_board.specs.Views.{Belongs, board_bounds, shows_by};
+ghost use Rattle.orc_plain_board.specs.{BoardCalls.{GivesUp, IsFresh, Learn, TakesIn}, Views.{Belongs, board_bounds, shows_by}};
 
 use crate::pass::{PlainBoard, PlainBoardPass};
 use orc_heap::Discipline;

@@ -1,9 +1,11 @@
 //! Calls on gates and values.
 
 ghost use Rattle.std.specs.Prelude.{◌≡◌, ◌<◌, ◌≤◌, None};
-ghost use Rattle.orc_plain_board.specs.BoardCalls.{GivesRow, HasNoFresh, IsFresh, KeepsFresh, KeepsLook, KnowsRow, LosesRow, MakesFill, MakesNoEvent, ReadsRow, SawFree};
-ghost use Rattle.orc_plain_board.specs.Calls.{IsGateWord, seen_free};
-ghost use Rattle.orc_plain_board.specs.Views.{Belongs, board_bounds, shows};
+ghost use Rattle.orc_plain_board.specs.{
+  BoardCalls.{GivesRow, HasNoFresh, IsFresh, KeepsFresh, KeepsLook, KnowsRow, LosesRow, MakesFill, MakesNoEvent, ReadsRow, SawFree},
+  Calls.{IsGateWord, seen_free},
+  Views.{Belongs, board_bounds, shows},
+};
 
 use crate::machine::PlainOp;
 use crate::pass::{PlainBoard, PlainBoardPass};

@@ -2,9 +2,7 @@
 
 ghost use Rattle.std.specs.Prelude.{◌≡◌};
 ghost use Rattle.orc_shared_words.specs.Steps.{Extends, IsAllowedLater};
-ghost use Rattle.orc_plain_board.specs.Machine.{Allowed};
-ghost use Rattle.orc_plain_board.specs.Rules.{plain_rules};
-ghost use Rattle.orc_plain_board.specs.Views.{board_bounds, board_numbers};
+ghost use Rattle.orc_plain_board.specs.{Machine.{Allowed}, Rules.{plain_rules}, Views.{board_bounds, board_numbers}};
 
 use crate::machine::PlainOp;
 use crate::pass::{PlainBoard, PlainBoardPass};

@@ -2,11 +2,12 @@
 
 ghost use Rattle.std.specs.Prelude.{◌≡◌, ◌+◌, [], All, IfOk, refl};
 ghost use Rattle.orc_any_domain.specs.Domains.{AreAllIdle, heap_numbers};
-ghost use Rattle.orc_heap.specs.Moves.{gives_in};
-ghost use Rattle.orc_heap.specs.Seeds.{SeedAllowed, opening_events};
-ghost use Rattle.orc_plain_domain.specs.Ends.{AreAll, FirstSawAll};
-ghost use Rattle.orc_plain_domain.specs.Passes.{domain_bounds, domain_opening, seat_of};
-ghost use Rattle.orc_plain_domain.specs.Rest.{IsRestOf, rest_journal};
+ghost use Rattle.orc_heap.specs.{Moves.{gives_in}, Seeds.{SeedAllowed, opening_events}};
+ghost use Rattle.orc_plain_domain.specs.{
+  Ends.{AreAll, FirstSawAll},
+  Passes.{domain_bounds, domain_opening, seat_of},
+  Rest.{IsRestOf, rest_journal},
+};
 ghost use Rattle.orc_words.specs.Bounds.{bounds_of};
 
 use crate::domain::{PlainDomain, PlainPass, PlainRest};

@@ -2,8 +2,7 @@
 
 ghost use Rattle.std.specs.Prelude.{◌≡◌};
 ghost use Rattle.orc_heap.specs.Seats.{IsIdle};
-ghost use Rattle.orc_plain_domain.specs.Ends.{AllHear, AreAll, AreIdle, FirstSawAll, IsNoLonger};
-ghost use Rattle.orc_plain_domain.specs.Passes.{IsPassOf, seat_of};
+ghost use Rattle.orc_plain_domain.specs.{Ends.{AllHear, AreAll, AreIdle, FirstSawAll, IsNoLonger}, Passes.{IsPassOf, seat_of}};
 
 use crate::domain::{PlainDomain, PlainPass};
 use orc_any_domain::learn_all;

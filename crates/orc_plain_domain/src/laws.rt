@@ -2,10 +2,11 @@
 
 ghost use Rattle.std.specs.Prelude.{◌≡◌, ◌≤◌, ℕ, List};
 ghost use Rattle.orc_fault.specs.declared.Spent.{Spent};
-ghost use Rattle.orc_heap.specs.Moves.{gives_in};
-ghost use Rattle.orc_heap.specs.declared.events.Event.{Event};
-ghost use Rattle.orc_plain_domain.specs.Given.{IsLacking};
-ghost use Rattle.orc_plain_domain.specs.Passes.{IsPassOf, domain_bounds, domain_numbers, domain_opening, journal_of, seat_of};
+ghost use Rattle.orc_heap.specs.{Moves.{gives_in}, declared.events.Event.{Event}};
+ghost use Rattle.orc_plain_domain.specs.{
+  Given.{IsLacking},
+  Passes.{IsPassOf, domain_bounds, domain_numbers, domain_opening, journal_of, seat_of},
+};
 
 use crate::domain::{PlainDomain, PlainPass};
 use orc_heap::{Discipline, Links};

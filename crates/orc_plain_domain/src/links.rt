@@ -3,16 +3,19 @@
 ghost use Rattle.std.specs.Prelude.{◌≡◌, ◌≢◌, ◌<◌, ◌+◌, ◌%◌, ℕ, ◌∷◌, [], None, Some, IfErr, IfOk, refl, true};
 ghost use mathlib.Core.List.{IsPrefix};
 ghost use Rattle.orc_fault.specs.declared.Spent.{Spent};
-ghost use Rattle.orc_heap.specs.Calls.{Gives, Learns, Looks, MayAim, MayAimSide, MayLook, MayMove, MovesOn, ReadsValue};
-ghost use Rattle.orc_heap.specs.Calls.{RefusesAim, RefusesSwing, Releases, Swings, Tests, aim_of, aim_side_of, fill_of};
-ghost use Rattle.orc_heap.specs.Journals.{run_heap};
-ghost use Rattle.orc_heap.specs.OwnEvents.{Only};
+ghost use Rattle.orc_heap.specs.{
+  Calls.{Gives, Learns, Looks, MayAim, MayAimSide, MayLook, MayMove, MovesOn, ReadsValue, RefusesAim, RefusesSwing, Releases, Swings, Tests, aim_of, aim_side_of, fill_of},
+  Journals.{run_heap},
+  OwnEvents.{Only},
+  Slots.{Holds, IsFree, id_in},
+  Seats.{HoldsFresh, HoldsPlace, HoldsTarget, HoldsWant, IsIdle, IsNotFresh, IsOutside, place_in},
+};
 ghost use Rattle.orc_history.specs.Parts.{InPart};
-ghost use Rattle.orc_heap.specs.Slots.{Holds, IsFree, id_in};
-ghost use Rattle.orc_heap.specs.Seats.{HoldsFresh, HoldsPlace, HoldsTarget, HoldsWant, IsIdle, IsNotFresh, IsOutside, place_in};
-ghost use Rattle.orc_plain_domain.specs.Given.{IsLacking};
-ghost use Rattle.orc_plain_domain.specs.Passes.{IsPassOf, domain_bounds, domain_numbers, journal_of, next_row, rows_of, seat_of};
-ghost use Rattle.orc_plain_domain.specs.Turns.{IsNext};
+ghost use Rattle.orc_plain_domain.specs.{
+  Given.{IsLacking},
+  Passes.{IsPassOf, domain_bounds, domain_numbers, journal_of, next_row, rows_of, seat_of},
+  Turns.{IsNext},
+};
 ghost use Rattle.orc_plain_board.specs.Words.{IsListed};
 
 use crate::domain::{PlainDomain, PlainPass};
@@ -22,8 +25,10 @@ use orc_heap::{At, Discipline, Event, Held, Links, Looked, LookedOn, Seen, Want}
 use orc_words::pack_link;
 
 impl<D: Discipline> Links for PlainDomain<D> {
-    ghost use Rattle.orc_plain_domain.specs.Laws.Passes.{all_below, all_given, all_of_agents, begins_so, fresh_untouched, held_known, lacking_later, one_more, seen_by};
-    ghost use Rattle.orc_plain_domain.specs.Passes.{domain_opening};
+    ghost use Rattle.orc_plain_domain.specs.{
+      Laws.Passes.{all_below, all_given, all_of_agents, begins_so, fresh_untouched, held_known, lacking_later, one_more, seen_by},
+      Passes.{domain_opening},
+    };
 
     type Rule = D;
 

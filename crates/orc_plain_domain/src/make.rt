@@ -2,13 +2,10 @@
 
 ghost use Rattle.std.specs.Prelude.{◌≡◌, ◌<◌, ◌%◌, [], All, IfOk, None, length, replicate};
 ghost use Rattle.orc_words.specs.Bounds.{bounds_of};
-ghost use Rattle.orc_heap.specs.Seats.{IsIdle};
-ghost use Rattle.orc_plain_board.specs.Machine.{numbers};
-ghost use Rattle.orc_heap.specs.Seeds.{SeedAllowed, opening_events};
+ghost use Rattle.orc_heap.specs.{Seats.{IsIdle}, Seeds.{SeedAllowed, opening_events}};
+ghost use Rattle.orc_plain_board.specs.{Machine.{numbers}, Views.{shows_by}};
 ghost use Rattle.orc_shared_words.specs.Lists.{EachAt, EachFrom};
-ghost use Rattle.orc_plain_domain.specs.Passes.{IsPassOf, domain_bounds, domain_opening, next_row, seat_of};
-ghost use Rattle.orc_plain_domain.specs.Turns.{first_row};
-ghost use Rattle.orc_plain_board.specs.Views.{shows_by};
+ghost use Rattle.orc_plain_domain.specs.{Passes.{IsPassOf, domain_bounds, domain_opening, next_row, seat_of}, Turns.{first_row}};
 
 use crate::domain::{PlainDomain, PlainPass};
 use crate::names::first_row;

@@ -2,8 +2,7 @@
 
 ghost use Rattle.std.specs.Prelude.{◌≡◌, ◌<◌, ◌*◌, ◌%◌};
 ghost use Rattle.orc_words.specs.Bounds.{bounds_of};
-ghost use Rattle.orc_plain_domain.specs.Rows.{row_link, target_link, word_at};
-ghost use Rattle.orc_plain_domain.specs.Turns.{first_row};
+ghost use Rattle.orc_plain_domain.specs.{Rows.{row_link, target_link, word_at}, Turns.{first_row}};
 
 use orc_heap::{At, Held, Want};
 use orc_words::{RowLink, Shape, Word};

@@ -4,10 +4,12 @@ ghost use Rattle.std.specs.Prelude.{◌≡◌};
 ghost use Rattle.std.specs.List.{AllByRecursion};
 ghost use Rattle.orc_shared_words.specs.Lists.{Among};
 ghost use Rattle.orc_plain_board.specs.Views.{shows};
-ghost use Rattle.orc_plain_domain.specs.Ends.{AreAll, FirstSawAll, first_seen};
+ghost use Rattle.orc_plain_domain.specs.{
+  Ends.{AreAll, FirstSawAll, first_seen},
+  Passes.{IsPassOf, domain_bounds, seat_of},
+  Rest.{CoversAll, IsShown, TakesInEvents, rest_domain, rest_journal},
+};
 ghost use Rattle.orc_heap.specs.Moves.{gives_in};
-ghost use Rattle.orc_plain_domain.specs.Passes.{IsPassOf, domain_bounds, seat_of};
-ghost use Rattle.orc_plain_domain.specs.Rest.{CoversAll, IsShown, TakesInEvents, rest_domain, rest_journal};
 
 use crate::domain::{PlainDomain, PlainPass, PlainRest};
 use orc_heap::Discipline;

@@ -2,13 +2,12 @@
 
 ghost use Rattle.std.specs.Prelude.{◌≡◌, ◌<◌, ◌%◌, ◌+◌, ◌∷◌, [], MatchBool, None, Some, slice_get};
 ghost use mathlib.Core.List.{IsPrefix};
-ghost use Rattle.orc_heap.specs.Heap.{new_node};
-ghost use Rattle.orc_heap.specs.OwnEvents.{Only};
-ghost use Rattle.orc_plain_board.specs.Calls.{KnowsPlace};
-ghost use Rattle.orc_plain_board.specs.Machine.{index_of, place_by};
-ghost use Rattle.orc_plain_board.specs.Views.{heap_of, shows};
-ghost use Rattle.orc_plain_domain.specs.Calls.{Furnishes, IsSame, Loads, Loses, MayAimLink, Retires, GivesFreshRow, aim_at};
-ghost use Rattle.orc_plain_domain.specs.Passes.{IsPassOf, domain_bounds, domain_numbers, journal_of, next_row, rows_of, seat_of};
+ghost use Rattle.orc_heap.specs.{Heap.{new_node}, OwnEvents.{Only}};
+ghost use Rattle.orc_plain_board.specs.{Calls.{KnowsPlace}, Machine.{index_of, place_by}, Views.{heap_of, shows}};
+ghost use Rattle.orc_plain_domain.specs.{
+  Calls.{Furnishes, IsSame, Loads, Loses, MayAimLink, Retires, GivesFreshRow, aim_at},
+  Passes.{IsPassOf, domain_bounds, domain_numbers, journal_of, next_row, rows_of, seat_of},
+};
 
 use crate::domain::{PlainDomain, PlainPass};
 use crate::names::{around, target_link};

@@ -1,7 +1,9 @@
 //! A small discipline for tests of domains whose nodes have two links.
 
-ghost use Rattle.orc_plain_domain.specs.Twins.{TwinsHold, TwinsMay};
-ghost use Rattle.orc_plain_domain.specs.Laws.Twins.{twins_allow_plain, twins_fit, twins_keep, twins_move_linked};
+ghost use Rattle.orc_plain_domain.specs.{
+  Twins.{TwinsHold, TwinsMay},
+  Laws.Twins.{twins_allow_plain, twins_fit, twins_keep, twins_move_linked},
+};
 
 use orc_heap::Discipline;
 

@@ -1,11 +1,8 @@
 //! Modes run and stages: the jobs of a job file are worked through and reported, or go through a pipeline.
 ghost use Rattle.std.specs.Prelude.{◌≡◌, ◌≤◌, ◌⊎◌, if◌then◌else◌, IfOk, None, Some, length};
-ghost use Rattle.orc_jobs.specs.GoodLines.{AreGood};
-ghost use Rattle.orc_jobs.specs.JobGrammar.{Refuses};
+ghost use Rattle.orc_jobs.specs.{GoodLines.{AreGood}, JobGrammar.{Refuses}};
 ghost use Rattle.orc_options.specs.Settings.{AreInRange};
-ghost use Rattle.orc_program.specs.Answers.{AnswersJobs, RefusesSize, TellsJobs};
-ghost use Rattle.orc_program.specs.Ended.{HasReported};
-ghost use Rattle.orc_program.specs.Headline.{numbers_of_rest};
+ghost use Rattle.orc_program.specs.{Answers.{AnswersJobs, RefusesSize, TellsJobs}, Ended.{HasReported}, Headline.{numbers_of_rest}};
 
 use crate::Ended;
 use crate::answer::{Answer, Setup};

@@ -1,21 +1,23 @@
 //! What follows from an answer.
 ghost use Rattle.std.specs.Prelude.{◌≡◌, ◌≢◌, ◌<◌, ◌≤◌, ◌⊎◌, [], List, Option, Some, length, true, ℕ};
-ghost use Rattle.orc_jobs.specs.JobGrammar.{IsFileOf, Refuses};
-ghost use Rattle.orc_jobs.specs.declared.cause.Cause.{Cause};
-ghost use Rattle.orc_jobs.specs.declared.line.Line.{Line};
-ghost use Rattle.orc_watch.specs.WatchGrammar.{IsFileOf as IsWatchFile, Refuses as RefusesWatch};
-ghost use Rattle.orc_watch.specs.declared.cause.WatchCause.{WatchCause};
-ghost use Rattle.orc_watch.specs.declared.line.WatchLine.{WatchLine};
-ghost use Rattle.orc_trace.specs.Answers.{audit_lines, fault_line, replay_line};
-ghost use Rattle.orc_trace.specs.Audit.{IsAudit};
-ghost use Rattle.orc_trace.specs.Replay.{IsReplay, RefusesTrace};
-ghost use Rattle.orc_trace.specs.declared.answers.Audit.{Audit};
-ghost use Rattle.orc_trace.specs.declared.answers.Replayed.{Replayed};
-ghost use Rattle.orc_trace.specs.declared.answers.TraceFault.{TraceFault};
+ghost use Rattle.orc_jobs.specs.{JobGrammar.{IsFileOf, Refuses}, declared.cause.Cause.{Cause}, declared.line.Line.{Line}};
+ghost use Rattle.orc_watch.specs.{
+  WatchGrammar.{IsFileOf as IsWatchFile, Refuses as RefusesWatch},
+  declared.cause.WatchCause.{WatchCause},
+  declared.line.WatchLine.{WatchLine},
+};
+ghost use Rattle.orc_trace.specs.{
+  Answers.{audit_lines, fault_line, replay_line},
+  Audit.{IsAudit},
+  Replay.{IsReplay, RefusesTrace},
+  declared.answers.{Audit.{Audit}, Replayed.{Replayed}, TraceFault.{TraceFault}},
+};
 ghost use Rattle.orc_options.specs.declared.settings.Settings.{Settings};
-ghost use Rattle.orc_program.specs.Answers.{ProgramAnswers, IsInput, IsTooLarge, made_text};
-ghost use Rattle.orc_program.specs.Refusals.{input_too_large, malformed_line, malformed_watch};
-ghost use Rattle.orc_program.specs.declared.ended.Ended.{Ended};
+ghost use Rattle.orc_program.specs.{
+  Answers.{ProgramAnswers, IsInput, IsTooLarge, made_text},
+  Refusals.{input_too_large, malformed_line, malformed_watch},
+  declared.ended.Ended.{Ended},
+};
 
 use orc_jobs::{FileRefused, MOST_BYTES};
 use orc_options::Mode;

@@ -1,8 +1,7 @@
 //! Mode make: generated work is written as a job file.
 ghost use Rattle.std.specs.Prelude.{◌≡◌, IfOk};
 ghost use Rattle.orc_options.specs.Settings.{AreInRange};
-ghost use Rattle.orc_program.specs.Answers.{made_text};
-ghost use Rattle.orc_program.specs.Ended.{NothingEnded};
+ghost use Rattle.orc_program.specs.{Answers.{made_text}, Ended.{NothingEnded}};
 
 use crate::Ended;
 use crate::answer::Answer;

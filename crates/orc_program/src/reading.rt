@@ -1,7 +1,6 @@
 //! The second step of the program, after its words: the input is read.
 ghost use Rattle.std.specs.Prelude.{◌≡◌, ◌≢◌, ◌+◌, IfErr, IfOk, OnOk, true};
-ghost use Rattle.orc_feed.specs.Faults.{Rose};
-ghost use Rattle.orc_feed.specs.Whole.{TakesAtMost};
+ghost use Rattle.orc_feed.specs.{Faults.{Rose}, Whole.{TakesAtMost}};
 ghost use Rattle.orc_program.specs.Answers.{IsInput, reads};
 
 use orc_feed::{ReadAll, Source, read_all};

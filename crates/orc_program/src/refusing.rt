@@ -1,7 +1,9 @@
 //! How an input is refused.
 ghost use Rattle.std.specs.Prelude.{◌≡◌, List, ℕ, IfOk};
-ghost use Rattle.orc_program.specs.Ended.{NothingEnded};
-ghost use Rattle.orc_program.specs.Refusals.{AnswersFault, cause_word, input_too_large, record_line, watch_cause_word};
+ghost use Rattle.orc_program.specs.{
+  Ended.{NothingEnded},
+  Refusals.{AnswersFault, cause_word, input_too_large, record_line, watch_cause_word},
+};
 
 use crate::Ended;
 use crate::answer::Answer;

@@ -1,13 +1,10 @@
 //! The whole program over any source and sink: read, answer, write.
 ghost use Rattle.std.specs.Prelude.{◌≡◌, ◌≢◌, ◌+◌, ◌≤◌, ◌⊎◌, List, ℕ, Some, length};
 ghost use Rattle.std.specs.Io.KnownBytes.{Appends, Keeps};
-ghost use Rattle.orc_feed.specs.Faults.{Rose};
-ghost use Rattle.orc_feed.specs.Whole.{AppendsPrefix, TakesAtMost};
-ghost use Rattle.orc_jobs.specs.JobGrammar.{IsFileOf};
-ghost use Rattle.orc_jobs.specs.declared.line.Line.{Line};
+ghost use Rattle.orc_feed.specs.{Faults.{Rose}, Whole.{AppendsPrefix, TakesAtMost}};
+ghost use Rattle.orc_jobs.specs.{JobGrammar.{IsFileOf}, declared.line.Line.{Line}};
 ghost use Rattle.orc_options.specs.Settings.{AskFor};
-ghost use Rattle.orc_program.specs.Answers.{AnswersWords, AskToRead};
-ghost use Rattle.orc_program.specs.Ended.{EndsSafely, NothingEnded};
+ghost use Rattle.orc_program.specs.{Answers.{AnswersWords, AskToRead}, Ended.{EndsSafely, NothingEnded}};
 
 use crate::answer::Setup;
 use crate::reading::read_input;

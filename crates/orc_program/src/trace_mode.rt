@@ -2,8 +2,7 @@
 ghost use Rattle.std.specs.Prelude.{IfErr, IfOk};
 ghost use Rattle.std.specs.String.{string_bytes};
 ghost use Rattle.orc_trace.specs.Replay.{RefusesTrace};
-ghost use Rattle.orc_program.specs.Answers.{AnswersTrace, TellsTrace};
-ghost use Rattle.orc_program.specs.Ended.{NothingEnded};
+ghost use Rattle.orc_program.specs.{Answers.{AnswersTrace, TellsTrace}, Ended.{NothingEnded}};
 
 use crate::Ended;
 use crate::answer::Answer;

@@ -1,8 +1,7 @@
 //! Mode watch: a watch file is worked through over a cell, and told.
 ghost use Rattle.std.specs.Prelude.{◌≡◌, ◌≤◌, ◌⊎◌, if◌then◌else◌, IfOk, None, Some, length};
 ghost use Rattle.orc_options.specs.Settings.{AreInRange};
-ghost use Rattle.orc_program.specs.Answers.{AnswersWatch, RefusesSize};
-ghost use Rattle.orc_program.specs.Ended.{HasWatched, cell_numbers};
+ghost use Rattle.orc_program.specs.{Answers.{AnswersWatch, RefusesSize}, Ended.{HasWatched, cell_numbers}};
 ghost use Rattle.orc_watch.specs.WatchGrammar.{Refuses};
 
 use crate::Ended;

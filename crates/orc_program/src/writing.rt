@@ -1,8 +1,7 @@
 //! The last step of the program: its text is written.
 ghost use Rattle.std.specs.Prelude.{◌≡◌, ◌≢◌, ◌⊎◌};
 ghost use Rattle.std.specs.Io.KnownBytes.{Appends};
-ghost use Rattle.orc_feed.specs.Faults.{Rose};
-ghost use Rattle.orc_feed.specs.Whole.{AppendsPrefix};
+ghost use Rattle.orc_feed.specs.{Faults.{Rose}, Whole.{AppendsPrefix}};
 ghost use Rattle.orc_program.specs.Refusals.{words_refused};
 
 use orc_feed::{Sink, write_all};

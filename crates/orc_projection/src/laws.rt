@@ -2,23 +2,27 @@
 
 ghost use Rattle.std.specs.Prelude.{◌≡◌, ◌↔◌, ◌++◌, ◌+◌, ◌*◌, ◌<◌, ◌≤◌, List, Some, length, slice_get, ℕ};
 ghost use Rattle.std.specs.Option.{option_map};
-ghost use Rattle.orc_words.specs.Bounds.{Bounds, IsShape, link_limit};
-ghost use Rattle.orc_words.specs.Packed.{link_of, sequence_of};
-ghost use Rattle.orc_words.specs.Places.{link_at};
-ghost use Rattle.orc_words.specs.declared.place.Word.TheVariants.{Counter, Root};
-ghost use Rattle.orc_words.specs.declared.packed.RowLink.{RowLink};
-ghost use Rattle.orc_core.specs.Machine.{Machine, new_machine, word_in};
-ghost use Rattle.orc_core.specs.Runs.{run};
-ghost use Rattle.orc_heap.specs.Calls.{links_made};
-ghost use Rattle.orc_sound.specs.Balance.{decrements, increments};
-ghost use Rattle.orc_sound.specs.Linked.{IsOut, linked};
-ghost use Rattle.orc_heap.specs.Journals.{IsLawful, run_heap};
-ghost use Rattle.orc_sound.specs.declared.steps.Step.{Step};
-ghost use Rattle.orc_sound.specs.Journals.{IsLawfulJournal, plain};
-ghost use Rattle.orc_projection.specs.PresentIds.{PresentIds};
-ghost use Rattle.orc_projection.specs.Projection.{StoresUnmarked, ids_from, present_ids, project, project_from};
-ghost use Rattle.orc_projection.specs.Taken.{LinksOut, rows_taken, rows_taken_from};
-ghost use Rattle.orc_projection.specs.Mirror.{Mirrors, numbers_of};
+ghost use Rattle.orc_words.specs.{
+  Bounds.{Bounds, IsShape, link_limit},
+  Packed.{link_of, sequence_of},
+  Places.{link_at},
+  declared.place.Word.TheVariants.{Counter, Root},
+  declared.packed.RowLink.{RowLink},
+};
+ghost use Rattle.orc_core.specs.{Machine.{Machine, new_machine, word_in}, Runs.{run}};
+ghost use Rattle.orc_heap.specs.{Calls.{links_made}, Journals.{IsLawful, run_heap}};
+ghost use Rattle.orc_sound.specs.{
+  Balance.{decrements, increments},
+  Linked.{IsOut, linked},
+  declared.steps.Step.{Step},
+  Journals.{IsLawfulJournal, plain},
+};
+ghost use Rattle.orc_projection.specs.{
+  PresentIds.{PresentIds},
+  Projection.{StoresUnmarked, ids_from, present_ids, project, project_from},
+  Taken.{LinksOut, rows_taken, rows_taken_from},
+  Mirror.{Mirrors, numbers_of},
+};
 
 /// Reused rows look like nodes that are never reused. From a new state on, the events of every lawful list of
 /// steps that stores no marked link are a lawful heap journal, and the words then show its heap.

@@ -2,14 +2,13 @@
 
 ghost use Rattle.std.specs.Prelude.{◌≡◌, ℕ, Err, true};
 ghost use mathlib.Core.List.{IsPrefix};
-ghost use Rattle.orc_heap.specs.Journals.{run_heap};
-ghost use Rattle.orc_heap.specs.Seats.{IsIdle};
-ghost use Rattle.orc_heap.specs.Slots.{Holds, IsFree, id_in};
+ghost use Rattle.orc_heap.specs.{Journals.{run_heap}, Seats.{IsIdle}, Slots.{Holds, IsFree, id_in}};
 ghost use Rattle.orc_fifo_rule.specs.Watches.{WasNamed};
-ghost use Rattle.orc_history.specs.Parts.{InPart};
-ghost use Rattle.orc_history.specs.declared.queue.QueueRefused.{QueueRefused};
-ghost use Rattle.orc_queue.specs.Answers.{PutAnswers};
-ghost use Rattle.orc_queue.specs.Turns.{HasDummy, HoldsNode, KeepsTail, LinksBehind, PutsBehind, PutsTurn, PutsTurns, SwingsLast};
+ghost use Rattle.orc_history.specs.{Parts.{InPart}, declared.queue.QueueRefused.{QueueRefused}};
+ghost use Rattle.orc_queue.specs.{
+  Answers.{PutAnswers},
+  Turns.{HasDummy, HoldsNode, KeepsTail, LinksBehind, PutsBehind, PutsTurn, PutsTurns, SwingsLast},
+};
 
 use crate::swings::{Successor, TAIL, change, help_tail, hold_next, hold_root};
 use orc_fifo_rule::{Fifo, FifoNote};

@@ -2,20 +2,20 @@
 
 ghost use Rattle.std.specs.Prelude.{◌≡◌, ℕ, ◌*◌, ◌+◌, ◌<◌, ◌≤◌, ◌↔◌, List, [], ◌∷◌, Err, IfOk, IfErr, IfSome, IsErr, None, length, ◌⊎◌};
 ghost use mathlib.Core.List.{IsPrefix};
-ghost use Rattle.orc_heap.specs.Domains.{GivesNodes, IsCallAlone, MakesAtMost, MakesNoEvent, agent};
-ghost use Rattle.orc_heap.specs.Journals.{run_heap};
-ghost use Rattle.orc_heap.specs.Seats.{IsIdle};
-ghost use Rattle.orc_history.specs.Journals.{Within};
-ghost use Rattle.orc_history.specs.QueueHistory.{entry_of_dequeue};
-ghost use Rattle.orc_history.specs.declared.queue.QueueEntry.{QueueEntry};
-ghost use Rattle.orc_history.specs.declared.queue.QueueRefused.{QueueRefused};
+ghost use Rattle.orc_heap.specs.{Domains.{GivesNodes, IsCallAlone, MakesAtMost, MakesNoEvent, agent}, Journals.{run_heap}, Seats.{IsIdle}};
+ghost use Rattle.orc_history.specs.{
+  Journals.{Within},
+  QueueHistory.{entry_of_dequeue},
+  declared.queue.{QueueEntry.{QueueEntry}, QueueRefused.{QueueRefused}},
+};
 ghost use Rattle.orc_fifo_rule.specs.QueueDiscipline.{entries_of, position_of};
-ghost use Rattle.orc_queue.specs.Answers.{gives_of};
-ghost use Rattle.orc_queue.specs.Causes.{Cause};
-ghost use Rattle.orc_queue.specs.Laws.Histories.{cause_puts, cause_stays, entries_below, history_grows, seen_legal};
-ghost use Rattle.orc_queue.specs.QueueCalls.{Enters, EntersNone, FindsNoPosition, LacksPositionAlone, LacksRow, LeavesTail, LeavesTailLast, UsesAllTurns};
-ghost use Rattle.orc_queue.specs.QueueCalls.{HasCause, others_puts, others_tooks};
-ghost use Rattle.orc_queue.specs.Turns.{HasDummy};
+ghost use Rattle.orc_queue.specs.{
+  Answers.{gives_of},
+  Causes.{Cause},
+  Laws.Histories.{cause_puts, cause_stays, entries_below, history_grows, seen_legal},
+  QueueCalls.{Enters, EntersNone, FindsNoPosition, LacksPositionAlone, LacksRow, LeavesTail, LeavesTailLast, UsesAllTurns, HasCause, others_puts, others_tooks},
+  Turns.{HasDummy},
+};
 
 use crate::put::put_job;
 use crate::stopped::stop_a_put;

@@ -2,11 +2,9 @@
 
 ghost use Rattle.std.specs.Prelude.{◌≡◌, ◌≢◌, ◌⊎◌, ℕ, None};
 ghost use mathlib.Core.List.{IsPrefix};
-ghost use Rattle.orc_heap.specs.Seats.{IsIdle};
-ghost use Rattle.orc_heap.specs.Slots.{IsFree};
+ghost use Rattle.orc_heap.specs.{Seats.{IsIdle}, Slots.{IsFree}};
 ghost use Rattle.orc_history.specs.Parts.{InPart};
-ghost use Rattle.orc_queue.specs.Answers.{IsFullAlone, PutStops, StopsPiece, stop_entries};
-ghost use Rattle.orc_queue.specs.Turns.{HasDummy, HoldsNode};
+ghost use Rattle.orc_queue.specs.{Answers.{IsFullAlone, PutStops, StopsPiece, stop_entries}, Turns.{HasDummy, HoldsNode}};
 
 use crate::put::{PutTurn, link_node};
 use crate::swings::{TAIL, hold_root};

@@ -2,16 +2,16 @@
 
 ghost use Rattle.std.specs.Prelude.{IfSome, ◌≡◌, ◌<◌, ℕ, Some, true};
 ghost use mathlib.Core.List.{IsPrefix};
-ghost use Rattle.orc_heap.specs.Allowed.{AllowedLater, HasLink, IsLinkedNode};
-ghost use Rattle.orc_heap.specs.Calls.{Swings, move_of};
-ghost use Rattle.orc_heap.specs.Journals.{run_heap};
-ghost use Rattle.orc_heap.specs.Seats.{HoldsPlace, HoldsWant, IsNotFresh, link_in, place_in};
-ghost use Rattle.orc_heap.specs.Slots.{Holds, IsFree, id_in};
-ghost use Rattle.orc_fifo_rule.specs.QueueDiscipline.{FifoMay};
-ghost use Rattle.orc_fifo_rule.specs.Watches.{WasNamed};
-ghost use Rattle.orc_queue.specs.Looking.{LooksAtRoot, LooksBehind};
-ghost use Rattle.orc_queue.specs.Turns.{HasDummy, Helps};
-ghost use Rattle.orc_heap.specs.Heap.{link_to};
+ghost use Rattle.orc_heap.specs.{
+  Allowed.{AllowedLater, HasLink, IsLinkedNode},
+  Calls.{Swings, move_of},
+  Journals.{run_heap},
+  Seats.{HoldsPlace, HoldsWant, IsNotFresh, link_in, place_in},
+  Slots.{Holds, IsFree, id_in},
+  Heap.{link_to},
+};
+ghost use Rattle.orc_fifo_rule.specs.{QueueDiscipline.{FifoMay}, Watches.{WasNamed}};
+ghost use Rattle.orc_queue.specs.{Looking.{LooksAtRoot, LooksBehind}, Turns.{HasDummy, Helps}};
 
 use orc_fifo_rule::{Fifo, FifoNote};
 use orc_heap::{At, Held, Links, Looked, Want};

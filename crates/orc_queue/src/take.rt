@@ -2,14 +2,9 @@
 
 ghost use Rattle.std.specs.Prelude.{◌≡◌, ℕ, true};
 ghost use mathlib.Core.List.{IsPrefix};
-ghost use Rattle.orc_heap.specs.Journals.{run_heap};
-ghost use Rattle.orc_heap.specs.Seats.{IsIdle};
-ghost use Rattle.orc_heap.specs.Slots.{Holds, IsFree, id_in};
+ghost use Rattle.orc_heap.specs.{Journals.{run_heap}, Seats.{IsIdle}, Slots.{Holds, IsFree, id_in}, Allowed.{HasLink}, Heap.{link_to}};
 ghost use Rattle.orc_fifo_rule.specs.Watches.{WasNamed};
-ghost use Rattle.orc_queue.specs.Answers.{TakeAnswers};
-ghost use Rattle.orc_queue.specs.Turns.{HasDummy, TakesBehind, TakesFromHead, TakesTurn, TakesTurns};
-ghost use Rattle.orc_heap.specs.Allowed.{HasLink};
-ghost use Rattle.orc_heap.specs.Heap.{link_to};
+ghost use Rattle.orc_queue.specs.{Answers.{TakeAnswers}, Turns.{HasDummy, TakesBehind, TakesFromHead, TakesTurn, TakesTurns}};
 
 use crate::swings::{HEAD, Successor, TAIL, change, help_tail, hold_next, hold_root};
 use orc_fault::Again;

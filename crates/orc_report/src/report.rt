@@ -3,11 +3,11 @@ ghost use Rattle.std.specs.Prelude.{◌≡◌, ◌<◌, ◌++◌, IfOk, OnOk, co
 ghost use Rattle.std.specs.Option.{option_copied};
 ghost use Rattle.std.specs.List.{flat_map, AllByRecursion};
 ghost use Rattle.std.specs.String.{string_bytes};
-ghost use Rattle.orc_jobs.specs.Line.{line_id};
-ghost use Rattle.orc_jobs.specs.GoodLines.{AreGood};
+ghost use Rattle.orc_jobs.specs.{Line.{line_id}, GoodLines.{AreGood}};
 ghost use Rattle.orc_board.specs.Reportable.{AreReportable, takes_with as of_queue};
-ghost use Rattle.orc_report.specs.Report.{by_position, board_line, board_row, take_line, report_of, rest_line, rest_lines};
-ghost use Rattle.orc_report.specs.Report.{has_rush as tells_rush, if_rush, is_rush as rushes, queue_lines, side_word};
+ghost use Rattle.orc_report.specs.{
+  Report.{by_position, board_line, board_row, take_line, report_of, rest_line, rest_lines, has_rush as tells_rush, if_rush, is_rush as rushes, queue_lines, side_word},
+};
 
 use crate::push_posts;
 use orc_board::{Replies, TakeReply, TakeWord};

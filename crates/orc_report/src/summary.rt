@@ -3,12 +3,12 @@ ghost use Rattle.std.specs.Prelude.{◌≡◌, ◌<◌, ◌++◌, ◌∷◌, [],
 ghost use Rattle.std.specs.Option.{option_to_list};
 ghost use Rattle.std.specs.List.{AllByRecursion, flat_map};
 ghost use Rattle.std.specs.String.{string_bytes};
-ghost use Rattle.orc_jobs.specs.GoodLines.{AreGood};
-ghost use Rattle.orc_board.specs.Follows.{grouped_by_key};
-ghost use Rattle.orc_board.specs.Reportable.{AreReportable};
-ghost use Rattle.orc_report.specs.Summary.{done_as, done_in, done_jobs as jobs_done, firsts, operations_of, summary_of};
-ghost use Rattle.orc_report.specs.Totals.{operation_totals, key_of_operation as key, line_of, total_of as total};
-ghost use Rattle.orc_jobs.specs.declared.line.Job.{Job};
+ghost use Rattle.orc_jobs.specs.{GoodLines.{AreGood}, declared.line.Job.{Job}};
+ghost use Rattle.orc_board.specs.{Follows.{grouped_by_key}, Reportable.{AreReportable}};
+ghost use Rattle.orc_report.specs.{
+  Summary.{done_as, done_in, done_jobs as jobs_done, firsts, operations_of, summary_of},
+  Totals.{operation_totals, key_of_operation as key, line_of, total_of as total},
+};
 
 use indexmap::IndexMap;
 use orc_board::{Replies, TakeReply, TakeWord};

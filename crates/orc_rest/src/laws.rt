@@ -1,28 +1,26 @@
 //! Laws of an agent that settles, of draining, of states at rest, and of what was given and freed.
 
-ghost use Rattle.orc_core.specs.Machine.{Machine, is_allowed, new_machine, record_at, step, word_in};
-ghost use Rattle.orc_core.specs.RecordParts.{is_empty, slot_of};
-ghost use Rattle.orc_core.specs.Runs.{IsLawful, run};
-ghost use Rattle.orc_core.specs.Sums.{sum_below};
-ghost use Rattle.orc_core.specs.declared.ops.Op.{Op};
-ghost use Rattle.orc_rest.specs.Drains.{Drained, DrainedInOrder, TookIn};
+ghost use Rattle.orc_core.specs.{
+  Machine.{Machine, is_allowed, new_machine, record_at, step, word_in},
+  RecordParts.{is_empty, slot_of},
+  Runs.{IsLawful, run},
+  Sums.{sum_below},
+  declared.ops.Op.{Op},
+};
+ghost use Rattle.orc_rest.specs.{
+  Drains.{Drained, DrainedInOrder, TookIn},
+  Reached.{AreTheReached, IsReached, LiesInOneRow},
+  Rest.{IsAtRest, EndsAtRest},
+  Reuse.{given, reused, rows_out},
+  Records.{IsBetweenRounds},
+  Rounds.{Settled},
+  Turns.{IsReachedState, MadeAfterOthers, Turn},
+  Work.{IsSettlingStep, drop_of, work_left},
+};
 ghost use Rattle.orc_heap.specs.Journals.{run_heap};
-ghost use Rattle.orc_projection.specs.Mirror.{numbers_of};
-ghost use Rattle.orc_projection.specs.Projection.{present_ids, project};
-ghost use Rattle.orc_rest.specs.Reached.{AreTheReached, IsReached, LiesInOneRow};
-ghost use Rattle.orc_rest.specs.Rest.{IsAtRest, EndsAtRest};
-ghost use Rattle.orc_rest.specs.Reuse.{given, reused, rows_out};
-ghost use Rattle.orc_rest.specs.Records.{IsBetweenRounds};
-ghost use Rattle.orc_rest.specs.Rounds.{Settled};
-ghost use Rattle.orc_rest.specs.Turns.{IsReachedState, MadeAfterOthers, Turn};
-ghost use Rattle.orc_rest.specs.Work.{IsSettlingStep, drop_of, work_left};
-ghost use Rattle.orc_sound.specs.Journals.{plain};
-ghost use Rattle.orc_sound.specs.Lifetimes.{times_taken};
-ghost use Rattle.orc_sound.specs.Linked.{IsOut};
-ghost use Rattle.orc_sound.specs.declared.steps.Step.{Step};
-ghost use Rattle.orc_words.specs.Bounds.{Bounds, IsShape};
-ghost use Rattle.orc_words.specs.Packed.{gate_of};
-ghost use Rattle.orc_words.specs.declared.place.Word.{Word};
+ghost use Rattle.orc_projection.specs.{Mirror.{numbers_of}, Projection.{present_ids, project}};
+ghost use Rattle.orc_sound.specs.{Journals.{plain}, Lifetimes.{times_taken}, Linked.{IsOut}, declared.steps.Step.{Step}};
+ghost use Rattle.orc_words.specs.{Bounds.{Bounds, IsShape}, Packed.{gate_of}, declared.place.Word.{Word}};
 ghost use Rattle.std.specs.Prelude.{◌≡◌, ◌≢◌, ◌+◌, ◌*◌, ◌<◌, ◌≤◌, ℕ, List, None, true, length};
 
 use orc_heap::Ranked;

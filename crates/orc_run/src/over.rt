@@ -2,10 +2,8 @@
 
 ghost use Rattle.std.specs.Prelude.{◌≤◌, ◌+◌, IfOk};
 ghost use Rattle.orc_jobs.specs.GoodLines.{AreGood};
-ghost use Rattle.orc_run.specs.Containers.{set_on, split_on};
+ghost use Rattle.orc_run.specs.{Containers.{set_on, split_on}, Sets.{most_buckets}, Over.{RanOver}};
 ghost use Rattle.orc_at_rest.specs.Domains.{empty_seed};
-ghost use Rattle.orc_run.specs.Sets.{most_buckets};
-ghost use Rattle.orc_run.specs.Over.{RanOver};
 
 use crate::task::Task;
 use crate::work::{Worked, work};

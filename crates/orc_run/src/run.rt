@@ -2,9 +2,7 @@
 
 ghost use Rattle.std.specs.Prelude.{◌≤◌, IfOk};
 ghost use Rattle.orc_jobs.specs.GoodLines.{AreGood};
-ghost use Rattle.orc_run.specs.Runs.{WorkedThrough};
-ghost use Rattle.orc_run.specs.Sets.{IsInRange};
-ghost use Rattle.orc_run.specs.declared.set.SetChoice.{SetChoice};
+ghost use Rattle.orc_run.specs.{Runs.{WorkedThrough}, Sets.{IsInRange}, declared.set.SetChoice.{SetChoice}};
 
 use crate::over::{Left, run_over_lists, run_over_split};
 use crate::set::{SetChoice, SetRest};

@@ -3,13 +3,12 @@
 ghost use Rattle.std.specs.Prelude.{◌≡◌, ◌⊎◌, ◌<◌, ◌%◌, ◌↔◌, ◌∷◌, [], ℕ, Err, IfErr, IfOk, IsErr, Ok, false, length, true};
 ghost use mathlib.Core.List.{IsPrefix};
 ghost use Rattle.orc_heap.specs.Domains.{IsCallAlone, MakesNoEvent, agent};
-ghost use Rattle.orc_history.specs.Journals.{Within};
-ghost use Rattle.orc_history.specs.declared.set.ListRefused.{ListRefused};
-ghost use Rattle.orc_history.specs.declared.set.SetEntry.{SetEntry};
-ghost use Rattle.orc_list.specs.ListCalls.{CostsOthers, Enters, EntersNone, FindsAbsent, FindsWorn, GivesAtMost, LacksRow};
-ghost use Rattle.orc_list.specs.ListCalls.{LeavesMarked, LeavesOffChain, LeavesRunOffChain, LooksAlone, MakesFew, StopsBeforeWorn, UsesAllTurns};
-ghost use Rattle.orc_list.specs.SetMembers.{HasCause, IsUsable, set_history};
-ghost use Rattle.orc_list.specs.Laws.SetLaws.{cause_stays, entries_below, history_grows, seen_legal};
+ghost use Rattle.orc_history.specs.{Journals.{Within}, declared.set.{ListRefused.{ListRefused}, SetEntry.{SetEntry}}};
+ghost use Rattle.orc_list.specs.{
+  ListCalls.{CostsOthers, Enters, EntersNone, FindsAbsent, FindsWorn, GivesAtMost, LacksRow, LeavesMarked, LeavesOffChain, LeavesRunOffChain, LooksAlone, MakesFew, StopsBeforeWorn, UsesAllTurns},
+  SetMembers.{HasCause, IsUsable, set_history},
+  Laws.SetLaws.{cause_stays, entries_below, history_grows, seen_legal},
+};
 
 use orc_chain_rule::Chain;
 use orc_fault::{Again, Spent};

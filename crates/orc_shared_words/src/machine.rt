@@ -3,8 +3,7 @@
 ghost use Rattle.std.specs.Prelude.{◌≡◌, List, ℕ};
 ghost use Rattle.orc_heap.specs.Heap.{HeapNumbers};
 ghost use Rattle.orc_words.specs.Operations.{word_after};
-ghost use Rattle.orc_shared_words.specs.Operations.{returned_by};
-ghost use Rattle.orc_shared_words.specs.Runs.{Rules, Obeys, found_by};
+ghost use Rattle.orc_shared_words.specs.{Operations.{returned_by}, Runs.{Rules, Obeys, found_by}};
 
 use crate::operation::PlacedOperation;
 

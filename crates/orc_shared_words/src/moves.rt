@@ -1,9 +1,11 @@
 //! What one step on the table tells, and how views are cut in two and put together.
 
 ghost use Rattle.std.specs.Prelude.{◌≡◌, Option, None};
-ghost use Rattle.orc_shared_words.specs.Learning.{Confirmed};
-ghost use Rattle.orc_shared_words.specs.Steps.{DidStep, Tried};
-ghost use Rattle.orc_shared_words.specs.Views.{absorbing, keeping, next_pass, note_of, one_handed, spent_view};
+ghost use Rattle.orc_shared_words.specs.{
+  Learning.{Confirmed},
+  Steps.{DidStep, Tried},
+  Views.{absorbing, keeping, next_pass, note_of, one_handed, spent_view},
+};
 
 use crate::journal::View;
 use crate::machine::Machine;

@@ -1,7 +1,6 @@
 //! The rule that the words and the passes keep.
 
-ghost use Rattle.orc_shared_words.specs.Rule.{Shows};
-ghost use Rattle.orc_shared_words.specs.Views.{first_view};
+ghost use Rattle.orc_shared_words.specs.{Rule.{Shows}, Views.{first_view}};
 
 use crate::journal::View;
 use crate::machine::Machine;

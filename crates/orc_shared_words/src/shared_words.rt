@@ -2,12 +2,14 @@
 
 ghost use Rattle.std.specs.Prelude.{◌≡◌, ◌<◌, ℕ, Some, [], All, IfOk, length};
 ghost use Rattle.orc_layout.specs.Layout.{lay};
-ghost use Rattle.orc_shared_words.specs.Ends.{OpensLawfully, OwnsAll, Whole};
-ghost use Rattle.orc_shared_words.specs.Learning.{Confirmed, LearnedBoth};
-ghost use Rattle.orc_shared_words.specs.Lists.{EachAt};
+ghost use Rattle.orc_shared_words.specs.{
+  Ends.{OpensLawfully, OwnsAll, Whole},
+  Learning.{Confirmed, LearnedBoth},
+  Lists.{EachAt},
+  Steps.{Extends, LaterJournal, IsAllowedLater},
+  Views.{Covers, absorbing, first_view, keeping, next_pass, one_handed},
+};
 ghost use Rattle.orc_history.specs.Journals.{own_of};
-ghost use Rattle.orc_shared_words.specs.Steps.{Extends, LaterJournal, IsAllowedLater};
-ghost use Rattle.orc_shared_words.specs.Views.{Covers, absorbing, first_view, keeping, next_pass, one_handed};
 
 use crate::journal::View;
 use crate::last_words::LastWords;

@@ -1,15 +1,18 @@
 //! Tests of one agent, by which a state is seen to be sound.
 
 ghost use Rattle.std.specs.Prelude.{◌≡◌, ℕ, ◌+◌, ◌*◌, ◌<◌, ◌&&◌, ◌||◌, ◌==◌, not, nat_le, nat_lt};
-ghost use Rattle.orc_words.specs.Packed.{count_bits, sequence_of};
-ghost use Rattle.orc_words.specs.declared.place.Word.{Word};
-ghost use Rattle.orc_core.specs.Counts.{links_to};
-ghost use Rattle.orc_core.specs.Machine.{record_at, word_in};
-ghost use Rattle.orc_core.specs.RecordParts.{any_holds, holds, is_empty, names, number_of, saw, slot_of};
-ghost use Rattle.orc_sound.specs.Decisions.{agent_fits, all_below, cuts_fit, doom_fits, enrolment_fits, fresh_fits, is_nobody, left_in, looks_fit, named_passes, names_none, one_part_in, out_in, pending_fits, row_held, row_seen, same_fits, scan_fits, slot_fits, slots_fit};
-ghost use Rattle.orc_sound.specs.Doomed.{dooms};
-ghost use Rattle.orc_sound.specs.Linked.{uses};
-ghost use Rattle.orc_sound.specs.QuietScan.{holds_from, is_linked_anew};
+ghost use Rattle.orc_words.specs.{Packed.{count_bits, sequence_of}, declared.place.Word.{Word}};
+ghost use Rattle.orc_core.specs.{
+  Counts.{links_to},
+  Machine.{record_at, word_in},
+  RecordParts.{any_holds, holds, is_empty, names, number_of, saw, slot_of},
+};
+ghost use Rattle.orc_sound.specs.{
+  Decisions.{agent_fits, all_below, cuts_fit, doom_fits, enrolment_fits, fresh_fits, is_nobody, left_in, looks_fit, named_passes, names_none, one_part_in, out_in, pending_fits, row_held, row_seen, same_fits, scan_fits, slot_fits, slots_fit},
+  Doomed.{dooms},
+  Linked.{uses},
+  QuietScan.{holds_from, is_linked_anew},
+};
 
 use crate::counting::linked_of;
 use crate::parts::{dooms, links_to, slot_word, uses};

@@ -2,14 +2,13 @@
 
 ghost use Rattle.std.specs.Prelude.{◌≡◌, ℕ, ◌+◌, ◌*◌, ◌<◌, ◌≤◌, ◌&&◌, ◌==◌, not};
 ghost use Rattle.std.specs.List.{list_any};
-ghost use Rattle.orc_words.specs.Places.{link_at};
-ghost use Rattle.orc_words.specs.declared.place.Word.{Word};
-ghost use Rattle.orc_core.specs.Counts.{is_out, is_retired, links_to};
-ghost use Rattle.orc_core.specs.Machine.{record_at, word_in};
-ghost use Rattle.orc_core.specs.Sums.{count_below, sum_below};
-ghost use Rattle.orc_sound.specs.Backlog.{backlog, is_listed};
-ghost use Rattle.orc_sound.specs.Linked.{held, holds_row, linked, linked_from};
-ghost use Rattle.orc_sound.specs.RetirementToken.{listings, places_of, tokens};
+ghost use Rattle.orc_words.specs.{Places.{link_at}, declared.place.Word.{Word}};
+ghost use Rattle.orc_core.specs.{Counts.{is_out, is_retired, links_to}, Machine.{record_at, word_in}, Sums.{count_below, sum_below}};
+ghost use Rattle.orc_sound.specs.{
+  Backlog.{backlog, is_listed},
+  Linked.{held, holds_row, linked, linked_from},
+  RetirementToken.{listings, places_of, tokens},
+};
 
 use crate::parts::{dooming, links_to};
 use orc_core::State;

@@ -1,20 +1,23 @@
 //! Laws over every lawful list of steps, from a new state of any shape on.
 
 ghost use Rattle.std.specs.Prelude.{◌≡◌, ℕ, ◌+◌, ◌*◌, ◌<◌, ◌≤◌, ◌⊎◌, ◌↔◌, ◌++◌, List, None, length, true};
-ghost use Rattle.orc_words.specs.Packed.{bit};
-ghost use Rattle.orc_words.specs.Bounds.{Bounds, IsShape};
-ghost use Rattle.orc_core.specs.declared.ops.Op.{Op};
-ghost use Rattle.orc_core.specs.Actions.{action_of};
-ghost use Rattle.orc_core.specs.Counts.{is_out};
-ghost use Rattle.orc_core.specs.Machine.{LeavesRoom, Machine, answer, is_allowed, new_machine, record_at, step, word_read};
-ghost use Rattle.orc_core.specs.RecordParts.{names};
-ghost use Rattle.orc_core.specs.Runs.{IsLawful, run};
-ghost use Rattle.orc_sound.specs.declared.steps.Step.{Step};
-ghost use Rattle.orc_sound.specs.Backlog.{backlog};
-ghost use Rattle.orc_sound.specs.Journals.{IsLawfulJournal, plain};
-ghost use Rattle.orc_sound.specs.Lifetimes.{NoWrap, times_freed, times_taken};
-ghost use Rattle.orc_sound.specs.Linked.{IsOut, IsUnreachable};
-ghost use Rattle.orc_sound.specs.Sound.{IsSound};
+ghost use Rattle.orc_words.specs.{Packed.{bit}, Bounds.{Bounds, IsShape}};
+ghost use Rattle.orc_core.specs.{
+  declared.ops.Op.{Op},
+  Actions.{action_of},
+  Counts.{is_out},
+  Machine.{LeavesRoom, Machine, answer, is_allowed, new_machine, record_at, step, word_read},
+  RecordParts.{names},
+  Runs.{IsLawful, run},
+};
+ghost use Rattle.orc_sound.specs.{
+  declared.steps.Step.{Step},
+  Backlog.{backlog},
+  Journals.{IsLawfulJournal, plain},
+  Lifetimes.{NoWrap, times_freed, times_taken},
+  Linked.{IsOut, IsUnreachable},
+  Sound.{IsSound},
+};
 
 /// Every lawful list of steps leaves a sound state.
 pub fn every_run_is_sound()

@@ -2,11 +2,13 @@
 
 ghost use Rattle.std.specs.Prelude.{◌≡◌, ◌<◌};
 ghost use Rattle.orc_core.specs.Counts.{links_to};
-ghost use Rattle.orc_sound.specs.Doomed.{dooms};
-ghost use Rattle.orc_sound.specs.Linked.{changes, uses};
-ghost use Rattle.orc_sound.specs.NoLeak.{keeps_out};
-ghost use Rattle.orc_sound.specs.SoundParts.{slot_word};
-ghost use Rattle.orc_sound.specs.RetirementToken.{dooming};
+ghost use Rattle.orc_sound.specs.{
+  Doomed.{dooms},
+  Linked.{changes, uses},
+  NoLeak.{keeps_out},
+  SoundParts.{slot_word},
+  RetirementToken.{dooming},
+};
 
 use orc_core::{Agent, Doom, SlotUse};
 

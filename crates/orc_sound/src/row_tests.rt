@@ -1,15 +1,15 @@
 //! Tests of one row, by which a state is seen to be sound.
 
 ghost use Rattle.std.specs.Prelude.{◌≡◌, ℕ, ◌<◌, ◌≤◌, ◌%◌, ◌/◌, ◌==◌};
-ghost use Rattle.orc_words.specs.declared.place.Word.{Word};
-ghost use Rattle.orc_words.specs.Packed.{sequence_of};
-ghost use Rattle.orc_core.specs.Machine.{record_at, word_in};
-ghost use Rattle.orc_core.specs.Sums.{some_below};
-ghost use Rattle.orc_sound.specs.Balance.{decrements, increments};
-ghost use Rattle.orc_sound.specs.Decisions.{count_fits, free_fits, links_fit, null_links, out_in, range_fits, row_fits, target_fits, token_fits, unreachable_in};
-ghost use Rattle.orc_sound.specs.Doomed.{dooms};
-ghost use Rattle.orc_sound.specs.Linked.{changes};
-ghost use Rattle.orc_sound.specs.NoLeak.{has_reason, keeps_out};
+ghost use Rattle.orc_words.specs.{declared.place.Word.{Word}, Packed.{sequence_of}};
+ghost use Rattle.orc_core.specs.{Machine.{record_at, word_in}, Sums.{some_below}};
+ghost use Rattle.orc_sound.specs.{
+  Balance.{decrements, increments},
+  Decisions.{count_fits, free_fits, links_fit, null_links, out_in, range_fits, row_fits, target_fits, token_fits, unreachable_in},
+  Doomed.{dooms},
+  Linked.{changes},
+  NoLeak.{has_reason, keeps_out},
+};
 
 use crate::counting::{is_held, linked_of, tokens_of};
 use crate::parts::{changes, dooms, keeps_out};

@@ -3,8 +3,7 @@
 ghost use Rattle.std.specs.Prelude.{◌≡◌, ℕ, ◌<◌, ◌↔◌, IsTrue, length};
 ghost use Rattle.orc_words.specs.declared.place.Word.{Word};
 ghost use Rattle.orc_core.specs.Machine.{record_at, word_in};
-ghost use Rattle.orc_sound.specs.Decisions.{agent_fits, all_below, all_fit, row_fits, target_fits};
-ghost use Rattle.orc_sound.specs.Sound.{IsSound};
+ghost use Rattle.orc_sound.specs.{Decisions.{agent_fits, all_below, all_fit, row_fits, target_fits}, Sound.{IsSound}};
 
 use crate::agent_tests::agent_fits;
 use crate::row_tests::{row_fits, target_fits};

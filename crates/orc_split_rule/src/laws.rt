@@ -1,21 +1,20 @@
 //! Laws of the split-order discipline.
 
 ghost use Rattle.std.specs.Prelude.{◌≡◌, ◌↔◌, ℕ, ◌*◌, ◌++◌, ◌<◌, ◌≤◌, List, [], ◌∷◌, Option, Some, None, suc, true, false, slice_get};
-ghost use Rattle.orc_heap.specs.Allowed.{AllAllowed, AllowedLater, HasLink, Later, events_by};
-ghost use Rattle.orc_heap.specs.Heap.{HeapNumbers, Node, link_to, null, shown};
-ghost use Rattle.orc_heap.specs.Journals.{event_by, run_heap};
-ghost use Rattle.orc_heap.specs.declared.events.Act.{Act};
-ghost use Rattle.orc_heap.specs.declared.events.Event.{Event};
-ghost use Rattle.orc_heap.specs.declared.events.Link.{Link};
-ghost use Rattle.orc_heap.specs.declared.events.Place.{Place};
-ghost use Rattle.orc_history.specs.Journals.{own_of};
-ghost use Rattle.orc_history.specs.SetHistory.{IsLegalSet, agent_of_set_entry, has};
-ghost use Rattle.orc_history.specs.declared.set.SetEntry.{SetEntry};
+ghost use Rattle.orc_heap.specs.{
+  Allowed.{AllAllowed, AllowedLater, HasLink, Later, events_by},
+  Heap.{HeapNumbers, Node, link_to, null, shown},
+  Journals.{event_by, run_heap},
+  declared.events.{Act.{Act}, Event.{Event}, Link.{Link}, Place.{Place}},
+};
+ghost use Rattle.orc_history.specs.{Journals.{own_of}, SetHistory.{IsLegalSet, agent_of_set_entry, has}, declared.set.SetEntry.{SetEntry}};
 ghost use Rattle.orc_ordered_chains.specs.Chains.{FollowsOn, IsAbove, IsChainPlace, IsOnChain, IsPath, IsRun, LeadsTo, link_over};
-ghost use Rattle.orc_split_rule.specs.declared.split.SplitNote.{SplitNote};
-ghost use Rattle.orc_split_rule.specs.SplitOrder.{IsAncestor, bucket_of, dummy_place, key_place, split_order};
-ghost use Rattle.orc_split_rule.specs.SplitDiscipline.{HasKey, HasValues, IsDummy, IsPresent, IsSize, SplitHolds, SplitMay, entries_of, greatest, set_after, size_of};
-ghost use Rattle.orc_split_rule.specs.Watches.{LeavesOut, StandsFor, node_to_link};
+ghost use Rattle.orc_split_rule.specs.{
+  declared.split.SplitNote.{SplitNote},
+  SplitOrder.{IsAncestor, bucket_of, dummy_place, key_place, split_order},
+  SplitDiscipline.{HasKey, HasValues, IsDummy, IsPresent, IsSize, SplitHolds, SplitMay, entries_of, greatest, set_after, size_of},
+  Watches.{LeavesOut, StandsFor, node_to_link},
+};
 
 /// The empty list obeys the discipline, and so does each list that goes on with events that are allowed where
 /// they stand.

@@ -1,7 +1,9 @@
 //! The discipline as an implementation of the traits of disciplines.
 
-ghost use Rattle.orc_split_rule.specs.SplitDiscipline.{SplitHolds, SplitMay, split_rank};
-ghost use Rattle.orc_split_rule.specs.Laws.Kept.{split_allows_plain, split_keeps, split_moves_linked, split_rises};
+ghost use Rattle.orc_split_rule.specs.{
+  SplitDiscipline.{SplitHolds, SplitMay, split_rank},
+  Laws.Kept.{split_allows_plain, split_keeps, split_moves_linked, split_rises},
+};
 
 use orc_heap::{Discipline, Ranked};
 use orc_history::SetEntry;

@@ -1,17 +1,19 @@
 //! Notes, the laws called once, and a worked example of the definitions, computed by hand and proved.
 
 ghost use Rattle.std.specs.Prelude.{◌≡◌, ◌*◌, ◌^◌, List, ◌∷◌, [], Some, None, true, map};
-ghost use Rattle.orc_heap.specs.Allowed.{AllAllowed};
-ghost use Rattle.orc_heap.specs.Heap.{HeapNumbers, null, link_to};
-ghost use Rattle.orc_heap.specs.Journals.{run_heap, event_by};
-ghost use Rattle.orc_heap.specs.declared.events.Act.{Act};
-ghost use Rattle.orc_heap.specs.declared.events.Event.{Event};
-ghost use Rattle.orc_heap.specs.declared.events.Place.{Place};
+ghost use Rattle.orc_heap.specs.{
+  Allowed.{AllAllowed},
+  Heap.{HeapNumbers, null, link_to},
+  Journals.{run_heap, event_by},
+  declared.events.{Act.{Act}, Event.{Event}, Place.{Place}},
+};
 ghost use Rattle.orc_history.specs.declared.set.SetEntry.{SetEntry};
 ghost use Rattle.orc_ordered_chains.specs.Chains.{IsPath};
-ghost use Rattle.orc_split_rule.specs.declared.split.SplitNote.{SplitNote};
-ghost use Rattle.orc_split_rule.specs.SplitOrder.{IsAncestor, IsParent, reversed};
-ghost use Rattle.orc_split_rule.specs.SplitDiscipline.{SplitMay, set_after, size_of};
+ghost use Rattle.orc_split_rule.specs.{
+  declared.split.SplitNote.{SplitNote},
+  SplitOrder.{IsAncestor, IsParent, reversed},
+  SplitDiscipline.{SplitMay, set_after, size_of},
+};
 
 use super::*;
 use orc_heap::Discipline;

@@ -2,17 +2,14 @@
 
 ghost use Rattle.std.specs.Prelude.{◌≡◌, ◌<◌, ◌≤◌, ◌+◌, ◌*◌, ◌-◌, ℕ, Ok, Err, List, Option};
 ghost use mathlib.Core.List.{IsPrefix};
-ghost use Rattle.orc_heap.specs.Seats.{Seat, heap_of};
-ghost use Rattle.orc_heap.specs.declared.events.Place.{Place};
+ghost use Rattle.orc_heap.specs.{Seats.{Seat, heap_of}, declared.events.Place.{Place}};
 ghost use Rattle.orc_ordered_chains.specs.Chains.{IsPath};
-ghost use Rattle.orc_ordered_search.specs.Entries.{entry_by};
-ghost use Rattle.orc_ordered_search.specs.Searches.{HasRoom};
-ghost use Rattle.orc_ordered_search.specs.Turns.{AnswersTurn, AnswersTurns};
-ghost use Rattle.orc_split_rule.specs.SplitDiscipline.{greatest};
-ghost use Rattle.orc_split_rule.specs.SplitOrder.{key_place};
-ghost use Rattle.orc_split_rule.specs.declared.split.SplitNote.{SplitNote};
-ghost use Rattle.orc_split_set.specs.Looks.{HasStart, LoadsFew, MayEnd, ReachesIn, bucket_now, root_loads, search_loads};
-ghost use Rattle.orc_split_set.specs.SplitSearches.{BeginsAt, split_reading};
+ghost use Rattle.orc_ordered_search.specs.{Entries.{entry_by}, Searches.{HasRoom}, Turns.{AnswersTurn, AnswersTurns}};
+ghost use Rattle.orc_split_rule.specs.{SplitDiscipline.{greatest}, SplitOrder.{key_place}, declared.split.SplitNote.{SplitNote}};
+ghost use Rattle.orc_split_set.specs.{
+  Looks.{HasStart, LoadsFew, MayEnd, ReachesIn, bucket_now, root_loads, search_loads},
+  SplitSearches.{BeginsAt, split_reading},
+};
 
 use crate::begin::{Begun, begin};
 use crate::node::NewNode;

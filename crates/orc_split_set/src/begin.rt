@@ -2,18 +2,21 @@
 
 ghost use Rattle.std.specs.Prelude.{◌≡◌, ◌≤◌, ◌<◌, ◌+◌, ◌/◌, List, None, Some, []};
 ghost use mathlib.Core.List.{IsPrefix};
-ghost use Rattle.orc_heap.specs.Seats.{Seat, heap_of};
-ghost use Rattle.orc_heap.specs.declared.events.Event.{Event};
+ghost use Rattle.orc_heap.specs.{Seats.{Seat, heap_of}, declared.events.Event.{Event}};
 ghost use Rattle.orc_ordered_search.specs.Searches.{HasRoom, Quiet};
-ghost use Rattle.orc_split_rule.specs.SplitDiscipline.{IsSize, greatest, size_of};
-ghost use Rattle.orc_split_rule.specs.SplitOrder.{bucket_of};
-ghost use Rattle.orc_split_rule.specs.declared.split.SplitNote.{SplitNote};
-ghost use Rattle.orc_split_set.specs.Beginnings.{BeginsKey, BeginsByBucket, GoesNear, MayBeginAt};
-ghost use Rattle.orc_split_set.specs.Crowds.{SeesOwn};
-ghost use Rattle.orc_split_set.specs.Looks.{HasStart, LoadsFew, root_loads};
-ghost use Rattle.orc_split_set.specs.NewNodes.{node_value};
-ghost use Rattle.orc_split_set.specs.declared.begin.Begun.{Begun};
-ghost use Rattle.orc_split_set.specs.SplitSearches.{split_reading};
+ghost use Rattle.orc_split_rule.specs.{
+  SplitDiscipline.{IsSize, greatest, size_of},
+  SplitOrder.{bucket_of},
+  declared.split.SplitNote.{SplitNote},
+};
+ghost use Rattle.orc_split_set.specs.{
+  Beginnings.{BeginsKey, BeginsByBucket, GoesNear, MayBeginAt},
+  Crowds.{SeesOwn},
+  Looks.{HasStart, LoadsFew, root_loads},
+  NewNodes.{node_value},
+  declared.begin.Begun.{Begun},
+  SplitSearches.{split_reading},
+};
 
 use crate::node::NewNode;
 use crate::size::read_size;

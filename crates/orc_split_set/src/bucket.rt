@@ -2,22 +2,26 @@
 
 ghost use Rattle.std.specs.Prelude.{◌≡◌, ◌<◌, ◌≤◌, ◌+◌, ◌++◌, [], ℕ, List, None};
 ghost use mathlib.Core.List.{IsPrefix};
-ghost use Rattle.orc_heap.specs.Seats.{IsIdle, Seat, heap_of};
-ghost use Rattle.orc_heap.specs.Slots.{Holds, id_in};
-ghost use Rattle.orc_heap.specs.declared.events.Event.{Event};
-ghost use Rattle.orc_heap.specs.declared.events.Place.{Place};
-ghost use Rattle.orc_ordered_search.specs.Inserts.{HasRoomFor};
-ghost use Rattle.orc_ordered_search.specs.Searches.{FindsAbsent, Quiet};
-ghost use Rattle.orc_split_rule.specs.SplitDiscipline.{IsDummy, IsSize, greatest};
-ghost use Rattle.orc_split_rule.specs.SplitOrder.{dummy_place};
-ghost use Rattle.orc_split_rule.specs.declared.split.SplitNote.{SplitNote};
-ghost use Rattle.orc_heap.specs.Allowed.{events_by};
-ghost use Rattle.orc_heap.specs.Journals.{run_heap};
-ghost use Rattle.orc_split_set.specs.Crowds.{seat_after};
-ghost use Rattle.orc_split_set.specs.Looks.{HasStart, LoadsFew, bucket_now, root_loads};
-ghost use Rattle.orc_split_set.specs.Rootings.{Anchors, AnchorsAndGoes, Prepares, Roots};
-ghost use Rattle.orc_split_set.specs.SetCalls.{NewTells, PartTells};
-ghost use Rattle.orc_split_set.specs.SplitSearches.{BeginsAt, split_reading};
+ghost use Rattle.orc_heap.specs.{
+  Seats.{IsIdle, Seat, heap_of},
+  Slots.{Holds, id_in},
+  declared.events.{Event.{Event}, Place.{Place}},
+  Allowed.{events_by},
+  Journals.{run_heap},
+};
+ghost use Rattle.orc_ordered_search.specs.{Inserts.{HasRoomFor}, Searches.{FindsAbsent, Quiet}};
+ghost use Rattle.orc_split_rule.specs.{
+  SplitDiscipline.{IsDummy, IsSize, greatest},
+  SplitOrder.{dummy_place},
+  declared.split.SplitNote.{SplitNote},
+};
+ghost use Rattle.orc_split_set.specs.{
+  Crowds.{seat_after},
+  Looks.{HasStart, LoadsFew, bucket_now, root_loads},
+  Rootings.{Anchors, AnchorsAndGoes, Prepares, Roots},
+  SetCalls.{NewTells, PartTells},
+  SplitSearches.{BeginsAt, split_reading},
+};
 
 use crate::begin::{Begun, begin_near};
 use crate::node::NewNode;

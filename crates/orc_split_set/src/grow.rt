@@ -2,13 +2,13 @@
 
 ghost use Rattle.std.specs.Prelude.{◌≡◌, ◌*◌, ◌≤◌, ◌↔◌, None, Some, true};
 ghost use mathlib.Core.List.{IsPrefix};
-ghost use Rattle.orc_heap.specs.Seats.{IsIdle, heap_of};
-ghost use Rattle.orc_heap.specs.Slots.{IsFree, id_in};
+ghost use Rattle.orc_heap.specs.{Seats.{IsIdle, heap_of}, Slots.{IsFree, id_in}};
 ghost use Rattle.orc_ordered_search.specs.Searches.{HoldsIfAny, target_at};
-ghost use Rattle.orc_split_rule.specs.SplitDiscipline.{greatest};
-ghost use Rattle.orc_split_rule.specs.Watches.{StandsFor};
-ghost use Rattle.orc_split_set.specs.Growths.{Doubles, DoublesAndGoes, GrowsAfter, HoldsSize, IsCrowded, ShowsSize, grown_by};
-ghost use Rattle.orc_split_set.specs.SetCalls.{NewTells, PartTells};
+ghost use Rattle.orc_split_rule.specs.{SplitDiscipline.{greatest}, Watches.{StandsFor}};
+ghost use Rattle.orc_split_set.specs.{
+  Growths.{Doubles, DoublesAndGoes, GrowsAfter, HoldsSize, IsCrowded, ShowsSize, grown_by},
+  SetCalls.{NewTells, PartTells},
+};
 
 use crate::bucket::Rooted;
 use orc_fault::Spent;

@@ -3,18 +3,14 @@
 ghost use Rattle.std.specs.Prelude.{◌≡◌, ◌<◌, ◌≤◌, ℕ, None, Option, true};
 ghost use mathlib.Core.List.{IsPrefix};
 ghost use Rattle.orc_fault.specs.declared.Spent.{Spent};
-ghost use Rattle.orc_heap.specs.Seats.{IsIdle, Seat, heap_of};
-ghost use Rattle.orc_heap.specs.Slots.{Slots};
-ghost use Rattle.orc_heap.specs.declared.events.Place.{Place};
-ghost use Rattle.orc_history.specs.declared.set.SetEntry.{SetEntry};
-ghost use Rattle.orc_history.specs.Parts.{WithinPart};
-ghost use Rattle.orc_ordered_search.specs.Inserts.{HasRoomFor, InsertAnswers, Inserts, InsertsTurns, KeepsNode, answer_by};
-ghost use Rattle.orc_ordered_search.specs.declared.turn.InsertTurn.{InsertTurn};
-ghost use Rattle.orc_split_rule.specs.SplitDiscipline.{greatest};
-ghost use Rattle.orc_split_rule.specs.SplitOrder.{key_place};
-ghost use Rattle.orc_split_rule.specs.declared.split.SplitNote.{SplitNote};
-ghost use Rattle.orc_split_set.specs.Crowds.{BeginsBy, CountsFrom, CountsKeys};
-ghost use Rattle.orc_split_set.specs.SplitSearches.{BeginsAt, split_reading};
+ghost use Rattle.orc_heap.specs.{Seats.{IsIdle, Seat, heap_of}, Slots.{Slots}, declared.events.Place.{Place}};
+ghost use Rattle.orc_history.specs.{declared.set.SetEntry.{SetEntry}, Parts.{WithinPart}};
+ghost use Rattle.orc_ordered_search.specs.{
+  Inserts.{HasRoomFor, InsertAnswers, Inserts, InsertsTurns, KeepsNode, answer_by},
+  declared.turn.InsertTurn.{InsertTurn},
+};
+ghost use Rattle.orc_split_rule.specs.{SplitDiscipline.{greatest}, SplitOrder.{key_place}, declared.split.SplitNote.{SplitNote}};
+ghost use Rattle.orc_split_set.specs.{Crowds.{BeginsBy, CountsFrom, CountsKeys}, SplitSearches.{BeginsAt, split_reading}};
 
 use crate::begin::{Begun, begin};
 use crate::node::NewNode;

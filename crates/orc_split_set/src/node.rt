@@ -1,8 +1,7 @@
 //! Nodes that are to be linked.
 
 ghost use Rattle.std.specs.Prelude.{◌≡◌};
-ghost use Rattle.orc_split_set.specs.NewNodes.{kind_of, place_for, node_value};
-ghost use Rattle.orc_split_set.specs.SplitSearches.{rank_of_place};
+ghost use Rattle.orc_split_set.specs.{NewNodes.{kind_of, place_for, node_value}, SplitSearches.{rank_of_place}};
 
 use crate::order::SplitPlace;
 

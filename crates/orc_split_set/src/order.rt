@@ -1,11 +1,11 @@
 //! Split order.
 
 ghost use Rattle.std.specs.Prelude.{◌≡◌, ◌≢◌, ◌<◌, true, false};
-ghost use Rattle.orc_split_rule.specs.SplitOrder.{key_place, reversed};
-ghost use Rattle.orc_split_rule.specs.declared.split.SplitNote.{SplitNote};
-ghost use Rattle.orc_split_set.specs.Laws.Entries.{split_allows_absence, split_allows_add, split_allows_aim, split_allows_mark, split_allows_presence, split_allows_unlink, split_enters, split_enters_none};
-ghost use Rattle.orc_split_set.specs.Laws.Ordered.{split_ordered};
-ghost use Rattle.orc_split_set.specs.SplitSearches.{rank_of_place, split_manner};
+ghost use Rattle.orc_split_rule.specs.{SplitOrder.{key_place, reversed}, declared.split.SplitNote.{SplitNote}};
+ghost use Rattle.orc_split_set.specs.{
+  Laws.{Entries.{split_allows_absence, split_allows_add, split_allows_aim, split_allows_mark, split_allows_presence, split_allows_unlink, split_enters, split_enters_none}, Ordered.{split_ordered}},
+  SplitSearches.{rank_of_place, split_manner},
+};
 
 use orc_heap::{Held, Links};
 use orc_history::SetEntry;

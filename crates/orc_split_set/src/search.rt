@@ -2,13 +2,10 @@
 
 ghost use Rattle.std.specs.Prelude.{◌<◌};
 ghost use mathlib.Core.List.{IsPrefix};
-ghost use Rattle.orc_heap.specs.Seats.{Seat};
-ghost use Rattle.orc_heap.specs.declared.events.Place.{Place};
-ghost use Rattle.orc_ordered_search.specs.Searches.{HasRoom};
-ghost use Rattle.orc_ordered_search.specs.Steps.{Finds};
+ghost use Rattle.orc_heap.specs.{Seats.{Seat}, declared.events.Place.{Place}};
+ghost use Rattle.orc_ordered_search.specs.{Searches.{HasRoom}, Steps.{Finds}};
 ghost use Rattle.orc_split_rule.specs.declared.split.SplitNote.{SplitNote};
-ghost use Rattle.orc_split_set.specs.NewNodes.{place_for};
-ghost use Rattle.orc_split_set.specs.SplitSearches.{BeginsAt, split_reading};
+ghost use Rattle.orc_split_set.specs.{NewNodes.{place_for}, SplitSearches.{BeginsAt, split_reading}};
 
 use crate::node::NewNode;
 use orc_heap::{Held, Links};

@@ -6,8 +6,7 @@ ghost use Rattle.orc_fault.specs.declared.Spent.{Spent};
 ghost use Rattle.orc_heap.specs.Seats.{IsIdle};
 ghost use Rattle.orc_ordered_search.specs.declared.turn.InsertTurn.{InsertTurn};
 ghost use Rattle.orc_split_rule.specs.SplitDiscipline.{greatest};
-ghost use Rattle.orc_split_set.specs.SetCalls.{FindsWorn, LacksRow};
-ghost use Rattle.orc_split_set.specs.Stops.{StopsUnnamed, linked_by};
+ghost use Rattle.orc_split_set.specs.{SetCalls.{FindsWorn, LacksRow}, Stops.{StopsUnnamed, linked_by}};
 
 use crate::node::NewNode;
 use crate::order::SplitPlace;

@@ -1,7 +1,6 @@
 //! The queues of a pipeline as what posters and stages work at.
 ghost use Rattle.std.specs.Prelude.{ℕ, ◌≡◌, ◌≢◌, ◌<◌, length};
-ghost use Rattle.orc_stages.specs.Desks.{ArePasses, HasAgent, LearnEach};
-ghost use Rattle.orc_stages.specs.Learning.{AreFor, AreKnown, stage_site};
+ghost use Rattle.orc_stages.specs.{Desks.{ArePasses, HasAgent, LearnEach}, Learning.{AreFor, AreKnown, stage_site}};
 
 use crate::StageDesk;
 use orc_history::{LearnQueue, SharedQueue};

@@ -3,9 +3,7 @@ ghost use Rattle.std.specs.Prelude.{◌≡◌, ◌≢◌, ◌<◌, ◌≤◌, �
 ghost use Rattle.orc_history.specs.declared.queue.QueueEntry.{QueueEntry};
 ghost use Rattle.orc_board.specs.DeskCalls.{KeepsQueueAgent, QueueEndsWith};
 ghost use Rattle.orc_jobs.specs.GoodLines.{AreGood};
-ghost use Rattle.orc_stages.specs.Calls.{TakesOnly};
-ghost use Rattle.orc_stages.specs.Caller.{CallerMoved, MovedBetween};
-ghost use Rattle.orc_stages.specs.Desks.{ArePasses};
+ghost use Rattle.orc_stages.specs.{Calls.{TakesOnly}, Caller.{CallerMoved, MovedBetween}, Desks.{ArePasses}};
 
 use crate::{OutList, StageWorker, move_rest};
 use orc_board::take_job;

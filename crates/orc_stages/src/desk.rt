@@ -1,7 +1,6 @@
 //! The work of a poster and of a stage, each at a desk of its own.
 ghost use Rattle.std.specs.Prelude.{◌≡◌, ◌<◌, ◌≤◌, ◌+◌, ◌∷◌, [], length};
-ghost use Rattle.orc_jobs.specs.GoodLines.{AreGood};
-ghost use Rattle.orc_jobs.specs.Line.{jobs_in};
+ghost use Rattle.orc_jobs.specs.{GoodLines.{AreGood}, Line.{jobs_in}};
 ghost use Rattle.orc_board.specs.Follows.{own_records};
 ghost use Rattle.orc_stages.specs.Desks.{ArePasses, PosterDid, StageDid};
 

@@ -1,7 +1,5 @@
 //! What follows from the definition of a pipeline, and what makes one.
-ghost use Rattle.orc_stages.specs.Desks.{view_at};
-ghost use Rattle.orc_stages.specs.Pipeline.{AllComeOut};
-ghost use Rattle.orc_stages.specs.Ran.{RunsArePipelines};
+ghost use Rattle.orc_stages.specs.{Desks.{view_at}, Pipeline.{AllComeOut}, Ran.{RunsArePipelines}};
 
 use orc_history::SharedQueue;
 

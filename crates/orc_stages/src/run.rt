@@ -2,10 +2,12 @@
 ghost use Rattle.std.specs.Prelude.{ℕ, ◌≡◌, ◌+◌, ◌-◌, ◌*◌, ◌≤◌, [], length, IfOk, OnErr, vec_len};
 ghost use Rattle.orc_jobs.specs.GoodLines.{AreGood};
 ghost use Rattle.orc_team.specs.Seats.{AreSeated, IsEmptyRoom, all_of};
-ghost use Rattle.orc_stages.specs.Desks.{ArePasses};
-ghost use Rattle.orc_stages.specs.Learning.{AreFor};
-ghost use Rattle.orc_stages.specs.Team.{DidWork, IsReady};
-ghost use Rattle.orc_stages.specs.Run.{AllCameBack, AreFresh, AreIdle, Begins, CallerMovedFor, HaveSeenTheSame, IsNew, IsRunOf};
+ghost use Rattle.orc_stages.specs.{
+  Desks.{ArePasses},
+  Learning.{AreFor},
+  Team.{DidWork, IsReady},
+  Run.{AllCameBack, AreFresh, AreIdle, Begins, CallerMovedFor, HaveSeenTheSame, IsNew, IsRunOf},
+};
 
 use crate::at_queues::{AtQueues, tell_laws};
 use crate::{OutList, StageDesk, StageList, StageReply, StageWorker, move_all, run_worker};

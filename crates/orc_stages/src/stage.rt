@@ -1,11 +1,9 @@
 //! One stage: it takes a job from its queue, and puts it into the next.
 ghost use Rattle.std.specs.Prelude.{◌≡◌, ◌≢◌, ◌≤◌, ◌<◌, ◌+◌, ◌∷◌, [], length, IfNone, true, false};
 ghost use Rattle.orc_history.specs.declared.queue.QueueEntry.{QueueEntry};
-ghost use Rattle.orc_jobs.specs.GoodLines.{AreGood};
-ghost use Rattle.orc_jobs.specs.Line.{jobs_in};
+ghost use Rattle.orc_jobs.specs.{GoodLines.{AreGood}, Line.{jobs_in}};
 ghost use Rattle.orc_board.specs.DeskCalls.{KeepsQueueAgent, QueueEndsWith};
-ghost use Rattle.orc_stages.specs.Stage.{IsItem, IsNoItem, IsStageValue};
-ghost use Rattle.orc_stages.specs.Calls.{AreStagePasses, Moves, MovesOne, MovesMore, PutsItem};
+ghost use Rattle.orc_stages.specs.{Stage.{IsItem, IsNoItem, IsStageValue}, Calls.{AreStagePasses, Moves, MovesOne, MovesMore, PutsItem}};
 
 use crate::{StageList, StageReply};
 use orc_board::{Gate, put_job, take_job};

@@ -2,8 +2,7 @@
 
 ghost use Rattle.std.specs.Prelude.{◌≡◌, ◌≤◌, IfOk, length};
 ghost use Rattle.std.specs.List.{AllByRecursion};
-ghost use Rattle.orc_stages.specs.Learning.{AreFor};
-ghost use Rattle.orc_stages.specs.Run.{AreFresh};
+ghost use Rattle.orc_stages.specs.{Learning.{AreFor}, Run.{AreFresh}};
 ghost use Rattle.orc_at_rest.specs.Domains.{run_bounds};
 ghost use Rattle.orc_stages_run.specs.Queues.{IsMade};
 

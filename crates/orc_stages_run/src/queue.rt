@@ -5,14 +5,14 @@ ghost use Rattle.orc_fifo_rule.specs.QueueDiscipline.{position_of};
 ghost use Rattle.orc_heap.specs.Journals.{run_heap};
 ghost use Rattle.orc_projection.specs.Projection.{project};
 ghost use Rattle.orc_queue.specs.Laws.Histories.{cause_puts, cause_stays, entries_below, history_grows, seen_legal};
-ghost use Rattle.orc_domain.specs.Causes.{IsLacking};
-ghost use Rattle.orc_domain.specs.Laws.Adding.{one_more};
-ghost use Rattle.orc_domain.specs.Laws.Lasting.{lacking_later};
-ghost use Rattle.orc_domain.specs.Laws.Passes.{all_below, begins_so};
-ghost use Rattle.orc_domain.specs.Rest.{IsRestOf};
+ghost use Rattle.orc_domain.specs.{
+  Causes.{IsLacking},
+  Laws.{Adding.{one_more}, Lasting.{lacking_later}, Passes.{all_below, begins_so}},
+  Rest.{IsRestOf},
+  Passes.{domain_bounds, domain_numbers, domain_opening, journal_of, seat_of},
+};
 ghost use Rattle.orc_machine_board.specs.Views.{board_seed};
 ghost use Rattle.orc_at_rest.specs.Domains.{queue_seed, run_bounds};
-ghost use Rattle.orc_domain.specs.Passes.{domain_bounds, domain_numbers, domain_opening, journal_of, seat_of};
 
 use orc_at_rest::shape_of;
 use orc_containers::{queue_at_rest, queue_over};

@@ -3,9 +3,7 @@
 ghost use Rattle.std.specs.Prelude.{◌≡◌, ◌+◌, ◌<◌, ◌≤◌, ◌^◌, [], vec_len, vec_capacity};
 ghost use Rattle.std.specs.List.{AllByRecursion};
 ghost use Rattle.std.specs.Thread.{IsSync};
-ghost use Rattle.orc_stress.specs.Answers.{calls_of};
-ghost use Rattle.orc_stress.specs.Parts.{HaveRun, calls_of_agent, calls_of_agents};
-ghost use Rattle.orc_stress.specs.Passes.{Stay, Stays};
+ghost use Rattle.orc_stress.specs.{Answers.{calls_of}, Parts.{HaveRun, calls_of_agent, calls_of_agents}, Passes.{Stay, Stays}};
 
 use crate::container::{Container, Outcome};
 use crate::load::{Ask, Draws, Plan};

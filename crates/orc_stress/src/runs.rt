@@ -2,9 +2,7 @@
 
 ghost use Rattle.std.specs.Prelude.{◌≡◌, ◌≤◌, IfOk, vec_len};
 ghost use Rattle.std.specs.List.{AllByRecursion};
-ghost use Rattle.orc_stress.specs.Answers.{calls_of};
-ghost use Rattle.orc_stress.specs.Parts.{calls_of_agents};
-ghost use Rattle.orc_stress.specs.Passes.{Stay, Stays};
+ghost use Rattle.orc_stress.specs.{Answers.{calls_of}, Parts.{calls_of_agents}, Passes.{Stay, Stays}};
 
 use crate::agents::{Ran, Start, run_all};
 use crate::container::{Container, Outcome};

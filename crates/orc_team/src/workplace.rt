@@ -1,7 +1,6 @@
 //! What a team works at.
 ghost use Rattle.std.specs.Prelude.{◌≡◌, ◌≢◌, ℕ};
-ghost use Rattle.orc_team.specs.Site.{Site};
-ghost use Rattle.orc_team.specs.Learning.{LearnEach};
+ghost use Rattle.orc_team.specs.{Site.{Site}, Learning.{LearnEach}};
 
 /// What the workers of a team work at: one container, or several. A worker's desk has its passes of them, which learn from those
 /// of others: once a desk has learned from all others, it has seen the calls of each; once it has done so again, so have the others.

@@ -2,15 +2,14 @@
 
 ghost use Rattle.std.specs.Prelude.{◌≡◌, ◌≢◌, ◌⊎◌, ◌+◌, ◌<◌, ◌^◌, List, None, ℕ, [], IfErr, IfOk, MatchResult, length};
 ghost use Rattle.orc_words.specs.Bounds.{bounds_of};
-ghost use Rattle.orc_core.specs.declared.ops.Op.{Op};
-ghost use Rattle.orc_core.specs.Machine.{new_machine};
-ghost use Rattle.orc_core.specs.Runs.{run};
-ghost use Rattle.orc_trace.specs.declared.answers.Audit.{Audit};
-ghost use Rattle.orc_trace.specs.declared.answers.TraceFault.{TraceFault};
-ghost use Rattle.orc_trace.specs.Audit.{IsAudit, lives_of};
-ghost use Rattle.orc_trace.specs.Replay.{BeginsWithSteps, IsStepFault, RefusesTrace};
-ghost use Rattle.orc_trace.specs.Reaching.{HasMarks};
-ghost use Rattle.orc_trace.specs.Watched.{LeakOn, SeesSteps, WorseOf, waiting};
+ghost use Rattle.orc_core.specs.{declared.ops.Op.{Op}, Machine.{new_machine}, Runs.{run}};
+ghost use Rattle.orc_trace.specs.{
+  declared.answers.{Audit.{Audit}, TraceFault.{TraceFault}},
+  Audit.{IsAudit, lives_of},
+  Replay.{BeginsWithSteps, IsStepFault, RefusesTrace},
+  Reaching.{HasMarks},
+  Watched.{LeakOn, SeesSteps, WorseOf, waiting},
+};
 
 use crate::answers::{Audit, Leak, TraceFault};
 use crate::leaks::leak_in;

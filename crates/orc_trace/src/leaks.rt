@@ -2,8 +2,7 @@
 
 ghost use Rattle.std.specs.Prelude.{◌≡◌, ◌<◌, ℕ, IfNone, IfSome, true, false};
 ghost use Rattle.std.specs.List.{list_any};
-ghost use Rattle.orc_trace.specs.Reaching.{HasMarks};
-ghost use Rattle.orc_trace.specs.Watched.{IsLeastLeak, at_rest, slot_holds, is_lost, rests, rests_at};
+ghost use Rattle.orc_trace.specs.{Reaching.{HasMarks}, Watched.{IsLeastLeak, at_rest, slot_holds, is_lost, rests, rests_at}};
 
 use crate::reaching::Reach;
 use crate::waiting::handovers_of;

@@ -2,12 +2,11 @@
 
 ghost use Rattle.std.specs.Prelude.{◌≡◌, ◌≢◌, ◌⊎◌, List, ℕ, [], IfErr, IfOk, MatchResult, length};
 ghost use Rattle.orc_words.specs.Bounds.{bounds_of};
-ghost use Rattle.orc_core.specs.declared.ops.Op.{Op};
-ghost use Rattle.orc_core.specs.Machine.{new_machine};
-ghost use Rattle.orc_core.specs.Runs.{run};
-ghost use Rattle.orc_trace.specs.declared.answers.Replayed.{Replayed};
-ghost use Rattle.orc_trace.specs.declared.answers.TraceFault.{TraceFault};
-ghost use Rattle.orc_trace.specs.Replay.{BeginsWithSteps, IsReplay, IsStepFault, RefusesTrace};
+ghost use Rattle.orc_core.specs.{declared.ops.Op.{Op}, Machine.{new_machine}, Runs.{run}};
+ghost use Rattle.orc_trace.specs.{
+  declared.answers.{Replayed.{Replayed}, TraceFault.{TraceFault}},
+  Replay.{BeginsWithSteps, IsReplay, IsStepFault, RefusesTrace},
+};
 
 use crate::answers::{Replayed, TraceFault};
 use orc_core::{State, apply, census};

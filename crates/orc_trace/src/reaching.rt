@@ -1,12 +1,12 @@
 //! The rows to which links lead from the roots.
 
 ghost use Rattle.std.specs.Prelude.{◌≡◌, ◌<◌, ℕ, IfOk, true, false, length};
-ghost use Rattle.orc_words.specs.Bounds.{bounds_of};
-ghost use Rattle.orc_words.specs.Places.{link_at};
-ghost use Rattle.orc_words.specs.declared.place.Word.{Word};
+ghost use Rattle.orc_words.specs.{Bounds.{bounds_of}, Places.{link_at}, declared.place.Word.{Word}};
 ghost use Rattle.orc_core.specs.Counts.{links_to};
-ghost use Rattle.orc_trace.specs.Audit.{IsLinkedToARoot};
-ghost use Rattle.orc_trace.specs.Reaching.{AreFound, AreTargetsMarked, FindsMore, HasMarks, MarksReached, is_marked};
+ghost use Rattle.orc_trace.specs.{
+  Audit.{IsLinkedToARoot},
+  Reaching.{AreFound, AreTargetsMarked, FindsMore, HasMarks, MarksReached, is_marked},
+};
 
 use orc_core::State;
 use orc_fault::NoMemory;

@@ -1,8 +1,7 @@
 //! The retired rows that wait outside the work lists, counted where they wait.
 
 ghost use Rattle.std.specs.Prelude.{◌≡◌, ◌<◌, ◌≤◌, ◌*◌};
-ghost use Rattle.orc_core.specs.Counts.{handovers};
-ghost use Rattle.orc_core.specs.Sums.{sum_below};
+ghost use Rattle.orc_core.specs.{Counts.{handovers}, Sums.{sum_below}};
 ghost use Rattle.orc_trace.specs.Watched.{has_bit, waiting, waiting_at};
 
 use orc_core::{Doom, State};

@@ -3,11 +3,8 @@
 ghost use Rattle.std.specs.Prelude.{◌≡◌, ◌≢◌, ◌<◌, ◌∷◌, [], ℕ, IfNone, IfSome, Option};
 ghost use Rattle.std.specs.Fmt.{decimal};
 ghost use Rattle.std.specs.Option.{ForSome, option_copied};
-ghost use Rattle.orc_words.specs.declared.packed.RowLink.{RowLink};
-ghost use Rattle.orc_words.specs.declared.place.Word.{Word};
-ghost use Rattle.orc_words.specs.Bounds.{bounds_of};
-ghost use Rattle.orc_trace_text.specs.Reading.{words_left};
-ghost use Rattle.orc_trace_text.specs.TraceText.{IsLink, IsPlace, link_text, place_text, target_text};
+ghost use Rattle.orc_words.specs.{declared.packed.RowLink.{RowLink}, declared.place.Word.{Word}, Bounds.{bounds_of}};
+ghost use Rattle.orc_trace_text.specs.{Reading.{words_left}, TraceText.{IsLink, IsPlace, link_text, place_text, target_text}};
 
 use crate::cut::{cut, one_word, two_words};
 use crate::kind::is_the_word;

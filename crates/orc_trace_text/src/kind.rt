@@ -1,8 +1,7 @@
 //! The words that name the kinds of steps.
 
 ghost use Rattle.std.specs.Prelude.{◌≡◌, ◌≢◌, IfNone, IfSome, true, false};
-ghost use Rattle.orc_trace_text.specs.Reading.{kind_word};
-ghost use Rattle.orc_trace_text.specs.declared.kind.StepKind.{StepKind};
+ghost use Rattle.orc_trace_text.specs.{Reading.{kind_word}, declared.kind.StepKind.{StepKind}};
 
 /// What a word asks for: a kind of step, or one of the three uses of a counter's load.
 #[derive(Clone, Copy)]

@@ -4,9 +4,7 @@ ghost use Rattle.std.specs.Prelude.{◌≡◌, ◌≢◌, ℕ, List, IfNone, IfS
 ghost use Rattle.std.specs.Option.{option_copied};
 ghost use Rattle.orc_words.specs.Bounds.{bounds_of};
 ghost use Rattle.orc_core.specs.declared.ops.Op.{Op};
-ghost use Rattle.orc_trace_text.specs.Reading.{Spells, words_left};
-ghost use Rattle.orc_trace_text.specs.FirstLines.{HasStepLine};
-ghost use Rattle.orc_trace_text.specs.TraceText.{IsReadable, step_line};
+ghost use Rattle.orc_trace_text.specs.{Reading.{Spells, words_left}, FirstLines.{HasStepLine}, TraceText.{IsReadable, step_line}};
 
 use crate::argument::{number_below, one_number, read_link, read_place, row_and_link, two_numbers};
 use crate::cut::{cut, first_word, three_words, two_words};

@@ -4,10 +4,12 @@ ghost use Rattle.std.specs.Prelude.{◌≡◌, ◌∷◌, ◌≢◌, List, ℕ, 
 ghost use Rattle.std.specs.Fmt.{decimal};
 ghost use Rattle.std.specs.Option.{option_copied};
 ghost use Rattle.orc_words.specs.Bounds.{Bounds, IsShape, bounds_of};
-ghost use Rattle.orc_trace_text.specs.Asked.{bounds_asked};
-ghost use Rattle.orc_trace_text.specs.FirstLines.{HasTable, IsFirstOut, IsShapeFault};
-ghost use Rattle.orc_trace_text.specs.Reading.{EndsInLinks, words_left};
-ghost use Rattle.orc_trace_text.specs.TraceText.{AreWide, IsShapeText, IsWide};
+ghost use Rattle.orc_trace_text.specs.{
+  Asked.{bounds_asked},
+  FirstLines.{HasTable, IsFirstOut, IsShapeFault},
+  Reading.{EndsInLinks, words_left},
+  TraceText.{AreWide, IsShapeText, IsWide},
+};
 
 use crate::cut::{cut, first_word, one_word};
 use crate::kind::is_the_word;

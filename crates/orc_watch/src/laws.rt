@@ -1,7 +1,9 @@
 ghost use Rattle.std.specs.Prelude.{◌≡◌, ◌≢◌, List, ℕ};
-ghost use Rattle.orc_watch.specs.WatchGrammar.{HasCause, IsLine, record_of};
-ghost use Rattle.orc_watch.specs.declared.cause.WatchCause.{WatchCause as Cause};
-ghost use Rattle.orc_watch.specs.declared.line.WatchLine.{WatchLine as Line};
+ghost use Rattle.orc_watch.specs.{
+  WatchGrammar.{HasCause, IsLine, record_of},
+  declared.cause.WatchCause.{WatchCause as Cause},
+  declared.line.WatchLine.{WatchLine as Line},
+};
 
 /// A law, with nothing to run: a record is the spelling of one line at most, has one cause at most,
 /// and never both or neither.

@@ -1,8 +1,10 @@
 ghost use Rattle.std.specs.Prelude.{List, ℕ, IfErr, IfOk};
 ghost use Rattle.orc_jobs.specs.OneRecord.{GivesFault, GivesLines};
-ghost use Rattle.orc_watch.specs.WatchGrammar.{IsFileOf, Refuses};
-ghost use Rattle.orc_watch.specs.declared.cause.WatchCause.{WatchCause as Cause};
-ghost use Rattle.orc_watch.specs.declared.line.WatchLine.{WatchLine as Line};
+ghost use Rattle.orc_watch.specs.{
+  WatchGrammar.{IsFileOf, Refuses},
+  declared.cause.WatchCause.{WatchCause as Cause},
+  declared.line.WatchLine.{WatchLine as Line},
+};
 
 use crate::{WatchCause, WatchLines};
 use orc_jobs::{FileRefused, read_records};

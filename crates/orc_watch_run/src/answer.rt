@@ -1,11 +1,9 @@
 //! What a worker does with one line.
 
 ghost use Rattle.std.specs.Prelude.{◌≡◌, ◌≢◌, ◌⊎◌, [], ◌∷◌, IfErr, IfOk, None};
-ghost use Rattle.orc_cell.specs.CellCalls.{IsUsable};
-ghost use Rattle.orc_cell.specs.declared.refused.CellRefused.{CellRefused};
+ghost use Rattle.orc_cell.specs.{CellCalls.{IsUsable}, declared.refused.CellRefused.{CellRefused}};
 ghost use Rattle.orc_pairs_rule.specs.declared.entry.CellEntry.{CellEntry};
-ghost use Rattle.orc_watch_run.specs.Follows.{AsksToPublish};
-ghost use Rattle.orc_watch_run.specs.WatchCalls.{AnswersLine, CellCall, CellRefuses, KeepsAgent};
+ghost use Rattle.orc_watch_run.specs.{Follows.{AsksToPublish}, WatchCalls.{AnswersLine, CellCall, CellRefuses, KeepsAgent}};
 
 use orc_board::TURNS;
 use orc_cell::{Cell, CellRefused};

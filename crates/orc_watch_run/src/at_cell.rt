@@ -1,6 +1,5 @@
 //! The cell as what the workers of a watch work at.
-ghost use Rattle.orc_watch_run.specs.Learning.{LawsTell, cell_site};
-ghost use Rattle.orc_watch_run.specs.Passes.{IsUsablePassOf};
+ghost use Rattle.orc_watch_run.specs.{Learning.{LawsTell, cell_site}, Passes.{IsUsablePassOf}};
 
 use orc_cell::Cell;
 use orc_heap::Links;

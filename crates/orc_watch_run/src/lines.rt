@@ -2,8 +2,7 @@
 
 ghost use Rattle.std.specs.Prelude.{◌≡◌, ◌+◌, ◌≤◌, [], length, map};
 ghost use Rattle.orc_board.specs.Follows.{own_records};
-ghost use Rattle.orc_watch_run.specs.Passes.{IsUsablePassOf};
-ghost use Rattle.orc_watch_run.specs.WatchCalls.{Watches};
+ghost use Rattle.orc_watch_run.specs.{Passes.{IsUsablePassOf}, WatchCalls.{Watches}};
 
 use crate::answer::answer_line;
 use orc_board::Gate;

@@ -2,9 +2,11 @@
 
 ghost use Rattle.std.specs.Prelude.{◌≡◌, ◌+◌, ◌≤◌, IfOk, OnErr, length, vec_len};
 ghost use Rattle.orc_team.specs.Seats.{AreSeated, all_of};
-ghost use Rattle.orc_watch_run.specs.CameBack.{AllCameBack, IsNew};
-ghost use Rattle.orc_watch_run.specs.Passes.{AreFresh, AreUsable, FollowsPasses, HaveSeenTheSame, IsFreshPass};
-ghost use Rattle.orc_watch_run.specs.Team.{DidWork, IsReady, IsRoom};
+ghost use Rattle.orc_watch_run.specs.{
+  CameBack.{AllCameBack, IsNew},
+  Passes.{AreFresh, AreUsable, FollowsPasses, HaveSeenTheSame, IsFreshPass},
+  Team.{DidWork, IsReady, IsRoom},
+};
 
 use crate::answer::read_parts;
 use crate::at_cell::{AtCell, tell_laws};

@@ -1,10 +1,12 @@
 //! The words of a new table.
 
 ghost use Rattle.std.specs.Prelude.{◌≡◌, IfOk, length, slice_index};
-ghost use Rattle.orc_words.specs.declared.place.Word.{Word};
-ghost use Rattle.orc_words.specs.Bounds.{Bounds, bounds_of};
-ghost use Rattle.orc_words.specs.NewWords.{first_word, is_counter_place, new_word, new_words};
-ghost use Rattle.orc_words.specs.Places.{IsWithin, place, places};
+ghost use Rattle.orc_words.specs.{
+  declared.place.Word.{Word},
+  Bounds.{Bounds, bounds_of},
+  NewWords.{first_word, is_counter_place, new_word, new_words},
+  Places.{IsWithin, place, places},
+};
 
 use crate::packed::NEW_COUNTER;
 use crate::shape::Shape;

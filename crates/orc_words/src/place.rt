@@ -1,9 +1,7 @@
 //! The words of a table, and the place of each.
 
 ghost use Rattle.std.specs.Prelude.{◌≡◌, ◌<◌};
-ghost use Rattle.orc_words.specs.declared.place.Word.{Word};
-ghost use Rattle.orc_words.specs.Bounds.{Bounds, bounds_of};
-ghost use Rattle.orc_words.specs.Places.{IsWithin, link_at, place, places};
+ghost use Rattle.orc_words.specs.{declared.place.Word.{Word}, Bounds.{Bounds, bounds_of}, Places.{IsWithin, link_at, place, places}};
 
 use crate::Shape;
 

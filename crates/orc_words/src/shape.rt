@@ -40,8 +40,7 @@ pub enum ShapeFault {
 
 impl Shape {
     ghost use Rattle.std.specs.Prelude.{IfOk, IfErr};
-    ghost use Rattle.orc_words.specs.Bounds.{Bounds, bounds_of, IsShape, IsFirstFault, link_limit};
-    ghost use Rattle.orc_words.specs.Places.{places, words_of_rows};
+    ghost use Rattle.orc_words.specs.{Bounds.{Bounds, bounds_of, IsShape, IsFirstFault, link_limit}, Places.{places, words_of_rows}};
 
     /// A shape of 2 to 65,535 rows, 1 to 257 roots and 1 to 16 agents, with a limit of 1 to 2^39. Its rows have one link.
     pub fn new(rows: u32, roots: u32, agents: u32, limit: u64) -> Result<Shape, ShapeFault>

@@ -1,13 +1,14 @@
 //! A whole run.
 ghost use Rattle.std.specs.Prelude.{◌≡◌, ◌+◌, ◌≤◌, Bool, [], length, IfOk, OnErr, vec_len};
-ghost use Rattle.orc_history.specs.QueueHistory.{IsLegalQueue, waiting_after};
-ghost use Rattle.orc_history.specs.SetHistory.{IsLegalSet};
+ghost use Rattle.orc_history.specs.{QueueHistory.{IsLegalQueue, waiting_after}, SetHistory.{IsLegalSet}};
 ghost use Rattle.orc_jobs.specs.GoodLines.{AreGood};
 ghost use Rattle.orc_board.specs.Reportable.{AreReportable};
-ghost use Rattle.orc_workers.specs.Desks.{IsFreshDesk, AreFresh, AreIdle, HaveSeenTheSame, RepliesFollow, queue_history, set_history};
+ghost use Rattle.orc_workers.specs.{
+  Desks.{IsFreshDesk, AreFresh, AreIdle, HaveSeenTheSame, RepliesFollow, queue_history, set_history},
+  Team.{DidWork, IsReady},
+  CameBack.{IsNew, AllCameBack},
+};
 ghost use Rattle.orc_team.specs.Seats.{AreSeated, IsEmptyRoom, all_of};
-ghost use Rattle.orc_workers.specs.Team.{DidWork, IsReady};
-ghost use Rattle.orc_workers.specs.CameBack.{IsNew, AllCameBack};
 
 use crate::at_board::{AtBoard, tell_laws};
 use crate::team::{BoardWorker, run_worker};

@@ -1,10 +1,7 @@
 //! The work of a poster and of a taker, each at a desk of its own.
 ghost use Rattle.std.specs.Prelude.{◌≡◌, ◌≤◌, ◌<◌, ◌+◌, [], ◌∷◌, length, map};
-ghost use Rattle.orc_jobs.specs.GoodLines.{AreGood};
-ghost use Rattle.orc_jobs.specs.Line.{jobs_in};
-ghost use Rattle.orc_board.specs.Desk.{IsDesk};
-ghost use Rattle.orc_board.specs.DeskCalls.{FindsBothEmpty, Posts, TakesRest};
-ghost use Rattle.orc_board.specs.Follows.{own_records};
+ghost use Rattle.orc_jobs.specs.{GoodLines.{AreGood}, Line.{jobs_in}};
+ghost use Rattle.orc_board.specs.{Desk.{IsDesk}, DeskCalls.{FindsBothEmpty, Posts, TakesRest}, Follows.{own_records}};
 
 use orc_board::{Desk, Gate, PostList, TakeList, post_records, take_one};
 use orc_history::{SharedQueue, SharedSet};

@@ -2,8 +2,7 @@
 
 ghost use Rattle.std.specs.Prelude.{◌≡◌, ◌+◌, ◌*◌, ◌≤◌, ℕ, IfOk, length};
 ghost use Rattle.orc_any_domain.specs.Domains.{AreAllIdle};
-ghost use Rattle.orc_stress.specs.Answers.{calls_of};
-ghost use Rattle.orc_stress.specs.Passes.{AreReady};
+ghost use Rattle.orc_stress.specs.{Answers.{calls_of}, Passes.{AreReady}};
 
 use orc_any_domain::Domain;
 use orc_fault::NoMemory;

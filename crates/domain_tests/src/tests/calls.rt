@@ -2,9 +2,7 @@
 
 ghost use Rattle.std.specs.Prelude.{◌≡◌, ◌<◌, All, None, Some, if◌then◌else◌, length};
 ghost use Rattle.orc_any_domain.specs.Domains.{IsIdlePass};
-ghost use Rattle.orc_heap.specs.Calls.{unless_node};
-ghost use Rattle.orc_heap.specs.Seats.{HoldsFresh, HoldsTarget, HoldsWant, link_in};
-ghost use Rattle.orc_heap.specs.Slots.{Holds, IsFree};
+ghost use Rattle.orc_heap.specs.{Calls.{unless_node}, Seats.{HoldsFresh, HoldsTarget, HoldsWant, link_in}, Slots.{Holds, IsFree}};
 ghost use Rattle.orc_shared_words.specs.Lists.{EachAt};
 
 use orc_heap::{At, Held, Links, Want};

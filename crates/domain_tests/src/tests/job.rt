@@ -1,14 +1,15 @@
 //! A job goes through a queue of two rows, and the row that it leaves is freed.
 
 ghost use Rattle.std.specs.Prelude.{◌≡◌, ◌++◌, ◌∷◌, [], IfSome, None, Some, true};
-ghost use Rattle.orc_core.specs.declared.ops.Op.{Op};
+ghost use Rattle.orc_core.specs.{declared.ops.Op.{Op}, Runs.{run}};
 ghost use Rattle.orc_fifo_rule.specs.QueueDiscipline.{FifoMay};
 ghost use Rattle.domain_tests.specs.JobRun.{IsPlayed, after_put, before_put, before_took, exchanged, opened, own_steps, small};
-ghost use Rattle.orc_core.specs.Runs.{run};
-ghost use Rattle.orc_machine_board.specs.Licences.{MoveAllowed};
-ghost use Rattle.orc_machine_board.specs.Plays.{by_agent};
-ghost use Rattle.orc_machine_board.specs.Rules.{does, run_of};
-ghost use Rattle.orc_machine_board.specs.Views.{board_bounds, board_numbers, shows};
+ghost use Rattle.orc_machine_board.specs.{
+  Licences.{MoveAllowed},
+  Plays.{by_agent},
+  Rules.{does, run_of},
+  Views.{board_bounds, board_numbers, shows},
+};
 ghost use Rattle.orc_words.specs.Bounds.{bounds_of};
 
 use super::steps::{exchange, follow, make_one, make_ones, step, steps};

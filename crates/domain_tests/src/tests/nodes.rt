@@ -2,8 +2,7 @@
 
 ghost use Rattle.std.specs.Prelude.{◌≡◌, ◌<◌, All, IfSome, if◌then◌else◌, length};
 ghost use Rattle.orc_any_domain.specs.Domains.{IsIdlePass};
-ghost use Rattle.orc_heap.specs.Calls.{unless_node};
-ghost use Rattle.orc_heap.specs.Seats.{HoldsWant, link_in};
+ghost use Rattle.orc_heap.specs.{Calls.{unless_node}, Seats.{HoldsWant, link_in}};
 ghost use Rattle.orc_shared_words.specs.Lists.{EachAt};
 
 use orc_heap::{AnyFit, At, Held, Links, Looked, Want};

@@ -3,10 +3,12 @@
 ghost use Rattle.std.specs.Prelude.{◌≡◌, ◌++◌, ◌∷◌, [], IfSome, None, Some, true};
 ghost use Rattle.domain_tests.specs.JobRun.{IsPlayed, exchanged, own_steps};
 ghost use Rattle.orc_core.specs.Machine.{LeavesRoom, is_allowed, step};
-ghost use Rattle.orc_machine_board.specs.Kinds.{MakesPlain, MayDo};
-ghost use Rattle.orc_machine_board.specs.Licences.{MoveAllowed};
-ghost use Rattle.orc_machine_board.specs.Rules.{does, is_enroll};
-ghost use Rattle.orc_machine_board.specs.Views.{Belongs, board_bounds, board_numbers, shows};
+ghost use Rattle.orc_machine_board.specs.{
+  Kinds.{MakesPlain, MayDo},
+  Licences.{MoveAllowed},
+  Rules.{does, is_enroll},
+  Views.{Belongs, board_bounds, board_numbers, shows},
+};
 
 use orc_core::{Op, State, allowed, apply};
 use orc_heap::Discipline;

@@ -1,9 +1,7 @@
 //! The layout of a small table by hand.
 
 ghost use Rattle.std.specs.Prelude.{◌≡◌};
-ghost use Rattle.orc_words.specs.Bounds.{Bounds};
-ghost use Rattle.orc_words.specs.Places.{place};
-ghost use Rattle.orc_words.specs.declared.place.Word.{Word};
+ghost use Rattle.orc_words.specs.{Bounds.{Bounds}, Places.{place}, declared.place.Word.{Word}};
 ghost use Rattle.orc_layout.specs.Layout.{index};
 
 use orc_layout::{Layout, laid_words};

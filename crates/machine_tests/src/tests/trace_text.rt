@@ -1,12 +1,13 @@
 //! Worked examples of the definitions, computed by hand and proved, and a trace that is read line by line.
 
 ghost use Rattle.std.specs.Prelude.{◌≡◌, ◌≢◌, ◌∷◌, [], Some, None, true, false, codes};
-ghost use Rattle.orc_core.specs.declared.ops.Op.{Op};
-ghost use Rattle.orc_core.specs.declared.ops.CounterUse.{CounterUse};
+ghost use Rattle.orc_core.specs.{declared.ops.{Op.{Op}, CounterUse.{CounterUse}}};
 ghost use Rattle.orc_words.specs.declared.place.Word.{Word};
-ghost use Rattle.orc_trace_text.specs.FirstLines.{IsFirstOut};
-ghost use Rattle.orc_trace_text.specs.Reading.{Cuts, words_in, words_left};
-ghost use Rattle.orc_trace_text.specs.TraceText.{IsReadable, IsShapeText, step_line, place_text, link_text, steps_text};
+ghost use Rattle.orc_trace_text.specs.{
+  FirstLines.{IsFirstOut},
+  Reading.{Cuts, words_in, words_left},
+  TraceText.{IsReadable, IsShapeText, step_line, place_text, link_text, steps_text},
+};
 
 use orc_core::{CounterUse, Op};
 use orc_trace_text::*;

@@ -1,11 +1,13 @@
 //! Worked examples of the definitions, and the calls at concrete values.
 
 ghost use Rattle.std.specs.Prelude.{◌≡◌, ◌≢◌, ◌+◌, ◌<◌, ◌^◌, Some, None, true, false, pos, negsuc, slice_index};
-ghost use Rattle.orc_words.specs.Bounds.{Bounds, IsShape, IsFirstFault};
-ghost use Rattle.orc_words.specs.NewWords.{first_word, new_word, new_words};
-ghost use Rattle.orc_words.specs.Operations.{answer_of, word_after};
-ghost use Rattle.orc_words.specs.Packed.{named, link_word, link_of, counter_word, counter_of, gate_word, gate_of};
-ghost use Rattle.orc_words.specs.Places.{IsWithin, place, places};
+ghost use Rattle.orc_words.specs.{
+  Bounds.{Bounds, IsShape, IsFirstFault},
+  NewWords.{first_word, new_word, new_words},
+  Operations.{answer_of, word_after},
+  Packed.{named, link_word, link_of, counter_word, counter_of, gate_word, gate_of},
+  Places.{IsWithin, place, places},
+};
 
 use orc_words::*;
 use std::test::Fail;

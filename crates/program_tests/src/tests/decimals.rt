@@ -1,8 +1,7 @@
 //! Worked examples of the definitions, and numbers at their bounds.
 
 ghost use Rattle.std.specs.Prelude.{codes};
-ghost use Rattle.orc_decimal.specs.Decimals.{IsDecimal};
-ghost use Rattle.orc_decimal.specs.Canonical.{IsCanonical};
+ghost use Rattle.orc_decimal.specs.{Decimals.{IsDecimal}, Canonical.{IsCanonical}};
 
 use orc_decimal::*;
 

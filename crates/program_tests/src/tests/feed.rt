@@ -1,8 +1,10 @@
 ghost use Rattle.std.specs.Prelude.{ℕ, ◌≡◌, ◌-◌, ◌^◌, ◌<◌, ◌≤◌, ◌∷◌, [], Ok, Some};
 ghost use Rattle.orc_fault.specs.declared.Failed.{Failed as Fault};
-ghost use Rattle.orc_feed.specs.Faults.{CountsFaults, CountsWriteFaults, Rose, one_more};
-ghost use Rattle.orc_feed.specs.InMemory.{moved_count, new_plan, next_plan};
-ghost use Rattle.orc_feed.specs.Whole.{AppendsPrefix, TakesAtMost, TakesWhole};
+ghost use Rattle.orc_feed.specs.{
+  Faults.{CountsFaults, CountsWriteFaults, Rose, one_more},
+  InMemory.{moved_count, new_plan, next_plan},
+  Whole.{AppendsPrefix, TakesAtMost, TakesWhole},
+};
 
 use orc_fault::{Failed, NoMemory};
 use orc_feed::{MemorySink, MemorySource, ReadAll, Sink, Source, read_all, write_all};

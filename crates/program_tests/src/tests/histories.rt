@@ -1,11 +1,13 @@
 //! Definitions at values worked out by hand, and each public call on its happy path and at its limits.
 ghost use Rattle.std.specs.Prelude.{◌≡◌, ◌-◌, ◌<◌, ◌^◌, [], ◌∷◌, Some, None, true, false};
-ghost use Rattle.orc_history.specs.Journals.{Adds, Within, own_of};
-ghost use Rattle.orc_history.specs.QueueHistory.{IsLegalQueue, agent_of_entry, entry_of_dequeue, puts_in, waiting_after};
-ghost use Rattle.orc_history.specs.SetHistory.{IsLegalSet, agent_of_set_entry, has, keys_after, with_key, without_key};
-ghost use Rattle.orc_history.specs.StoredHistory.{HasTurn, LacksTurn, RefusedAt, history_room};
-ghost use Rattle.orc_history.specs.PlainQueue.{IsQueuePass, RefusesEnqueue};
-ghost use Rattle.orc_history.specs.PlainSet.{IsSetPass, RefusesInsert};
+ghost use Rattle.orc_history.specs.{
+  Journals.{Adds, Within, own_of},
+  QueueHistory.{IsLegalQueue, agent_of_entry, entry_of_dequeue, puts_in, waiting_after},
+  SetHistory.{IsLegalSet, agent_of_set_entry, has, keys_after, with_key, without_key},
+  StoredHistory.{HasTurn, LacksTurn, RefusedAt, history_room},
+  PlainQueue.{IsQueuePass, RefusesEnqueue},
+  PlainSet.{IsSetPass, RefusesInsert},
+};
 
 use orc_fault::Again;
 use orc_history::{

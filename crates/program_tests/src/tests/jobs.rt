@@ -1,10 +1,12 @@
 ghost use Rattle.std.specs.Prelude.{◌≡◌, ◌^◌, ◌∷◌, [], codes};
-ghost use Rattle.orc_jobs.specs.Generated.{drawn};
-ghost use Rattle.orc_jobs.specs.GoodLines.{AreGood};
-ghost use Rattle.orc_jobs.specs.JobGrammar.{HasCause, IsFileOf, IsLine, Refuses, record_of, records_of};
-ghost use Rattle.orc_jobs.specs.JobValue.{IsJobValue, word_count};
-ghost use Rattle.orc_jobs.specs.Line.{PostsJob, line_id, jobs_in, text_size};
-ghost use Rattle.orc_jobs.specs.Numbers.{IsNumber, SpellsNumbers};
+ghost use Rattle.orc_jobs.specs.{
+  Generated.{drawn},
+  GoodLines.{AreGood},
+  JobGrammar.{HasCause, IsFileOf, IsLine, Refuses, record_of, records_of},
+  JobValue.{IsJobValue, word_count},
+  Line.{PostsJob, line_id, jobs_in, text_size},
+  Numbers.{IsNumber, SpellsNumbers},
+};
 
 use orc_fault::NoMemory;
 use orc_jobs::{

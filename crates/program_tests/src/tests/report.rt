@@ -1,11 +1,8 @@
 //! Worked examples of the definitions.
 ghost use Rattle.std.specs.Prelude.{◌≡◌, ◌++◌, ◌∷◌, [], codes, false, true, None, Some};
-ghost use Rattle.orc_board.specs.declared.replies.PostWord.{PostWord};
-ghost use Rattle.orc_board.specs.declared.replies.TakeWord.{TakeWord};
-ghost use Rattle.orc_jobs.specs.declared.line.Job.{Job};
-ghost use Rattle.orc_jobs.specs.declared.line.Line.{Line};
-ghost use Rattle.orc_report.specs.Report.{by_position, report_of};
-ghost use Rattle.orc_report.specs.Summary.{summary_of};
+ghost use Rattle.orc_board.specs.{declared.replies.{PostWord.{PostWord}, TakeWord.{TakeWord}}};
+ghost use Rattle.orc_jobs.specs.{declared.line.{Job.{Job}, Line.{Line}}};
+ghost use Rattle.orc_report.specs.{Report.{by_position, report_of}, Summary.{summary_of}};
 
 use orc_board::TakeWord;
 

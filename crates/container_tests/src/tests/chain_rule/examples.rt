@@ -1,19 +1,21 @@
 //! Worked examples of the definitions, computed by hand and proved.
 
 ghost use Rattle.std.specs.Prelude.{◌≡◌, List, ◌∷◌, [], Some, None, true, false};
-ghost use Rattle.orc_heap.specs.Allowed.{AllAllowed};
-ghost use Rattle.orc_heap.specs.Heap.{Node, null, link_to};
-ghost use Rattle.orc_heap.specs.Journals.{run_heap, event_by};
-ghost use Rattle.orc_heap.specs.Moves.{moves_in};
-ghost use Rattle.orc_heap.specs.declared.events.Act.{Act};
-ghost use Rattle.orc_heap.specs.declared.events.Event.{Event};
-ghost use Rattle.orc_heap.specs.declared.events.Place.{Place};
+ghost use Rattle.orc_heap.specs.{
+  Allowed.{AllAllowed},
+  Heap.{Node, null, link_to},
+  Journals.{run_heap, event_by},
+  Moves.{moves_in},
+  declared.events.{Act.{Act}, Event.{Event}, Place.{Place}},
+};
 ghost use Rattle.orc_history.specs.declared.set.SetEntry.{SetEntry};
-ghost use Rattle.orc_chain_rule.specs.declared.chain.ChainNote.{ChainNote};
+ghost use Rattle.orc_chain_rule.specs.{
+  declared.chain.ChainNote.{ChainNote},
+  ChainDiscipline.{ChainMay, FollowsOn, IsAbove, IsOnNoChain, IsPresent, MayAct, entries_of, key_of, set_after},
+  Counts.{AreLeftOver, IsLeftOver, adds_in, entries_of_others, removes_in, unlinks_in},
+  Watches.{LeavesOut},
+};
 ghost use Rattle.orc_ordered_chains.specs.Chains.{IsPath, IsRun};
-ghost use Rattle.orc_chain_rule.specs.ChainDiscipline.{ChainMay, FollowsOn, IsAbove, IsOnNoChain, IsPresent, MayAct, entries_of, key_of, set_after};
-ghost use Rattle.orc_chain_rule.specs.Counts.{AreLeftOver, IsLeftOver, adds_in, entries_of_others, removes_in, unlinks_in};
-ghost use Rattle.orc_chain_rule.specs.Watches.{LeavesOut};
 ghost use Rattle.container_tests.specs.ChainHeaps.{added, leads_root, linked_node, marked_link, unlinked_node, run_of_two, two_roots};
 
 // Agents 0 and 1 make a chain of three: 5, then 3 before it, then 9 behind them. Node 1 has the key 3, node 0 the key

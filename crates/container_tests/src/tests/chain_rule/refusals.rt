@@ -1,15 +1,14 @@
 //! Events that the discipline refuses, one for each part of what it asks.
 
 ghost use Rattle.std.specs.Prelude.{◌∷◌, [], Some, None, true, false};
-ghost use Rattle.orc_heap.specs.Acts.{as_linked, with_link, with_side};
-ghost use Rattle.orc_heap.specs.Heap.{Node, null, link_to};
-ghost use Rattle.orc_heap.specs.declared.events.Act.{Act};
-ghost use Rattle.orc_heap.specs.declared.events.Place.{Place};
+ghost use Rattle.orc_heap.specs.{
+  Acts.{as_linked, with_link, with_side},
+  Heap.{Node, null, link_to},
+  declared.events.{Act.{Act}, Place.{Place}},
+};
 ghost use Rattle.orc_history.specs.declared.set.SetEntry.{SetEntry};
-ghost use Rattle.orc_chain_rule.specs.declared.chain.ChainNote.{ChainNote};
+ghost use Rattle.orc_chain_rule.specs.{declared.chain.ChainNote.{ChainNote}, ChainDiscipline.{IsOwnEntry, MayAct}, Watches.{node_to_add}};
 ghost use Rattle.orc_ordered_chains.specs.Answers.{MayAnswer};
-ghost use Rattle.orc_chain_rule.specs.ChainDiscipline.{IsOwnEntry, MayAct};
-ghost use Rattle.orc_chain_rule.specs.Watches.{node_to_add};
 ghost use Rattle.container_tests.specs.ChainHeaps.{added, leads_root, linked_node, links_node, marked_link, marked_node, marks_node, unlinked_node, no_nodes, one_root, removed, two_roots};
 
 // With two roots, root 1 names node 0 with the key 3, and node 1 with the key 5 is agent 1's. It may be linked behind

@@ -1,19 +1,21 @@
 //! Worked examples of the definitions, computed by hand and proved.
 
 ghost use Rattle.std.specs.Prelude.{◌≡◌, ◌-◌, ◌^◌, List, ◌∷◌, ◌++◌, [], Some, None, true, false};
-ghost use Rattle.orc_heap.specs.Allowed.{AllAllowed};
-ghost use Rattle.orc_heap.specs.Heap.{Node, null, link_to};
-ghost use Rattle.orc_heap.specs.Journals.{run_heap, event_by};
-ghost use Rattle.orc_heap.specs.declared.events.Act.{Act};
-ghost use Rattle.orc_heap.specs.declared.events.Event.{Event};
-ghost use Rattle.orc_heap.specs.declared.events.Place.{Place};
+ghost use Rattle.orc_heap.specs.{
+  Allowed.{AllAllowed},
+  Heap.{Node, null, link_to},
+  Journals.{run_heap, event_by},
+  declared.events.{Act.{Act}, Event.{Event}, Place.{Place}},
+  Calls.{links_made},
+  Moves.{moves_in},
+};
 ghost use Rattle.orc_history.specs.declared.queue.QueueEntry.{QueueEntry};
-ghost use Rattle.orc_fifo_rule.specs.declared.fifo.FifoNote.{FifoNote};
-ghost use Rattle.orc_heap.specs.Calls.{links_made};
-ghost use Rattle.orc_fifo_rule.specs.Counts.{entries_of_others, off_the_head, swings_in, tooks_in};
-ghost use Rattle.orc_heap.specs.Moves.{moves_in};
-ghost use Rattle.orc_fifo_rule.specs.QueueDiscipline.{FifoMay, IsInTime, LeadsOn, MayAct, MayEnter, entries_of, has_begun, position_of};
-ghost use Rattle.orc_fifo_rule.specs.Watches.{IsLeftBehind, WasNamed, node_to_put};
+ghost use Rattle.orc_fifo_rule.specs.{
+  declared.fifo.FifoNote.{FifoNote},
+  Counts.{entries_of_others, off_the_head, swings_in, tooks_in},
+  QueueDiscipline.{FifoMay, IsInTime, LeadsOn, MayAct, MayEnter, entries_of, has_begun, position_of},
+  Watches.{IsLeftBehind, WasNamed, node_to_put},
+};
 ghost use Rattle.container_tests.specs.QueueHeaps.{dummy, last_node, links_node, no_nodes, opening, put_at, roots_at};
 
 // Agent 0 makes a queue whose first position is 5: it is given node 0, fills it, and begins both roots.

@@ -1,17 +1,11 @@
 //! Worked examples of the definitions, computed by hand and proved, and what a caller of the set sees.
 
 ghost use Rattle.std.specs.Prelude.{◌≡◌, List, ◌∷◌, [], IfErr, Some, true, false};
-ghost use Rattle.orc_heap.specs.Heap.{null, link_to};
-ghost use Rattle.orc_heap.specs.Journals.{event_by};
-ghost use Rattle.orc_heap.specs.declared.events.Act.{Act};
-ghost use Rattle.orc_heap.specs.declared.events.Event.{Event};
-ghost use Rattle.orc_heap.specs.declared.events.Place.{Place};
+ghost use Rattle.orc_heap.specs.{Heap.{null, link_to}, Journals.{event_by}, declared.events.{Act.{Act}, Event.{Event}, Place.{Place}}};
 ghost use Rattle.orc_history.specs.declared.set.SetEntry.{SetEntry};
 ghost use Rattle.orc_chain_rule.specs.declared.chain.ChainNote.{ChainNote};
 ghost use Rattle.container_tests.specs.ChainHeaps.{around_five};
-ghost use Rattle.orc_list.specs.Causes.{CostTurns, UsesTurns, entered_by_others};
-ghost use Rattle.orc_list.specs.ListCalls.{CostsOthers};
-ghost use Rattle.orc_list.specs.SetMembers.{IsUsable};
+ghost use Rattle.orc_list.specs.{Causes.{CostTurns, UsesTurns, entered_by_others}, ListCalls.{CostsOthers}, SetMembers.{IsUsable}};
 
 use orc_chain_rule::{Chain, ChainNote};
 use orc_fault::Again;

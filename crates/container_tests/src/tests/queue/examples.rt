@@ -1,19 +1,20 @@
 //! Worked examples of the definitions, computed by hand and proved, and what a caller of the queue sees.
 
 ghost use Rattle.std.specs.Prelude.{◌≡◌, ◌≤◌, ℕ, ◌-◌, ◌^◌, List, ◌∷◌, [], Some, None, Ok, Err};
-ghost use Rattle.orc_heap.specs.Heap.{null, link_to};
-ghost use Rattle.orc_heap.specs.declared.events.Act.{Act};
-ghost use Rattle.orc_heap.specs.declared.events.Event.{Event};
-ghost use Rattle.orc_heap.specs.declared.events.Place.{Place};
-ghost use Rattle.orc_history.specs.declared.queue.QueueEntry.{QueueEntry};
-ghost use Rattle.orc_history.specs.declared.queue.QueueRefused.{QueueRefused};
+ghost use Rattle.orc_heap.specs.{
+  Heap.{null, link_to},
+  declared.events.{Act.{Act}, Event.{Event}, Place.{Place}},
+  Seats.{IsIdle},
+  Journals.{event_by},
+};
+ghost use Rattle.orc_history.specs.{declared.queue.{QueueEntry.{QueueEntry}, QueueRefused.{QueueRefused}}};
 ghost use Rattle.orc_fifo_rule.specs.declared.fifo.FifoNote.{FifoNote};
-ghost use Rattle.orc_queue.specs.Answers.{gives_of};
-ghost use Rattle.orc_queue.specs.Causes.{Cause, LacksPosition, UsesTurns, entered_by_others};
-ghost use Rattle.orc_heap.specs.Seats.{IsIdle};
-ghost use Rattle.orc_queue.specs.QueueCalls.{others_puts};
-ghost use Rattle.orc_queue.specs.Turns.{IsFullLook, KeepsTail, SwingsTail, TailIsLast, TailIsPast, next_position};
-ghost use Rattle.orc_heap.specs.Journals.{event_by};
+ghost use Rattle.orc_queue.specs.{
+  Answers.{gives_of},
+  Causes.{Cause, LacksPosition, UsesTurns, entered_by_others},
+  QueueCalls.{others_puts},
+  Turns.{IsFullLook, KeepsTail, SwingsTail, TailIsLast, TailIsPast, next_position},
+};
 ghost use Rattle.container_tests.specs.QueueHeaps.{dummy, last_node, links_node, opening, put_at, roots_at};
 
 use orc_fifo_rule::{Fifo, FifoNote};

@@ -2,18 +2,19 @@
 
 ghost use Rattle.std.specs.Prelude.{◌≡◌, ◌≢◌, ℕ, ◌==◌, List, ◌∷◌, [], Some, None, true, false, replicate};
 ghost use Rattle.orc_fault.specs.declared.Spent.{Spent};
-ghost use Rattle.orc_heap.specs.declared.events.Event.{Event};
-ghost use Rattle.orc_heap.specs.Heap.{HeapNumbers, new_node, null};
-ghost use Rattle.orc_heap.specs.Journals.{IsLawful};
-ghost use Rattle.orc_heap.specs.Allowed.{AllAllowed, AllowedLater, Later, MovesLinked, Rises, events_by};
-ghost use Rattle.orc_heap.specs.Moves.{IsLinkedPlace, from_own, gives_in, moves_in, moves_place};
-ghost use Rattle.orc_heap.specs.Slots.{Hold, Holds, IsFree, SlotNode, Slots, id_in};
-ghost use Rattle.orc_heap.specs.Hands.{Hands, hand};
-ghost use Rattle.orc_heap.specs.Seats.{IsIdle, Seat, target_in};
-ghost use Rattle.orc_heap.specs.OwnEvents.{IsBelow, Only, Puts};
-ghost use Rattle.orc_history.specs.Journals.{own_of};
-ghost use Rattle.orc_history.specs.Parts.{InPart, IsAlone, part_begin, part_of};
-ghost use Rattle.orc_heap.specs.Calls.{IsLonger, IsWorn, Releases, RefusesAim, links_made, unless_node};
+ghost use Rattle.orc_heap.specs.{
+  declared.events.Event.{Event},
+  Heap.{HeapNumbers, new_node, null},
+  Journals.{IsLawful},
+  Allowed.{AllAllowed, AllowedLater, Later, MovesLinked, Rises, events_by},
+  Moves.{IsLinkedPlace, from_own, gives_in, moves_in, moves_place},
+  Slots.{Hold, Holds, IsFree, SlotNode, Slots, id_in},
+  Hands.{Hands, hand},
+  Seats.{IsIdle, Seat, target_in},
+  OwnEvents.{IsBelow, Only, Puts},
+  Calls.{IsLonger, IsWorn, Releases, RefusesAim, links_made, unless_node},
+};
+ghost use Rattle.orc_history.specs.{Journals.{own_of}, Parts.{InPart, IsAlone, part_begin, part_of}};
 
 use orc_heap::{Act, Place};
 

@@ -1,11 +1,12 @@
 //! Worked examples of the definitions, computed by hand and proved.
 
 ghost use Rattle.std.specs.Prelude.{◌≡◌, ◌≢◌, ℕ, ◌+◌, List, ◌∷◌, [], Some, None, true, false};
-ghost use Rattle.orc_heap.specs.declared.events.Event.{Event};
-ghost use Rattle.orc_heap.specs.declared.events.Link.{Link};
-ghost use Rattle.orc_heap.specs.Heap.{Heap, HeapNumbers, Node, change, new_heap, new_node, null, shown};
-ghost use Rattle.orc_heap.specs.Acts.{Fits, IsFresh, IsKnown, IsTarget, StaysLinked, change_target, as_named, heap_after, moved_link, set_link, with_value};
-ghost use Rattle.orc_heap.specs.Journals.{FitsAfter, IsLawful, IsPlain, is_once_linked, is_once_named, moves_to, points_to, run_heap};
+ghost use Rattle.orc_heap.specs.{
+  declared.events.{Event.{Event}, Link.{Link}},
+  Heap.{Heap, HeapNumbers, Node, change, new_heap, new_node, null, shown},
+  Acts.{Fits, IsFresh, IsKnown, IsTarget, StaysLinked, change_target, as_named, heap_after, moved_link, set_link, with_value},
+  Journals.{FitsAfter, IsLawful, IsPlain, is_once_linked, is_once_named, moves_to, points_to, run_heap},
+};
 
 use orc_heap::{Act, Place};
 

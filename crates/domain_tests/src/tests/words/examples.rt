@@ -1,11 +1,9 @@
 //! Worked examples of the definitions, computed by hand and proved.
 
 ghost use mathlib.Core.List.{IsPrefix};
-ghost use Rattle.orc_shared_words.specs.Lists.{Each, EachAt, IsLonger};
-ghost use Rattle.orc_shared_words.specs.Runs.{AgentsBelow};
+ghost use Rattle.orc_shared_words.specs.{Lists.{Each, EachAt, IsLonger}, Runs.{AgentsBelow}, declared.journal.JournalStep.{JournalStep}};
 ghost use Rattle.orc_history.specs.Journals.{own_of};
 ghost use Rattle.domain_tests.specs.Ticks.{counts, looks, tick_rules};
-ghost use Rattle.orc_shared_words.specs.declared.journal.JournalStep.{JournalStep};
 ghost use Rattle.std.specs.Prelude.{◌≡◌, ◌+◌, ◌<◌, ◌∷◌, [], Bool, List, None, Some, false, true, ℕ};
 
 use orc_heap::Act;

@@ -1,16 +1,18 @@
 //! Worked examples of the definitions, computed by hand and proved.
 
 ghost use Rattle.std.specs.Prelude.{◌≡◌, ◌≢◌, ℕ, ◌+◌, ◌∷◌, [], Some, None, true, false, nat_lt, ◌==◌};
-ghost use Rattle.orc_core.specs.declared.records.Agent.{Agent};
-ghost use Rattle.orc_core.specs.Listed.{listed_more, listed_name, listed_rest, first_is};
-ghost use Rattle.orc_core.specs.RecordParts.{any_holds, checked_below, holds, is_clear, names, scan_empty};
-ghost use Rattle.orc_core.specs.Actions.{action_of, clear_word, IsPackable};
-ghost use Rattle.orc_core.specs.After.{after, bared, cut_of, due_after, promoted, scan_on, IsRecordable};
-ghost use Rattle.orc_core.specs.Allowed.{fits, forced, in_order, may, may_change, may_place};
-ghost use Rattle.orc_core.specs.Machine.{answer, has_room, is_allowed, new_machine, nobody, step, word_in};
-ghost use Rattle.orc_core.specs.Runs.{IsLawful, run};
-ghost use Rattle.orc_core.specs.Sums.{count_below, some_below, sum_below};
-ghost use Rattle.orc_core.specs.Counts.{census_of, is_target, links_to};
+ghost use Rattle.orc_core.specs.{
+  declared.records.Agent.{Agent},
+  Listed.{listed_more, listed_name, listed_rest, first_is},
+  RecordParts.{any_holds, checked_below, holds, is_clear, names, scan_empty},
+  Actions.{action_of, clear_word, IsPackable},
+  After.{after, bared, cut_of, due_after, promoted, scan_on, IsRecordable},
+  Allowed.{fits, forced, in_order, may, may_change, may_place},
+  Machine.{answer, has_room, is_allowed, new_machine, nobody, step, word_in},
+  Runs.{IsLawful, run},
+  Sums.{count_below, some_below, sum_below},
+  Counts.{census_of, is_target, links_to},
+};
 
 use orc_core::{Op, SlotUse};
 use orc_words::{Operation, Word};

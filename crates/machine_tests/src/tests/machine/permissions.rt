@@ -3,14 +3,12 @@
 //! are 4,194,304 for count 0 and 4,194,305 for count 1.
 
 ghost use Rattle.std.specs.Prelude.{◌≡◌, ℕ, ◌∷◌, [], List, Option, Some, None, replicate, true, false};
-ghost use Rattle.orc_words.specs.Bounds.{Bounds};
-ghost use Rattle.orc_words.specs.declared.packed.RowLink.{RowLink};
-ghost use Rattle.orc_core.specs.declared.records.Agent.{Agent};
-ghost use Rattle.orc_core.specs.declared.records.Doom.{Doom};
-ghost use Rattle.orc_core.specs.declared.records.Scan.{Scan};
-ghost use Rattle.orc_core.specs.declared.records.SlotUse.{SlotUse};
-ghost use Rattle.orc_core.specs.Allowed.{fits, may};
-ghost use Rattle.orc_core.specs.Machine.{nobody};
+ghost use Rattle.orc_words.specs.{Bounds.{Bounds}, declared.packed.RowLink.{RowLink}};
+ghost use Rattle.orc_core.specs.{
+  declared.records.{Agent.{Agent}, Doom.{Doom}, Scan.{Scan}, SlotUse.{SlotUse}},
+  Allowed.{fits, may},
+  Machine.{nobody},
+};
 
 use orc_core::{CounterUse, Op, SlotUse};
 use orc_words::Word;

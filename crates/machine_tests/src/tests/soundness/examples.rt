@@ -1,29 +1,26 @@
 //! Worked examples of the definitions, computed by hand and proved by the check.
 
 ghost use Rattle.std.specs.Prelude.{◌≡◌, ℕ, Bool, ◌==◌, ◌&&◌, not, List, [], ◌∷◌, replicate, Option, Some, None, true, false, nat_lt, pos};
-ghost use Rattle.orc_words.specs.declared.place.Word.{Word};
-ghost use Rattle.orc_words.specs.Packed.{counter_of};
-ghost use Rattle.orc_words.specs.declared.operation.Operation.{Operation};
-ghost use Rattle.orc_core.specs.declared.ops.CounterUse.{CounterUse};
-ghost use Rattle.orc_core.specs.declared.ops.Op.{Op};
-ghost use Rattle.orc_core.specs.declared.records.Agent.{Agent};
-ghost use Rattle.orc_core.specs.declared.records.Doom.{Doom};
-ghost use Rattle.orc_core.specs.declared.records.Scan.{Scan};
-ghost use Rattle.orc_core.specs.declared.records.Reading.{Reading};
-ghost use Rattle.orc_core.specs.declared.records.SlotUse.{SlotUse};
-ghost use Rattle.orc_core.specs.Machine.{Machine, new_machine, nobody, record_at, word_in};
-ghost use Rattle.orc_core.specs.Runs.{run};
-ghost use Rattle.orc_sound.specs.Backlog.{backlog, is_listed};
-ghost use Rattle.orc_sound.specs.Balance.{decrements, increments};
-ghost use Rattle.orc_sound.specs.Decisions.{agent_fits, all_below, all_fit, count_fits, doom_fits, enrolment_fits, free_fits, fresh_fits, looks_fit, named_passes, out_in, range_fits, row_fits, row_held, scan_fits, slot_fits, target_fits, token_fits};
-ghost use Rattle.orc_sound.specs.Doomed.{cuts_past, dooms, dooms_cut};
-ghost use Rattle.orc_sound.specs.Journals.{plain};
-ghost use Rattle.orc_sound.specs.Lifetimes.{NoWrap, times_freed, times_taken};
-ghost use Rattle.orc_sound.specs.Linked.{changes, held, linked};
-ghost use Rattle.orc_sound.specs.NoLeak.{has_reason, keeps_out};
-ghost use Rattle.orc_sound.specs.SoundParts.{slot_word};
-ghost use Rattle.orc_sound.specs.QuietScan.{is_linked_anew};
-ghost use Rattle.orc_sound.specs.RetirementToken.{dooming, tokens};
+ghost use Rattle.orc_words.specs.{declared.place.Word.{Word}, Packed.{counter_of}, declared.operation.Operation.{Operation}};
+ghost use Rattle.orc_core.specs.{
+  declared.ops.{CounterUse.{CounterUse}, Op.{Op}},
+  declared.records.{Agent.{Agent}, Doom.{Doom}, Scan.{Scan}, Reading.{Reading}, SlotUse.{SlotUse}},
+  Machine.{Machine, new_machine, nobody, record_at, word_in},
+  Runs.{run},
+};
+ghost use Rattle.orc_sound.specs.{
+  Backlog.{backlog, is_listed},
+  Balance.{decrements, increments},
+  Decisions.{agent_fits, all_below, all_fit, count_fits, doom_fits, enrolment_fits, free_fits, fresh_fits, looks_fit, named_passes, out_in, range_fits, row_fits, row_held, scan_fits, slot_fits, target_fits, token_fits},
+  Doomed.{cuts_past, dooms, dooms_cut},
+  Journals.{plain},
+  Lifetimes.{NoWrap, times_freed, times_taken},
+  Linked.{changes, held, linked},
+  NoLeak.{has_reason, keeps_out},
+  SoundParts.{slot_word},
+  QuietScan.{is_linked_anew},
+  RetirementToken.{dooming, tokens},
+};
 
 // Row 0 is taken, held in slot 1 and linked from root 0, and that link isn't counted yet.
 fn a_link_that_is_not_counted_yet()

@@ -1,8 +1,7 @@
 //! Worked examples of the definitions, computed by hand and proved.
 
 ghost use Rattle.std.specs.Prelude.{◌≡◌, ◌≢◌, [], codes};
-ghost use Rattle.orc_trace.specs.Answers.{fault_line, replay_line};
-ghost use Rattle.orc_trace.specs.Replay.{RefusesTrace};
+ghost use Rattle.orc_trace.specs.{Answers.{fault_line, replay_line}, Replay.{RefusesTrace}};
 
 use orc_trace::{ShapeWord, TraceFault};
 

@@ -1,14 +1,15 @@
 //! The definitions at values that were worked out by hand.
 ghost use Rattle.std.specs.Prelude.{[], ◌∷◌, true, false, codes, Some, None};
-ghost use Rattle.orc_history.specs.declared.queue.QueueEntry.{QueueEntry};
-ghost use Rattle.orc_history.specs.declared.queue.QueueRefused.{QueueRefused};
-ghost use Rattle.orc_history.specs.declared.set.SetEntry.{SetEntry};
-ghost use Rattle.orc_jobs.specs.declared.line.Job.{Job};
-ghost use Rattle.orc_jobs.specs.declared.line.Line.{Line};
-ghost use Rattle.orc_board.specs.declared.replies.PostWord.{PostWord};
-ghost use Rattle.orc_board.specs.declared.replies.TakeWord.{TakeWord};
-ghost use Rattle.orc_board.specs.Stretches.{View, just, nothing, pick};
-ghost use Rattle.orc_board.specs.Table.{PostRow, ClaimRow, TakeEnds};
+ghost use Rattle.orc_history.specs.{
+  declared.queue.{QueueEntry.{QueueEntry}, QueueRefused.{QueueRefused}},
+  declared.set.SetEntry.{SetEntry},
+};
+ghost use Rattle.orc_jobs.specs.{declared.line.{Job.{Job}, Line.{Line}}};
+ghost use Rattle.orc_board.specs.{
+  declared.replies.{PostWord.{PostWord}, TakeWord.{TakeWord}},
+  Stretches.{View, just, nothing, pick},
+  Table.{PostRow, ClaimRow, TakeEnds},
+};
 
 // Record 1 is `rush,2,bytes,bb`, by poster 1: its job stands in the rush queue alone.
 fn rows_of_a_rush()

@@ -1,9 +1,7 @@
 //! Passes that learn from each other: worked examples, and a caller over any queue and any set.
 
 ghost use Rattle.std.specs.Prelude.{◌≡◌, ◌≢◌, ℕ, ◌∷◌, []};
-ghost use Rattle.orc_history.specs.Journals.{LearnsEntries, own_of};
-ghost use Rattle.orc_history.specs.QueueHistory.{IsLegalQueue};
-ghost use Rattle.orc_history.specs.SetHistory.{IsLegalSet};
+ghost use Rattle.orc_history.specs.{Journals.{LearnsEntries, own_of}, QueueHistory.{IsLegalQueue}, SetHistory.{IsLegalSet}};
 
 use orc_history::{LearnQueue, LearnSet};
 
