@@ -4,6 +4,3 @@
 mod places;
 
 pub use places::{GivenBack, Keeps, Unfinished};
-
-#[cfg(test)]
-mod tests;

@@ -23,7 +23,7 @@ use orc_heap::{At, Held, Links, Looked, Want};
 use orc_pairs_rule::{CellEntry, Pairs, PairsNote};
 
 /// One of the two parts of a pair.
-#[derive(Clone, Copy, Debug, PartialEq, Eq)]
+#[derive(Clone, Copy)]
 pub enum Half {
     Left,
     Right,

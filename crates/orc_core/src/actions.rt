@@ -11,7 +11,7 @@ use orc_words::{
 };
 
 /// A word, and what is done to it.
-#[derive(Clone, Copy, Debug, PartialEq, Eq)]
+#[derive(Clone, Copy)]
 pub struct Action {
     pub word: Word,
     pub operation: Operation,

@@ -3,7 +3,7 @@
 use orc_words::{RowLink, Word};
 
 /// What the load of a counter word is for.
-#[derive(Clone, Copy, Debug, PartialEq, Eq)]
+#[derive(Clone, Copy)]
 pub enum CounterUse {
     /// To read the sequence before a row is taken or linked.
     Check,
@@ -14,7 +14,7 @@ pub enum CounterUse {
 }
 
 /// A kind of step and its arguments. A place is a root or a link word of a row.
-#[derive(Clone, Copy, Debug, PartialEq, Eq)]
+#[derive(Clone, Copy)]
 pub enum Op {
     /// The agent takes its place in the run.
     Enroll,

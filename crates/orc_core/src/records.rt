@@ -17,7 +17,7 @@ pub enum SlotUse {
 }
 
 /// A row, with a number that was read of it: its life or its sequence.
-#[derive(Clone, Copy, Debug, PartialEq, Eq)]
+#[derive(Clone, Copy)]
 pub struct Reading {
     pub row: u32,
     pub number: u64,
@@ -35,7 +35,7 @@ pub struct Scan {
 }
 
 /// A row that is to be freed.
-#[derive(Clone, Copy, Debug, PartialEq, Eq)]
+#[derive(Clone, Copy)]
 pub struct Doom {
     pub row: u32,
     /// How many of its links are out.

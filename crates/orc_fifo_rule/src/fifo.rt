@@ -9,7 +9,7 @@ use orc_heap::{Discipline, Ranked};
 use orc_history::QueueEntry;
 
 /// What a queue says of its Moves, and of the Look of a dequeue that finds nothing.
-#[derive(Clone, Copy, Debug, PartialEq, Eq)]
+#[derive(Clone, Copy)]
 pub enum FifoNote {
     /// The event is this call's entry in the history.
     Entry(QueueEntry),

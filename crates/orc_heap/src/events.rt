@@ -1,14 +1,14 @@
 //! What agents do with nodes. A node's id is its place in the order in which nodes were given.
 
 /// A link to a node, or to none, with or without a mark.
-#[derive(Clone, Copy, Debug, PartialEq, Eq)]
+#[derive(Clone, Copy)]
 pub struct Link {
     pub to: Option<u64>,
     pub mark: bool,
 }
 
 /// Where a link stands: at a root, or in a node, which has one link or two.
-#[derive(Clone, Copy, Debug, PartialEq, Eq)]
+#[derive(Clone, Copy)]
 pub enum Place {
     /// The link of a root.
     Root(u32),
@@ -19,7 +19,7 @@ pub enum Place {
 }
 
 /// What an agent does with the heap.
-#[derive(Clone, Copy, Debug, PartialEq, Eq)]
+#[derive(Clone, Copy)]
 pub enum Act {
     /// A new node with no values and null links is given to the agent.
     Give,
@@ -59,7 +59,7 @@ pub enum Act {
 }
 
 /// An act of an agent, with the note of the container that it serves.
-#[derive(Clone, Copy, Debug, PartialEq, Eq)]
+#[derive(Clone, Copy)]
 pub struct Event<N> {
     pub agent: u32,
     pub act: Act,

@@ -63,7 +63,7 @@ pub enum Want<'a> {
 }
 
 /// What a look saw of a link.
-#[derive(Clone, Copy, Debug, PartialEq, Eq)]
+#[derive(Clone, Copy)]
 pub struct Seen {
     pub null: bool,
     pub mark: bool,

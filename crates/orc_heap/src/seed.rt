@@ -1,7 +1,7 @@
 //! What a new domain begins with.
 
 /// The nodes that a new domain has.
-#[derive(Clone, Copy, Debug, PartialEq, Eq)]
+#[derive(Clone, Copy)]
 pub enum Seed<N> {
     /// None: all roots are null.
     Empty,

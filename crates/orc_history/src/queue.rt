@@ -10,7 +10,7 @@ ghost use Rattle.orc_history.specs.{
 use orc_fault::Again;
 
 /// One entry of a queue's history: the agent of a call, and its kind, argument and answer.
-#[derive(Clone, Copy, Debug, PartialEq, Eq)]
+#[derive(Clone, Copy)]
 pub enum QueueEntry {
     /// An enqueue put this job, and answered this position.
     Put { agent: u32, job: u64, at: u64 },

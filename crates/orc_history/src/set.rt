@@ -10,7 +10,7 @@ ghost use Rattle.orc_history.specs.{
 use orc_fault::{Again, Spent};
 
 /// One entry of a set's history: the agent of a call, and its kind, argument and answer.
-#[derive(Clone, Copy, Debug, PartialEq, Eq)]
+#[derive(Clone, Copy)]
 pub enum SetEntry {
     /// An insert of this key: true where it was absent.
     Added { agent: u32, key: u64, yes: bool },

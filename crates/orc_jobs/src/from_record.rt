@@ -7,7 +7,7 @@ use orc_fault::NoMemory;
 use std::alloc::Global;
 
 /// Why a record gives no line.
-#[derive(Debug, Drop)]
+#[derive(Drop)]
 pub enum RecordRefused<C> {
     Cause(C),
     NoMemory,

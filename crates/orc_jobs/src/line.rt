@@ -4,7 +4,7 @@ ghost use Rattle.orc_jobs.specs.JobGrammar.{operation_word};
 use crate::Text;
 
 /// What is computed of a text: its bytes or its words are counted, or its numbers are added.
-#[derive(Clone, Copy, Debug, PartialEq, Eq, Drop)]
+#[derive(Clone, Copy, Drop)]
 pub enum Job {
     Bytes,
     Words,
@@ -25,7 +25,7 @@ impl Job {
 }
 
 /// A line of a job file: it opens an id and posts a job with it, on the queue or on the rush queue, or closes an id.
-#[derive(Drop, Debug)]
+#[derive(Drop)]
 pub enum Line {
     Post { id: u32, op: Job, text: Text },
     Rush { id: u32, op: Job, text: Text },

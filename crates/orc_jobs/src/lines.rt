@@ -9,7 +9,7 @@ use std::marker::Model;
 pub const MOST_BYTES: usize = 16_777_216;
 
 /// A list of lines.
-#[derive(Drop, Debug)]
+#[derive(Drop)]
 pub struct LineList<L> {
     items: Vec<L>,
 }

@@ -6,7 +6,7 @@ use std::alloc::Global;
 use std::marker::Model;
 
 /// A list of bytes.
-#[derive(Drop, Debug)]
+#[derive(Drop)]
 pub struct Text {
     items: Vec<u8>,
 }

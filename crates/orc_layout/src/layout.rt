@@ -14,7 +14,7 @@ use orc_words::{Shape, Word};
 const LINE: usize = 8;
 
 /// The first indices of the rows and of the agents of a table, which are worked out once.
-#[derive(Clone, Copy, Debug, PartialEq, Eq)]
+#[derive(Clone, Copy)]
 pub struct Layout {
     pub first_row: usize,
     pub first_agent: usize,

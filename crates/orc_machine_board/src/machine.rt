@@ -36,7 +36,7 @@ impl<N: Copy> Clone for MachineShape<N> {
 impl<N: Copy> Copy for MachineShape<N> {}
 
 /// An op, and the link that its caller wants a load to find.
-#[derive(Clone, Copy, Debug, PartialEq, Eq)]
+#[derive(Clone, Copy)]
 pub struct Request {
     pub op: Op,
     pub want: Option<RowLink>,

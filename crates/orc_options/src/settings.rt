@@ -16,7 +16,7 @@ use clap::error::ErrorKind;
 use std::alloc::Global;
 
 /// What the program is to do.
-#[derive(Clone, Copy, Debug, PartialEq, Eq, Drop)]
+#[derive(Clone, Copy, PartialEq, Eq, Drop)]
 pub enum Mode {
     /// Run a job file, and write the report.
     Run,
@@ -35,7 +35,7 @@ pub enum Mode {
 }
 
 /// Which set a run has.
-#[derive(Clone, Copy, Debug, PartialEq, Eq, Drop)]
+#[derive(Clone, Copy, PartialEq, Eq, Drop)]
 pub enum SetKind {
     /// A sorted list a bucket, as many as are asked for.
     List,
@@ -44,7 +44,7 @@ pub enum SetKind {
 }
 
 /// What the options say. The table of ranges has the numbers that each takes, and what stands where it isn't given.
-#[derive(Clone, Copy, Debug, PartialEq, Eq, Drop)]
+#[derive(Clone, Copy, PartialEq, Eq, Drop)]
 pub struct Settings {
     /// `--mode`; run, where it isn't given.
     pub mode: Mode,
@@ -69,7 +69,7 @@ pub struct Settings {
 }
 
 /// Why words give no settings.
-#[derive(Clone, Copy, Debug, PartialEq, Eq, Drop)]
+#[derive(Clone, Copy, PartialEq, Eq, Drop)]
 pub enum Refused {
     /// `clap` refuses the words, or answers help or a version.
     Words,

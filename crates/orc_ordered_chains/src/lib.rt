@@ -3,8 +3,6 @@
 #![tactic(auto)]
 
 mod laws;
-#[cfg(test)]
-mod tests;
 
 pub use laws::{
     a_node_is_reached_from_one_root, chains_stay_in_order, ranks_left_out_are_absent,

@@ -21,7 +21,7 @@ use orc_heap::Links;
 use orc_history::SetEntry;
 
 /// A call that answers whether a key is present.
-#[derive(Clone, Copy, Debug, PartialEq, Eq)]
+#[derive(Clone, Copy)]
 pub enum Call {
     /// It changes nothing.
     Ask,

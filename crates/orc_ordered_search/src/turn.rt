@@ -3,7 +3,7 @@
 use orc_fault::Spent;
 
 /// How a turn of an insert ended.
-#[derive(Clone, Copy, Debug, PartialEq, Eq)]
+#[derive(Clone, Copy)]
 pub enum InsertTurn {
     /// With no answer.
     Over,

@@ -1,7 +1,7 @@
 //! Histories of a cell of two parts.
 
 /// One entry of a cell's history: the agent of a call, and its kind, arguments and answer.
-#[derive(Clone, Copy, Debug, PartialEq, Eq)]
+#[derive(Clone, Copy)]
 pub enum CellEntry {
     /// The parts that are given were replaced, the others were kept, and these are both parts since.
     Published {

@@ -4,8 +4,6 @@
 mod entry;
 mod laws;
 mod pairs;
-#[cfg(test)]
-mod tests;
 
 pub use entry::CellEntry;
 pub use laws::{

@@ -8,7 +8,7 @@ use orc_shared_words::{Machine, PlacedOperation};
 use orc_words::{Operation, RowLink, Word, link_of_row, pack_link};
 
 /// An operation of one agent on one word.
-#[derive(Clone, Copy, Debug, PartialEq, Eq)]
+#[derive(Clone, Copy)]
 pub enum PlainOp {
     /// Reads a row's gate.
     GateLook {

@@ -19,7 +19,7 @@ use orc_history::{QueueEntry, QueueRefused};
 pub(crate) const POSITIONS: u64 = 1 << 62;
 
 /// How a turn of a put ended.
-#[derive(Clone, Copy, Debug, PartialEq, Eq)]
+#[derive(Clone, Copy)]
 pub enum PutTurn {
     /// With no answer.
     Over,

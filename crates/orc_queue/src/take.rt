@@ -13,7 +13,7 @@ use orc_heap::{At, Held, Links, Want};
 use orc_history::QueueEntry;
 
 /// How a turn of a take ended.
-#[derive(Clone, Copy, Debug, PartialEq, Eq)]
+#[derive(Clone, Copy)]
 pub enum TakeTurn {
     /// With no answer.
     Over,

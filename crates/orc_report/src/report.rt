@@ -16,7 +16,7 @@ use orc_jobs::{Line, Lines, Text};
 use std::alloc::{AllocError, Global};
 
 /// How many nodes each container was given, how many of these had been freed before, and how many are linked at rest.
-#[derive(Clone, Copy, Debug, PartialEq, Eq, Drop)]
+#[derive(Clone, Copy, Drop)]
 pub struct RestNumbers {
     pub queue_given: u64,
     pub queue_reused: u64,

@@ -17,7 +17,7 @@ use orc_jobs::{Job, Line, Lines, Text};
 use std::alloc::{AllocError, Global};
 
 // The jobs of one operation.
-#[derive(Clone, Copy, Debug, Drop)]
+#[derive(Clone, Copy, Drop)]
 struct Total {
     op: Job,
     jobs: u64,

@@ -8,7 +8,7 @@ use orc_domain::OrcRest;
 use orc_split_rule::Split;
 
 /// Which set a run has.
-#[derive(Clone, Copy, Debug, PartialEq, Eq, Drop)]
+#[derive(Clone, Copy, Drop)]
 pub enum SetChoice {
     /// So many of Harris's lists, 1 to 256: an id stands in that of its remainder.
     Lists(u32),

@@ -3,8 +3,6 @@
 
 mod laws;
 mod split;
-#[cfg(test)]
-mod tests;
 
 pub use laws::{
     a_bucket_may_come, a_grow_may_come, a_removed_may_come, absent_answers_may_come,

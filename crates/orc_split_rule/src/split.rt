@@ -9,7 +9,7 @@ use orc_heap::{Discipline, Ranked};
 use orc_history::SetEntry;
 
 /// What a split-ordered set says of its Moves, and of the Looks that answer a call.
-#[derive(Clone, Copy, Debug, PartialEq, Eq)]
+#[derive(Clone, Copy)]
 pub enum SplitNote {
     /// The event is this call's entry in the history.
     Entry(SetEntry),

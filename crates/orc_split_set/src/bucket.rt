@@ -34,7 +34,7 @@ use orc_ordered_search::{Searched, add_node, let_all_go};
 use orc_split_rule::{Split, SplitNote};
 
 /// What came of a root that was to name a node: the dummy of its bucket, or a node of twice the size.
-#[derive(Clone, Copy, Debug, PartialEq, Eq)]
+#[derive(Clone, Copy)]
 pub enum Rooted {
     /// It names one, unless none is wanted: the first bucket has no dummy, and there may be no roots for twice the size.
     Done,

@@ -6,7 +6,7 @@ ghost use Rattle.orc_split_set.specs.{NewNodes.{kind_of, place_for, node_value},
 use crate::order::SplitPlace;
 
 /// What a node stands for that is to be linked.
-#[derive(Clone, Copy, Debug, PartialEq, Eq)]
+#[derive(Clone, Copy)]
 pub enum NewNode {
     /// This key.
     Key(u64),

@@ -2,7 +2,7 @@
 use orc_board::ReplyList;
 
 /// What a stage did with the job of a line.
-#[derive(Clone, Copy, Debug, PartialEq, Eq, Drop)]
+#[derive(Clone, Copy, PartialEq, Eq, Drop)]
 pub struct StageReply {
     /// The number of the stage, from 1.
     pub stage: u32,

@@ -9,7 +9,7 @@ use orc_trace_text::ShapeWord;
 use orc_words::Words;
 
 /// A trace that was played to its end.
-#[derive(Clone, Copy, Debug, PartialEq, Eq)]
+#[derive(Clone, Copy)]
 pub struct Replayed {
     pub steps: u64,
     /// The counts of the state after the last step.
@@ -31,7 +31,7 @@ pub struct Audit {
 }
 
 /// A row that is out at rest, and to which no links lead from the roots.
-#[derive(Clone, Copy, Debug, PartialEq, Eq)]
+#[derive(Clone, Copy)]
 pub struct Leak {
     /// After how many steps.
     pub after: u64,
@@ -40,7 +40,7 @@ pub struct Leak {
 }
 
 /// The first fault of a trace. Steps are numbered from 0, on the line after the first.
-#[derive(Clone, Copy, Debug, PartialEq, Eq)]
+#[derive(Clone, Copy)]
 pub enum TraceFault {
     Shape(ShapeWord),
     /// The number of a step whose line can't be read.

@@ -17,7 +17,7 @@ use orc_decimal::number_of;
 use orc_words::{Shape, ShapeFault};
 
 /// What is amiss with the first line: its form, or the first number that is out of range.
-#[derive(Clone, Copy, Debug, PartialEq, Eq)]
+#[derive(Clone, Copy)]
 pub enum ShapeWord {
     Unreadable,
     Rows,

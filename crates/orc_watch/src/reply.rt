@@ -1,7 +1,7 @@
 use orc_board::ReplyList;
 
 /// What came of a line.
-#[derive(Clone, Copy, Debug, PartialEq, Eq, Drop)]
+#[derive(Clone, Copy, Drop)]
 pub enum WatchWord {
     /// A publish: both parts as they are since.
     Set(u64, u64),
@@ -14,7 +14,7 @@ pub enum WatchWord {
 }
 
 /// A worker's reply.
-#[derive(Clone, Copy, Debug, PartialEq, Eq, Drop)]
+#[derive(Clone, Copy, Drop)]
 pub struct WatchReply {
     /// The number of the worker, from 1.
     pub worker: u32,

@@ -11,7 +11,7 @@ use orc_jobs::Text;
 use std::alloc::{AllocError, Global};
 
 /// How many nodes the cell was given, how many of these had been freed before, and how many are linked at rest.
-#[derive(Clone, Copy, Debug, PartialEq, Eq, Drop)]
+#[derive(Clone, Copy, Drop)]
 pub struct CellNumbers {
     pub given: u64,
     pub reused: u64,

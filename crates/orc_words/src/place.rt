@@ -6,7 +6,7 @@ ghost use Rattle.orc_words.specs.{declared.place.Word.{Word}, Bounds.{Bounds, bo
 use crate::Shape;
 
 /// A word of the table: by its root, by its row, or by its agent and slot.
-#[derive(Clone, Copy, Debug, PartialEq, Eq)]
+#[derive(Clone, Copy)]
 pub enum Word {
     /// How many agents have enrolled.
     Enrolled,

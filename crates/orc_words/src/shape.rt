@@ -9,7 +9,7 @@ pub const HIGHEST_LIMIT: u64 = 549_755_813_888;
 const LINK_SLACK: u64 = 64;
 
 /// The sizes of a table, the limit of its lives and sequences, and the number of links of a row.
-#[derive(Clone, Copy, Debug, PartialEq, Eq)]
+#[derive(Clone, Copy)]
 pub struct Shape {
     rows: u32,
     roots: u32,

@@ -1,31 +1,12 @@
 //! Notes, and worked examples of the definitions.
 
-use super::plain_note;
 use orc_chain_rule::*;
-use orc_history::SetEntry;
-use std::test::Fail;
 
 mod examples;
 mod refusals;
 
 #[test]
-fn notes_are_compared_with_their_entries(rt: HostRuntime) -> Result<(), Fail> {
-    let added = SetEntry::Added {
-        agent: 1,
-        key: 7,
-        yes: true,
-    };
-    let asked = SetEntry::Asked {
-        agent: 1,
-        key: 7,
-        yes: true,
-    };
-    assert_eq!(rt;
-        plain_note::<Chain>(ChainNote::Entry(added)),
-        Some(ChainNote::Entry(added))
-    );
-    assert_ne!(rt; ChainNote::Entry(added), ChainNote::Entry(asked));
-    assert_ne!(rt; ChainNote::Unlink, ChainNote::Entry(added));
+fn the_laws_stand() {
     allowed_events_obey_the_discipline();
     set_histories_are_legal();
     a_node_is_reached_from_one_root();
@@ -40,5 +21,4 @@ fn notes_are_compared_with_their_entries(rt: HostRuntime) -> Result<(), Fail> {
     unlinks_cost_removes();
     moves_are_of_three_kinds();
     moves_cost_entries();
-    Ok(())
 }

@@ -1,22 +1,11 @@
 //! Notes, and worked examples of the definitions.
 
-use super::plain_note;
 use orc_fifo_rule::*;
-use orc_history::QueueEntry;
-use std::test::Fail;
 
 mod examples;
 
 #[test]
-fn notes_are_compared_with_their_entries(rt: HostRuntime) -> Result<(), Fail> {
-    let note = FifoNote::Entry(QueueEntry::Put {
-        agent: 1,
-        job: 7,
-        at: 5,
-    });
-    assert_eq!(rt; plain_note::<Fifo>(note), Some(note));
-    assert_ne!(rt; note, FifoNote::Entry(QueueEntry::Empty { agent: 1 }));
-    assert_ne!(rt; FifoNote::Swing, FifoNote::Begin);
+fn the_laws_stand() {
     allowed_events_obey_the_discipline();
     queue_histories_are_legal();
     the_last_node_says_the_next_position();
@@ -28,5 +17,4 @@ fn notes_are_compared_with_their_entries(rt: HostRuntime) -> Result<(), Fail> {
     a_swing_may_come();
     a_took_may_come();
     a_put_may_come();
-    Ok(())
 }

@@ -200,7 +200,7 @@ fn a_refused_step_of_each_kind(rt: HostRuntime) -> Result<(), Fail> {
         Op::HandoverLook { slot: 8 },
         Op::DecHeld { row: 0 },
     ] {
-        assert_eq!(rt; step(&mut state, 0, op), Err(NotAllowed), "{op:?}");
+        assert_eq!(rt; step(&mut state, 0, op), Err(NotAllowed));
     }
     for agent in [1, 2] {
         assert_eq!(rt;

@@ -173,10 +173,8 @@ fn places_where_rows_have_two_links(rt: HostRuntime) -> Result<(), Fail> {
     ] {
         assert_eq!(rt; place_in_small(&shape, word), want);
     }
-    assert_eq!(rt;
-        (link_of_row(0, 1), link_of_row(1, 1)),
-        (Word::Next(1), Word::Side(1))
-    );
+    assert!(rt; matches!(link_of_row(0, 1), Word::Next(1)));
+    assert!(rt; matches!(link_of_row(1, 1), Word::Side(1)));
     Ok(())
 }
 

@@ -17,7 +17,7 @@ fn a_slot_moves_on(rt: HostRuntime) -> Result<(), Fail> {
         (1, Op::TakeIn { slot: 2 }, Ok(1)),
         (1, Op::HandoverLook { slot: 2 }, Ok(0)),
     ] {
-        assert_eq!(rt; step(&mut state, agent, op), answer, "{op:?}");
+        assert_eq!(rt; step(&mut state, agent, op), answer);
     }
     assert_eq!(rt; first_of(&state, 1), Some(0));
     Ok(())

@@ -10,7 +10,7 @@ use Rattle.orc_ordered_chains.proofs.Linking.{may_link}
 use Rattle.orc_split_rule.specs.SplitDiscipline.{MayAdd}
 use Rattle.orc_split_rule.specs.SplitOrder.{dummy_place, key_place, place_of, reversed, split_order}
 use Rattle.orc_split_rule.specs.Watches.{node_to_link}
-use Rattle.orc_split_rule.proofs.tests.a_set_that_grows.Goals as goal
+use Rattle.container_tests.proofs.tests.split_rule.a_set_that_grows.Goals as goal
 
 one_is : reversed 1 ≡ 2 ^ 63
 unfolding reversed reverse_bits_onto

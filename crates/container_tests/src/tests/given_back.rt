@@ -3,7 +3,7 @@
 ghost use Rattle.std.specs.Prelude.{◌≡◌, ◌≤◌, All, IfOk, length};
 ghost use Rattle.given_back.specs.Places.{tags};
 
-use crate::{GivenBack, Keeps, Unfinished};
+use given_back::{GivenBack, Keeps, Unfinished};
 use std::alloc::{AllocError, Global};
 use std::test::Fail;
 

@@ -1,6 +1,6 @@
-//! The laws, called once.
+//! The laws of ordered chains.
 
-use super::*;
+use orc_ordered_chains::*;
 
 #[test]
 fn the_laws_stand() {

@@ -1,7 +1,7 @@
 use Rattle.std.proofs.Common.{arith, refl}
 use Rattle.std.specs.Int.{reverse_bits_onto}
 use Rattle.orc_split_rule.specs.SplitOrder.{reversed}
-use Rattle.orc_split_rule.proofs.tests.numbers_by_their_lowest_bits.Goals as goal
+use Rattle.container_tests.proofs.tests.split_rule.numbers_by_their_lowest_bits.Goals as goal
 
 pub returns-clause-order : goal.returns-clause-order
 unfolding reversed reverse_bits_onto

@@ -1,4 +1,4 @@
-//! Notes, the laws called once, and a worked example of the definitions, computed by hand and proved.
+//! The laws of the split order, and a worked example of its definitions, computed by hand and proved.
 
 ghost use Rattle.std.specs.Prelude.{◌≡◌, ◌*◌, ◌^◌, List, ◌∷◌, [], Some, None, true, map};
 ghost use Rattle.orc_heap.specs.{
@@ -15,10 +15,7 @@ ghost use Rattle.orc_split_rule.specs.{
   SplitDiscipline.{SplitMay, set_after, size_of},
 };
 
-use super::*;
-use orc_heap::Discipline;
-use orc_history::SetEntry;
-use std::test::Fail;
+use orc_split_rule::*;
 
 // The even keys up to 16 in split order, and then the odd ones, which bucket 1 has where there are two buckets. The parent
 // of bucket 6 is bucket 2, and that one's is bucket 0.
@@ -56,19 +53,8 @@ fn a_set_that_grows()
         × IsPath (run_heap n es) (Place.Root 0) (0 ∷ 3 ∷ []) (Some 1) }
 {}
 
-fn plain_note<D: Discipline>(note: D::Note) -> Option<D::Note> {
-    Some(note)
-}
-
 #[test]
-fn notes_are_compared_with_their_entries(rt: HostRuntime) -> Result<(), Fail> {
-    let asked = SplitNote::Entry(SetEntry::Asked {
-        agent: 1,
-        key: 7,
-        yes: true,
-    });
-    assert_eq!(rt; plain_note::<Split>(asked), Some(asked));
-    assert_ne!(rt; SplitNote::Bucket, SplitNote::Grow);
+fn the_laws_stand() {
     allowed_events_obey_the_discipline();
     set_histories_are_legal();
     the_set_stands_on_the_chain();
@@ -85,5 +71,6 @@ fn notes_are_compared_with_their_entries(rt: HostRuntime) -> Result<(), Fail> {
     a_grow_may_come();
     absent_answers_may_come();
     present_answers_may_come();
-    Ok(())
+    numbers_by_their_lowest_bits();
+    a_set_that_grows();
 }
