@@ -7,7 +7,7 @@ use crate::seen::Own;
 
 // Which calls agents make: of a queue puts and takes, in turn or by agents apart; of a set so many of a hundred that ask, insert
 // and remove; of a cell so many of a hundred that read, publish one part and publish both.
-#[derive(Clone, Copy, Debug, PartialEq, Eq, Drop)]
+#[derive(Clone, Copy, PartialEq, Eq, Drop)]
 pub enum Mix {
     Pairs,
     Apart,
@@ -46,7 +46,7 @@ impl Mix {
 }
 
 // The calls of one agent.
-#[derive(Clone, Copy, Debug, PartialEq, Eq, Drop)]
+#[derive(Clone, Copy, PartialEq, Eq, Drop)]
 pub struct Load {
     pub(crate) mix: Mix,
     pub(crate) calls: u32,
@@ -60,7 +60,7 @@ pub struct Load {
 }
 
 /// How a container is driven.
-#[derive(Clone, Copy, Debug, PartialEq, Eq, Drop)]
+#[derive(Clone, Copy, PartialEq, Eq, Drop)]
 pub struct Plan {
     /// How many agents make calls, each in a thread of its own.
     pub threads: u32,

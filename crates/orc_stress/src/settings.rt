@@ -11,7 +11,7 @@ use clap::{Arg, ArgAction, ArgMatches, Command};
 use std::alloc::{AllocError, Global};
 
 /// What is driven.
-#[derive(Clone, Copy, Debug, PartialEq, Eq, Drop)]
+#[derive(Clone, Copy, PartialEq, Eq, Drop)]
 pub enum Kind {
     Queue,
     List,
@@ -39,7 +39,7 @@ impl Kind {
 }
 
 /// What it stands on.
-#[derive(Clone, Copy, Debug, PartialEq, Eq, Drop)]
+#[derive(Clone, Copy, PartialEq, Eq, Drop)]
 pub enum Domain {
     Plain,
     Reclaiming,
@@ -47,7 +47,7 @@ pub enum Domain {
 
 /// Where the agent more is stopped: it holds the first node, or has put a job and not moved the tail, or has marked a key's node
 /// and not taken it off its chain, or has staged a new part and not published it.
-#[derive(Clone, Copy, Debug, PartialEq, Eq, Drop)]
+#[derive(Clone, Copy, PartialEq, Eq, Drop)]
 pub enum Stop {
     First,
     Tail,
@@ -68,7 +68,7 @@ impl Stop {
 }
 
 /// What the words ask for.
-#[derive(Clone, Copy, Debug, PartialEq, Eq, Drop)]
+#[derive(Clone, Copy, PartialEq, Eq, Drop)]
 pub struct Settings {
     /// `--container`.
     pub container: Kind,
@@ -121,7 +121,7 @@ impl Settings {
 }
 
 /// Why words give no settings.
-#[derive(Clone, Copy, Debug, PartialEq, Eq, Drop)]
+#[derive(Clone, Copy, PartialEq, Eq, Drop)]
 pub enum Refused {
     /// `clap` refuses the words.
     Words,

@@ -13,7 +13,7 @@ use std::alloc::Global;
 
 /// What one agent found in a new set: how many keys were added, how many buckets there were then, how many of twice as many keys
 /// were present, how many were taken out, and how many were present then.
-#[derive(Clone, Copy, Debug, PartialEq, Eq, Drop)]
+#[derive(Clone, Copy, PartialEq, Eq, Drop)]
 pub struct Doubling {
     pub added: u64,
     pub buckets: Option<u32>,

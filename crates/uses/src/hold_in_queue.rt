@@ -13,7 +13,7 @@ use std::alloc::Global;
 
 /// How many jobs were put and taken beside a hold, how many retired rows were left for the passes once it had been let go, and what
 /// the domain tells at rest.
-#[derive(Clone, Copy, Debug, PartialEq, Eq, Drop)]
+#[derive(Clone, Copy, PartialEq, Eq, Drop)]
 pub struct HeldQueue {
     pub put: u64,
     pub taken: u64,

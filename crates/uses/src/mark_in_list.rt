@@ -13,7 +13,7 @@ use std::alloc::Global;
 
 /// How many keys were added and taken out beside a hold, how many retired rows were left for the passes once it had been let go, and
 /// what the domain tells at rest.
-#[derive(Clone, Copy, Debug, PartialEq, Eq, Drop)]
+#[derive(Clone, Copy, PartialEq, Eq, Drop)]
 pub struct HeldList {
     pub added: u64,
     pub taken_out: u64,

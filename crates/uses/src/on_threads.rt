@@ -17,7 +17,7 @@ use std::thread::Threads;
 
 /// How many calls of a queue were answered, how many more jobs were put than taken, how many retired rows were left once each agent
 /// had settled alone, and what its domain tells at rest.
-#[derive(Clone, Copy, Debug, PartialEq, Eq, Drop)]
+#[derive(Clone, Copy, PartialEq, Eq, Drop)]
 pub struct QueueWork {
     pub answered: u64,
     pub left: u64,
@@ -79,7 +79,7 @@ where
 /// How many calls of a set were answered, the bits of the keys that were added, less those of the keys that were taken out, and the
 /// bits of those that the first agent found present; how many retired rows were left once each agent had settled alone, and what its
 /// domain tells at rest.
-#[derive(Clone, Copy, Debug, PartialEq, Eq, Drop)]
+#[derive(Clone, Copy, PartialEq, Eq, Drop)]
 pub struct SetWork {
     pub answered: u64,
     pub balance: u64,

@@ -7,7 +7,7 @@ use super::nodes::{replace_node, swing_root, unlink_node};
 use orc_heap::{AnyFit, At, Held, Links, Looked, LookedOn, Want};
 
 /// What another agent does to root 0 meanwhile.
-#[derive(Clone, Copy, Debug, PartialEq, Eq, Drop)]
+#[derive(Clone, Copy, PartialEq, Eq, Drop)]
 pub enum Change {
     /// It leads to another node, with value 9.
     Replace,
@@ -18,7 +18,7 @@ pub enum Change {
 }
 
 /// What a look on finds, by first values.
-#[derive(Clone, Copy, Debug, PartialEq, Eq, Drop)]
+#[derive(Clone, Copy, PartialEq, Eq, Drop)]
 pub enum Found {
     /// The node that is held now, alone.
     On(u64),

@@ -47,5 +47,5 @@ fn two_rows_are_given_once_each_and_a_hold_stays_where_the_link_is_null(rt: Host
         waiting: 0,
         second: Some((true, Found::Stays(9, None))),
     };
-    assert_eq!(rt; told.looks, Some(looks));
+    assert!(rt; told.looks == Some(looks));
 }

@@ -60,7 +60,7 @@ fn rows_are_used_again_and_a_hold_moves_on_to_an_unmarked_node(rt: HostRuntime) 
         waiting: 1,
         second: Some((true, Found::Stays(9, Some(9)))),
     };
-    assert_eq!(rt; told.looks, Some(looks));
+    assert!(rt; told.looks == Some(looks));
     assert_eq!(rt; beside, Some((true, true)));
 }
 

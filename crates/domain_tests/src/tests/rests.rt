@@ -103,7 +103,7 @@ pub fn reuses<L: Domain<Rule = AnyFit> + Drop>(alloc: Global) -> Option<(Option<
 }
 
 /// What two looks by a hold that may move on found, and how many rows the pass had to work through after the first.
-#[derive(Clone, Copy, Debug, PartialEq, Eq, Drop)]
+#[derive(Clone, Copy, PartialEq, Eq, Drop)]
 pub struct TwoLooks {
     pub first: Option<(bool, Found)>,
     pub waiting: u32,

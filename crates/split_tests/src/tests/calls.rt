@@ -36,7 +36,7 @@ fn present_below<L: Links<Rule = Split>>(set: &SplitSet<L>, p: &mut L::Pass, end
 
 /// What nine even keys and then 1 come to: how many even ones were added, the number of buckets, whether the odd one
 /// was added, the number of buckets then, and how many keys below 18 are present, and whether 3 is.
-#[derive(Clone, Copy, Debug, PartialEq, Eq, Drop)]
+#[derive(Clone, Copy, PartialEq, Eq, Drop)]
 pub struct Doubled {
     pub added: u32,
     pub buckets: Option<u32>,
@@ -140,7 +140,7 @@ fn is_named<L: Links<Rule = Split>>(set: &SplitSet<L>, p: &mut L::Pass) -> Optio
 /// What two agents find of bucket 1, where one of them stops between the bucket's dummy and its root: whether it linked the
 /// dummy, whether it did so again, whether the root names it then, whether 1 is present to the other agent, and whether the
 /// root names the dummy then.
-#[derive(Clone, Copy, Debug, PartialEq, Eq, Drop)]
+#[derive(Clone, Copy, PartialEq, Eq, Drop)]
 pub struct Unnamed {
     pub linked: bool,
     pub again: bool,

@@ -46,7 +46,7 @@ impl Sums {
 }
 
 /// How many keys were added, how many were found right afterwards, how often the number of buckets fell, and that number then.
-#[derive(Clone, Copy, Debug, PartialEq, Eq, Drop)]
+#[derive(Clone, Copy, PartialEq, Eq, Drop)]
 pub struct Told {
     pub added: u64,
     pub found: u64,

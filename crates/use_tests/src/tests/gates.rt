@@ -99,7 +99,7 @@ impl Gate for Judge<'_> {
 
 // How a gate was called: how often wrongly; for each agent, how often, and how many lines or takes it began; and how many takes were
 // replied to.
-#[derive(Clone, Copy, Debug, PartialEq, Eq, Drop)]
+#[derive(Clone, Copy, PartialEq, Eq, Drop)]
 pub(super) struct Judged {
     pub(super) wrong: u64,
     pub(super) calls: [u64; 4],

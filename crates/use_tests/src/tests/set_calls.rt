@@ -134,10 +134,10 @@ fn rows_of_a_set_are_used_again(rt: HostRuntime) -> Result<(), Fail> {
     let told = over_reclaimed_rows::<_, OrcDomain<Chain>>(&rt, rt.alloc());
     assert_eq!(rt; told.others, [Ok(None); 3]);
     assert_eq!(rt; (told.past, told.worn), (Ok(true), [Ok(true); 2]));
-    assert_eq!(rt; told.held, Ok(Some(LET_GO_LATE)));
+    assert!(rt; told.held == Ok(Some(LET_GO_LATE)));
     let Ok(Some(work)) = told.worked else {
         panic!(rt; "passes in order")
     };
-    assert!(rt; has_reused_rows(&work), "{work:?}");
+    assert!(rt; has_reused_rows(&work));
     Ok(())
 }

@@ -25,7 +25,7 @@ fn a_set_doubles_and_all_its_rows_stay_out(rt: HostRuntime) {
         linked: 29,
     };
     let told = doubles_and_rests::<PlainDomain<Split>>(rt.alloc(), 32, 24);
-    assert_eq!(rt; told, Some((ALL_24, counts)));
+    assert!(rt; told == Some((ALL_24, counts)));
 }
 
 // Once all keys are out, a row is linked for each of the three new buckets, and one for their number.
@@ -37,5 +37,5 @@ fn a_set_doubles_and_the_rows_of_its_keys_are_freed(rt: HostRuntime) {
         linked: 4,
     };
     let told = doubles_and_rests::<OrcDomain<Split>>(rt.alloc(), 32, 24);
-    assert_eq!(rt; told, Some((ALL_24, counts)));
+    assert!(rt; told == Some((ALL_24, counts)));
 }
