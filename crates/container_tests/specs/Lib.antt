@@ -1,2 +1,4 @@
 pub mod ChainHeaps
 pub mod QueueHeaps
+pub mod CellPasses
+pub mod Ready

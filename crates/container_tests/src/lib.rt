@@ -1,4 +1,4 @@
-//! Tests of the containers, of the rules that their links follow, and of what is given back.
+//! Tests of the containers over both domains, of the rules that their links follow, and of what is given back.
 #![tactic(auto)]
 
 #[cfg(test)]

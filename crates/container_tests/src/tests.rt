@@ -1,5 +1,6 @@
 //! Worked examples of the definitions, the laws called once, and what crosses threads.
 
+mod cell;
 mod chain_rule;
 mod fifo_rule;
 mod given_back;
@@ -8,4 +9,6 @@ mod ordered_chains;
 mod pairs_rule;
 mod queue;
 mod set;
+mod split;
 mod split_rule;
+mod uses;

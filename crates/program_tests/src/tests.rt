@@ -12,6 +12,7 @@ mod decimals;
 mod feed;
 mod histories;
 mod jobs;
+mod modes;
 mod options;
 mod report;
 mod runs;

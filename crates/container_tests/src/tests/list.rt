@@ -1,4 +1,4 @@
-//! Lists cross threads where their domains do. The calls are run over each domain by the crate `use_tests`.
+//! Lists cross threads where their domains do. Their calls are run over each domain in `uses`.
 
 use orc_chain_rule::Chain;
 use orc_heap::Links;

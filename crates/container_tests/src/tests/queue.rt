@@ -1,3 +1,3 @@
-//! The queue. Its calls are run over each domain by the crate `use_tests`.
+//! The queue. Its calls are run over each domain in `uses`.
 
 mod examples;

@@ -1,5 +1,0 @@
-//! The cell over both domains.
-#![tactic(auto)]
-
-#[cfg(test)]
-mod tests;

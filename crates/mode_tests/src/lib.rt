@@ -1,5 +1,0 @@
-//! The modes of the program, by its one call.
-#![tactic(auto)]
-
-#[cfg(test)]
-mod tests;

@@ -1,6 +1,0 @@
-use Rattle.orc_split_set.specs.SetCalls.{IsUsable}
-use Rattle.split_tests.proofs.tests.calls.present_below.Given as goal
-
--- the pass may be used
-abbrev pub invariant-loop-key : goal.invariant-loop-key
-invariant-loop-key g l = IsUsable g.L.Links l.set.links l.p

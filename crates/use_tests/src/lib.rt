@@ -1,5 +1,0 @@
-//! The uses of the containers, run.
-#![tactic(auto)]
-
-#[cfg(test)]
-mod tests;
