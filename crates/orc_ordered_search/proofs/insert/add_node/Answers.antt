@@ -1,5 +1,6 @@
 -- The node is linked, and all other nodes are let go.
 use Rattle.std.proofs.Common.{None}
+use Rattle.orc_heap.proofs.Pieces.{goes_on}
 use Rattle.orc_ordered_search.specs.Inserts.{NodeToAdd}
 use Rattle.orc_ordered_search.specs.Reading.{ordering_of}
 use Rattle.orc_ordered_search.specs.Searches.{InHand}
@@ -19,9 +20,21 @@ hands g c = λ a.
     a.given a.slots a.begun _ a.at c.args.note _ c.link_node-linked.result (e.linked a)
     (g.met.L.Links.allowed _ _ e.pass)
 
+pub link_node-linked-requires : goal.link_node-linked-requires
+link_node-linked-requires g c = record { pass = c.requires.pass; root = c.requires.root; adds = c.requires.adds }
+
+pub let_all_go-requires-clause-pass : goal.let_all_go-requires-clause-pass
+let_all_go-requires-clause-pass g c = c.link_node-linked.ensures.pass
+
 pub let_all_go-requires-clause-hands : goal.let_all_go-requires-clause-hands
 let_all_go-requires-clause-hands g c =
     (c.requires.adds.slots, hands g (goal.at.let_all_go-requires-clause-hands g c).After-link_node-linked c.requires.adds)
+
+pub returns-clause-pass : goal.returns-clause-pass
+returns-clause-pass g c = c.let_all_go.ensures.pass
+
+pub returns-clause-later : goal.returns-clause-later
+returns-clause-later g c = goes_on _ _ _ c.link_node-linked.ensures.later c.let_all_go.ensures.later
 
 pub returns-clause-added : goal.returns-clause-added
 returns-clause-added g c = λ a.

@@ -1,5 +1,6 @@
 -- The node is marked, the left place led past the run, and all nodes are let go.
 use Rattle.std.proofs.Common.{Bool, Some, false, refl, subst, sym, true, ℕ, ◌≡◌}
+use Rattle.orc_heap.proofs.Pieces.{goes_on}
 use Rattle.orc_heap.specs.Seats.{Seat, heap_of}
 use Rattle.orc_heap.specs.Slots.{id_in}
 use Rattle.orc_heap.specs.declared.events.Place.{Place}
@@ -58,6 +59,12 @@ mark_node-requires g c =
     let r = reads_node (ordering_of (g.met.K.Rank.ordered _)) f in
     record { pass = c.requires.pass; node = r.node_held; next = r.next_held; key = r.key; follows = r.follows }
 
+pub returns-then-not-mark_node-clause-pass : goal.returns-then-not-mark_node-clause-pass
+returns-then-not-mark_node-clause-pass g c = c.let_all_go.ensures.pass
+
+pub returns-then-not-mark_node-clause-later : goal.returns-then-not-mark_node-clause-later
+returns-then-not-mark_node-clause-later g c = goes_on _ _ _ c.mark_node.ensures.later c.let_all_go.ensures.later
+
 pub returns-then-not-mark_node-clause-removed : goal.returns-then-not-mark_node-clause-removed
 returns-then-not-mark_node-clause-removed g c = λ start passed s f.
     let at = (goal.at.returns-then-not-mark_node-clause-removed g c).After-mark_node in
@@ -67,6 +74,9 @@ returns-then-not-mark_node-clause-removed g c = λ start passed s f.
     (g.K.SetRank.noted (Removed t.agent a.key true)) _ _
     (marks g at start passed s f false c.if-not-mark_node.true) (c.let_all_go.ensures.gone s.slots (hands g at start passed s f))
     (g.met.L.Links.allowed _ _ c.mark_node.ensures.pass)
+
+pub let_all_go-requires-clause-pass : goal.let_all_go-requires-clause-pass
+let_all_go-requires-clause-pass g c = c.mark_node.ensures.pass
 
 pub let_all_go-requires-clause-hands : goal.let_all_go-requires-clause-hands
 let_all_go-requires-clause-hands g c =
@@ -94,11 +104,20 @@ unlink_run-requires g c =
       follows = unlink_follows ord f noted u m all;
     }
 
+pub let_all_go-requires-2-clause-pass : goal.let_all_go-requires-2-clause-pass
+let_all_go-requires-2-clause-pass g c = c.unlink_run.ensures.pass
+
 pub let_all_go-requires-2-clause-hands : goal.let_all_go-requires-2-clause-hands
 let_all_go-requires-2-clause-hands g c =
     let at = goal.at.let_all_go-requires-2-clause-hands g c in
     let (start, passed, s, f) = c.requires.present in
     (s.slots, hands_on g at.After-unlink_run start passed s f (hands g at.After-mark_node start passed s f))
+
+pub returns-clause-pass : goal.returns-clause-pass
+returns-clause-pass g c = c.let_all_go-2.ensures.pass
+
+pub returns-clause-later : goal.returns-clause-later
+returns-clause-later g c = goes_on _ _ _ (goes_on _ _ _ c.mark_node.ensures.later c.unlink_run.ensures.later) c.let_all_go-2.ensures.later
 
 pub returns-clause-removed : goal.returns-clause-removed
 returns-clause-removed g c = λ start passed s f.
