@@ -1,5 +1,6 @@
 -- One load, and then all nodes are let go.
 use Rattle.std.proofs.Common.{None, ap, ◌∙◌}
+use Rattle.orc_heap.proofs.Pieces.{goes_on}
 use Rattle.orc_heap.specs.Seats.{Seat}
 use Rattle.orc_heap.specs.declared.events.Place.{Place}
 use Rattle.std.specs.Prelude.{Some, ℕ}
@@ -26,6 +27,9 @@ hands g c = λ start passed s f.
     tested_hand ord s.slots a.left a.first a.right None _ _ _ _ _ _ e.tested
     (g.met.L.Links.allowed _ _ e.pass) (absent_hand ord start (g.K.SetRank.key_rank a.key) passed a.left a.first s _ a.right f)
 
+pub same-entered-requires-clause-pass : goal.same-entered-requires-clause-pass
+same-entered-requires-clause-pass g c = c.requires.pass
+
 pub same-entered-requires-clause-place : goal.same-entered-requires-clause-place
 same-entered-requires-clause-place g c =
     let t = g.L.Links.seat _ c.args.p.now in
@@ -50,10 +54,19 @@ same-entered-requires-clause-allowed g c =
     (c.link_of.ensures.link t.slots ∙ left_link ord start wanted passed a.left a.first a.right s t f) c.note-note.ensures c.requires.entry
     (g.met.L.Links.obeys _ _ c.requires.pass)
 
+pub let_all_go-requires-clause-pass : goal.let_all_go-requires-clause-pass
+let_all_go-requires-clause-pass g c = c.same-entered.ensures.pass
+
 pub let_all_go-requires-clause-hands : goal.let_all_go-requires-clause-hands
 let_all_go-requires-clause-hands g c =
     let (start, passed, s, f) = c.requires.absent in
     (s.slots, hands g (goal.at.let_all_go-requires-clause-hands g c).After-same-entered start passed s f)
+
+pub returns-clause-pass : goal.returns-clause-pass
+returns-clause-pass g c = c.let_all_go.ensures.pass
+
+pub returns-clause-later : goal.returns-clause-later
+returns-clause-later g c = goes_on _ _ _ c.same-entered.ensures.later c.let_all_go.ensures.later
 
 pub returns-clause-entered : goal.returns-clause-entered
 returns-clause-entered g c = λ start passed s f.

@@ -1,6 +1,7 @@
 -- One load, and then all nodes are let go.
 use Rattle.std.proofs.Common.{ap, ◌∙◌}
 use Rattle.std.specs.Prelude.{Some, ℕ}
+use Rattle.orc_heap.proofs.Pieces.{goes_on}
 use Rattle.orc_heap.specs.Seats.{Seat, heap_of}
 use Rattle.orc_heap.specs.declared.events.Place.{Place}
 use Rattle.orc_heap.specs.declared.events.Place.TheVariants.{Next}
@@ -29,6 +30,9 @@ hands g c = λ start passed s f.
     tested_hand ord s.slots a.left a.first (Some a.node) a.next _ _ _ _ _ _ e.tested
     (g.met.L.Links.allowed _ _ e.pass) (present_hand ord start (g.K.SetRank.key_rank a.key) passed a.left a.first s _ a.node a.next f)
 
+pub same-entered-requires-clause-pass : goal.same-entered-requires-clause-pass
+same-entered-requires-clause-pass g c = c.requires.pass
+
 pub same-entered-requires-clause-place : goal.same-entered-requires-clause-place
 same-entered-requires-clause-place g c =
     let a = c.args in
@@ -53,10 +57,19 @@ same-entered-requires-clause-allowed g c =
     a.entry (ap Next r.id_is) (c.link_to.ensures.link t.slots ∙ ap link_over r.next_is) c.note-note.ensures c.requires.entry
     (g.met.L.Links.obeys _ _ c.requires.pass)
 
+pub let_all_go-requires-clause-pass : goal.let_all_go-requires-clause-pass
+let_all_go-requires-clause-pass g c = c.same-entered.ensures.pass
+
 pub let_all_go-requires-clause-hands : goal.let_all_go-requires-clause-hands
 let_all_go-requires-clause-hands g c =
     let (start, passed, s, f) = c.requires.present in
     (s.slots, hands g (goal.at.let_all_go-requires-clause-hands g c).After-same-entered start passed s f)
+
+pub returns-clause-pass : goal.returns-clause-pass
+returns-clause-pass g c = c.let_all_go.ensures.pass
+
+pub returns-clause-later : goal.returns-clause-later
+returns-clause-later g c = goes_on _ _ _ c.same-entered.ensures.later c.let_all_go.ensures.later
 
 pub returns-clause-entered : goal.returns-clause-entered
 returns-clause-entered g c = λ start passed s f.

@@ -1,5 +1,5 @@
 -- By what the search found.
-use Rattle.std.proofs.Common.{ap, arith, false, inr, subst, true, ℕ, ◌∙◌}
+use Rattle.std.proofs.Common.{Bool, None, Option, Some, [], ap, append-nil, arith, false, inr, subst, true, ℕ, ◌∙◌, ◌≡◌}
 use Rattle.orc_heap.specs.Seats.{Seat}
 use Rattle.orc_heap.specs.declared.events.Place.{Place}
 use Rattle.orc_history.specs.declared.set.SetEntry.TheVariants.{Asked, Removed}
@@ -39,6 +39,19 @@ present g c = λ start s f.
     subst (λ (x : Searched). Finds (reading_by (g.L.Links.numbers d) g.K.Rank.manner) start (g.K.SetRank.key_rank c.args.key) s x (g.L.Links.seat d c.args.p.now))
     c.in-Present.is f
 
+-- no answer isn't yes
+none_true : ◌≡◌ {A = Option Bool} None (Some true) → ⊥
+none_true is = cc
+
+pub returns-in-Over-clause-pass : goal.returns-in-Over-clause-pass
+returns-in-Over-clause-pass g c = c.requires.pass
+
+pub returns-in-Over-clause-later : goal.returns-in-Over-clause-later
+returns-in-Over-clause-later g c = ([], append-nil _)
+
+pub returns-in-Over-clause-taken : goal.returns-in-Over-clause-taken
+returns-in-Over-clause-taken g c = λ start s f call yes. absurd (none_true yes)
+
 pub returns-in-Over-clause-answered : goal.returns-in-Over-clause-answered
 returns-in-Over-clause-answered g c = λ start s f.
     let r = reading_by _ g.K.Rank.manner in
@@ -63,6 +76,15 @@ enter_absent-entered-requires g c =
           c.entry_of-entry.ensures c.agent-agent.ensures;
       absent = (start, c.in-Absent.passed, s, absent g (goal.at.enter_absent-entered-requires g c).In-Absent start s f);
     }
+
+pub returns-in-Absent-clause-pass : goal.returns-in-Absent-clause-pass
+returns-in-Absent-clause-pass g c = c.enter_absent-entered.ensures.pass
+
+pub returns-in-Absent-clause-later : goal.returns-in-Absent-clause-later
+returns-in-Absent-clause-later g c = c.enter_absent-entered.ensures.later
+
+pub returns-in-Absent-clause-load : goal.returns-in-Absent-clause-load
+returns-in-Absent-clause-load g c = λ asks other. c.enter_absent-entered.ensures.load
 
 pub returns-in-Absent-clause-answered : goal.returns-in-Absent-clause-answered
 returns-in-Absent-clause-answered g c = λ start s f.
@@ -91,6 +113,15 @@ enter_present-entered-requires g c =
       present = (start, c.in-Present.passed, s, present g (goal.at.enter_present-entered-requires g c).In-Present start s f);
     }
 
+pub returns-in-Ask-clause-pass : goal.returns-in-Ask-clause-pass
+returns-in-Ask-clause-pass g c = c.enter_present-entered.ensures.pass
+
+pub returns-in-Ask-clause-later : goal.returns-in-Ask-clause-later
+returns-in-Ask-clause-later g c = c.enter_present-entered.ensures.later
+
+pub returns-in-Ask-clause-load : goal.returns-in-Ask-clause-load
+returns-in-Ask-clause-load g c = λ asks other. c.enter_present-entered.ensures.load
+
 pub returns-in-Ask-clause-answered : goal.returns-in-Ask-clause-answered
 returns-in-Ask-clause-answered g c = λ start s f.
     let a = c.args in
@@ -107,10 +138,22 @@ returns-in-Ask-clause-few g c = λ start s f.
 pub returns-in-Ask-clause-taken : goal.returns-in-Ask-clause-taken
 returns-in-Ask-clause-taken g c = λ start s f call yes. let is = c.in-Ask.is in cc
 
+pub take_out-removed-requires-clause-pass : goal.take_out-removed-requires-clause-pass
+take_out-removed-requires-clause-pass g c = c.requires.pass
+
+pub take_out-removed-requires-clause-root : goal.take_out-removed-requires-clause-root
+take_out-removed-requires-clause-root g c = c.requires.root
+
 pub take_out-removed-requires-clause-present : goal.take_out-removed-requires-clause-present
 take_out-removed-requires-clause-present g c =
     let (start, s, f) = c.requires.found in
     (start, c.in-Present.passed, s, present g (goal.at.take_out-removed-requires-clause-present g c).In-Present start s f)
+
+pub returns-in-Remove-clause-pass : goal.returns-in-Remove-clause-pass
+returns-in-Remove-clause-pass g c = c.take_out-removed.ensures.pass
+
+pub returns-in-Remove-clause-later : goal.returns-in-Remove-clause-later
+returns-in-Remove-clause-later g c = c.take_out-removed.ensures.later
 
 pub returns-in-Remove-clause-answered : goal.returns-in-Remove-clause-answered
 returns-in-Remove-clause-answered g c = λ start s f.

@@ -2,6 +2,7 @@
 use Rattle.std.proofs.Common.{None, Option, Some, [], ap, refl, subst, sym, ◌∙◌, ◌∷◌, ◌≡◌, ◌≢◌, ℕ}
 use Rattle.std.proofs.lemmas.Result.{err_from_is_err_and}
 use Rattle.orc_heap.proofs.Hands.{holds_of}
+use Rattle.orc_heap.proofs.Pieces.{goes_on}
 use Rattle.orc_heap.specs.Calls.{event_of}
 use Rattle.orc_heap.specs.OwnEvents.{Only}
 use Rattle.orc_heap.specs.Slots.{Holds, Slots}
@@ -55,6 +56,9 @@ link_is g c = λ after same.
     ∙ adds_link x a.start a.wanted a.value a.kind c.args.left.now c.args.first.now c.args.right.now c.args.node.now a.given a.slots a.begun
     _ a.at
 
+pub aim-requires-clause-pass : goal.aim-requires-clause-pass
+aim-requires-clause-pass g c = c.requires.pass
+
 pub aim-requires-clause-fresh : goal.aim-requires-clause-fresh
 aim-requires-clause-fresh g c =
     let s = g.L.Links.seat c.args.links.now c.args.p.now in
@@ -76,6 +80,12 @@ aim-requires-clause-target g c =
 pub aim-requires-clause-allowed : goal.aim-requires-clause-allowed
 aim-requires-clause-allowed g c = λ more later fits. g.met.K.SetRank.allows_aim (g.L.Links.numbers c.args.links.now) _ _ _ _ fits
 
+pub returns-in_err-aim-clause-pass : goal.returns-in_err-aim-clause-pass
+returns-in_err-aim-clause-pass g c = c.in_err-aim.ensures.pass
+
+pub returns-in_err-aim-clause-later : goal.returns-in_err-aim-clause-later
+returns-in_err-aim-clause-later g c = c.in_err-aim.ensures.later
+
 pub returns-in_err-aim-clause-linked : goal.returns-in_err-aim-clause-linked
 returns-in_err-aim-clause-linked g c = λ a.
     let x = ordering_of (g.met.K.Rank.ordered _) in
@@ -88,6 +98,9 @@ returns-in_err-aim-clause-worn g c =
     let e = c.in_err-aim.ensures in
     let r = err_from_is_err_and c.from_residual.result c.from_residual.ensures.1 in
     rw (r.1, r.2) (part_fact g.L.Links.agent_of s.agent _ _ (g.L.Links.worn _ s.agent c.in_err-aim.field-0.0 _) e.later e.worn)
+
+pub swing-requires-clause-pass : goal.swing-requires-clause-pass
+swing-requires-clause-pass g c = c.in_ok-aim.ensures.pass
 
 pub swing-requires-clause-place : goal.swing-requires-clause-place
 swing-requires-clause-place g c =
@@ -138,6 +151,12 @@ swing-requires-clause-allowed g c =
     (g.met.L.Links.obeys _ _ c.requires.pass) (g.met.L.Links.obeys _ _ e.pass) (g.met.L.Links.allowed _ _ e.pass)
     (apart g at) (c.place_of.ensures.place t.slots ∙ place_is g at t.slots o.slots) (c.link_of.ensures.link t.slots ∙ link_is g at t.slots o.slots)
     a.at.leads.plain a.at.leads.below a.at.leads.run a.at.above
+
+pub returns-clause-pass : goal.returns-clause-pass
+returns-clause-pass g c = c.swing.ensures.pass
+
+pub returns-clause-later : goal.returns-clause-later
+returns-clause-later g c = goes_on _ _ _ c.in_ok-aim.ensures.later c.swing.ensures.later
 
 pub returns-clause-linked : goal.returns-clause-linked
 returns-clause-linked g c = λ a.
