@@ -6,7 +6,6 @@ use Rattle.orc_history.specs.declared.set.SetEntry.TheVariants.{Added}
 use Rattle.orc_ordered_search.specs.Inserts.{AddsFound}
 use Rattle.orc_ordered_search.specs.Reading.{ordering_of, reading_by}
 use Rattle.orc_ordered_search.specs.Turns.{Enters, made_from}
-use Rattle.orc_ordered_search.specs.declared.turn.InsertTurn.{InsertTurn}
 use Rattle.orc_ordered_search.specs.declared.turn.InsertTurn.TheVariants.{Answered, NoNode, Over, Spent}
 use Rattle.orc_ordered_search.specs.declared.walk.Searched.{Searched}
 use Rattle.orc_ordered_search.proofs.Inserting.{keeps_answer, keeps_on, seen_holds}
