@@ -81,23 +81,53 @@ fn a_trace_is_read_line_by_line(rt: HostRuntime) -> Result<(), Fail> {
         steps.push((agent, op))?;
         rest = more;
     }
-    assert!(rt; matches!(
-        steps.as_slice(),
-        [
-            (0, Op::Enroll),
-            (2, Op::LinkLoad { place: Word::Side(1), slot: Some(7) }),
-            (
-                1,
-                Op::LinkCas {
-                    place: Word::Root(0),
-                    from: RowLink { to: None, mark: false },
-                    to: RowLink { to: Some(1), mark: true },
-                },
-            ),
-            (1, Op::CounterLoad { row: 0, how: CounterUse::End }),
-            (0, Op::LinkStore { row: 0, number: 1, link: RowLink { to: Some(1), mark: false } }),
-        ],
-    ));
+    assert!(rt;
+        matches!(
+            steps.as_slice(),
+            [
+                (0, Op::Enroll),
+                (
+                    2,
+                    Op::LinkLoad {
+                        place: Word::Side(1),
+                        slot: Some(7)
+                    }
+                ),
+                (
+                    1,
+                    Op::LinkCas {
+                        place: Word::Root(0),
+                        from: RowLink {
+                            to: None,
+                            mark: false
+                        },
+                        to: RowLink {
+                            to: Some(1),
+                            mark: true
+                        },
+                    },
+                ),
+                (
+                    1,
+                    Op::CounterLoad {
+                        row: 0,
+                        how: CounterUse::End
+                    }
+                ),
+                (
+                    0,
+                    Op::LinkStore {
+                        row: 0,
+                        number: 1,
+                        link: RowLink {
+                            to: Some(1),
+                            mark: false
+                        }
+                    }
+                ),
+            ],
+        )
+    );
     assert_eq!(rt; rest.len(), 0);
     Ok(())
 }
