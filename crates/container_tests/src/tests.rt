@@ -3,12 +3,12 @@
 mod cell;
 mod chain_rule;
 mod fifo_rule;
-mod given_back;
+mod giving_back;
 mod list;
 mod ordered_chains;
+mod over_domains;
 mod pairs_rule;
 mod queue;
 mod set;
 mod split;
 mod split_rule;
-mod uses;
