@@ -65,6 +65,11 @@ fn words()
     ensures none { words_left None ≡ [] }
 {}
 
+// A link to this row, or to none.
+fn link_to(to: Option<u32>, mark: bool) -> RowLink {
+    RowLink { to, mark }
+}
+
 #[test]
 fn a_trace_is_read_line_by_line(rt: HostRuntime) -> Result<(), Fail> {
     let text = "shape 2 1 3 8 2\n0 enroll\n2 load s1 7\n1 cas r0 - 1m\n1 end 0\n0 side 0 1\n";
@@ -72,62 +77,30 @@ fn a_trace_is_read_line_by_line(rt: HostRuntime) -> Result<(), Fail> {
         panic!(rt; "a shape line")
     };
     assert_eq!(rt; shape.agents(), 3);
-    let mut rest = lines;
-    let mut steps = Vec::new(rt.alloc());
-    for _ in 0..5 {
-        let Some((agent, op, more)) = first_step(&shape, rest) else {
-            panic!(rt; "a step line")
-        };
-        steps.push((agent, op))?;
-        rest = more;
-    }
-    assert!(rt;
-        matches!(
-            steps.as_slice(),
-            [
-                (0, Op::Enroll),
-                (
-                    2,
-                    Op::LinkLoad {
-                        place: Word::Side(1),
-                        slot: Some(7)
-                    }
-                ),
-                (
-                    1,
-                    Op::LinkCas {
-                        place: Word::Root(0),
-                        from: RowLink {
-                            to: None,
-                            mark: false
-                        },
-                        to: RowLink {
-                            to: Some(1),
-                            mark: true
-                        },
-                    },
-                ),
-                (
-                    1,
-                    Op::CounterLoad {
-                        row: 0,
-                        how: CounterUse::End
-                    }
-                ),
-                (
-                    0,
-                    Op::LinkStore {
-                        row: 0,
-                        number: 1,
-                        link: RowLink {
-                            to: Some(1),
-                            mark: false
-                        }
-                    }
-                ),
-            ],
-        )
-    );
+    let Some((0, Op::Enroll, rest)) = first_step(&shape, lines) else {
+        panic!(rt; "enroll")
+    };
+    let load = first_step(&shape, rest);
+    let Some((2, Op::LinkLoad { place, slot }, rest)) = load else {
+        panic!(rt; "load")
+    };
+    assert!(rt; matches!((place, slot), (Word::Side(1), Some(7))));
+    let cas = first_step(&shape, rest);
+    let Some((1, Op::LinkCas { place, from, to }, rest)) = cas else {
+        panic!(rt; "cas")
+    };
+    assert!(rt; matches!(place, Word::Root(0)));
+    assert_eq!(rt; (from, to), (link_to(None, false), link_to(Some(1), true)));
+    let end = first_step(&shape, rest);
+    let Some((1, Op::CounterLoad { row, how }, rest)) = end else {
+        panic!(rt; "end")
+    };
+    assert!(rt; matches!((row, how), (0, CounterUse::End)));
+    let side = first_step(&shape, rest);
+    let Some((0, Op::LinkStore { row, number, link }, rest)) = side else {
+        panic!(rt; "side")
+    };
+    assert_eq!(rt; (row, number, link), (0, 1, link_to(Some(1), false)));
     assert_eq!(rt; rest.len(), 0);
     Ok(())
 }
