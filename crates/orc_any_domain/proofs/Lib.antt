@@ -1,1 +1,4 @@
 pub mod Rounds
+pub mod Counting
+pub mod Rows
+pub mod FirstRows

@@ -1,5 +1,5 @@
 -- A pass that learns from others, one after another, and then once more.
-use Rattle.std.proofs.Common.{List, [], ap, arith, length, refl, subst, suc, sym, zero, ℕ, ◌<◌, ◌∙◌, ◌∷◌, ◌≡◌, ◌≢◌}
+use Rattle.std.proofs.Common.{List, [], ap, drop, arith, length, refl, subst, suc, sym, zero, ℕ, ◌<◌, ◌∙◌, ◌∷◌, ◌≡◌, ◌≢◌}
 use Rattle.std.proofs.Common.{⊎_elim}
 use Rattle.std.proofs.lemmas.List.Elements.{All-from_recursion}
 use Rattle.std.specs.List.{AllByRecursion}
@@ -54,6 +54,11 @@ pairwise_join R S T f (x ∷ xs) (y ∷ ys) [] h k = absurd k
 -- what holds of all elements holds of all behind the first
 pub all_behind : {A : Type 0} (P : A → Type 0) (all : List A) (x : A) (xs : List A) → all ≡ x ∷ xs → AllByRecursion P all → AllByRecursion P xs
 all_behind P all x xs is h = (subst (AllByRecursion P) is h).1
+
+-- a list from which its first element was removed
+pub first_removed : {A : Type 0} (xs : List A) (x : A) → x ≡ slice_index_or xs 0 x → 0 < length xs → xs ≡ x ∷ drop 1 xs
+first_removed [] x e l = absurd (omega (arith, l))
+first_removed (y ∷ xs) x e l = ap (λ z. z ∷ xs) (sym e)
 
 all_unit : {A : Type 0} (xs : List A) → AllByRecursion (λ (x : A). Unit {0}) xs
 all_unit [] = tt
@@ -157,8 +162,8 @@ module _ {N W : Type 0} (seat : W → Seat N) where
 
     module _ (v x z : W) (ws ys us : List W) (r : LearnsRound seat agent_of list v x ws ys) (q : LearnsRound seat agent_of list x z ys us) where
       -- a second round adds nothing
-      no_more : list z ≡ list x
-      no_more = both_prefixes (list x) (list z) q.first.more (one_of_all (λ t. IsPrefix t (list x)) (x ∷ ys) (list z) q.longest
+      adds_nothing : list z ≡ list x
+      adds_nothing = both_prefixes (list x) (list z) q.first.more (one_of_all (λ t. IsPrefix t (list x)) (x ∷ ys) (list z) q.longest
           (prefix_same (list x) (list x) refl, all_within v x ws ys r))
 
       -- and then all have seen one list
@@ -170,11 +175,11 @@ module _ {N W : Type 0} (seat : W → Seat N) where
               (HearsAll seat agent_of list (list z))
               (λ w y u h k. record {
                 hears = hears_trans w y u h.hears k.hears;
-                seen = sym (both_prefixes (list u) (list z) k.most (subst (λ t. IsPrefix t (list u)) (sym no_more) k.least));
+                seen = sym (both_prefixes (list u) (list z) k.most (subst (λ t. IsPrefix t (list u)) (sym adds_nothing) k.least));
               })
               ws ys us r.others q.others,
         );
-        longest = record { place = r.longest.place; low = r.longest.low; is = λ p. no_more ∙ r.longest.is p };
+        longest = record { place = r.longest.place; low = r.longest.low; is = λ p. adds_nothing ∙ r.longest.is p };
       }
 
 -- passes that learned share their steps, and their events

@@ -9,7 +9,7 @@ use Rattle.orc_core.specs.Machine.{word_in}
 use Rattle.orc_core.specs.RecordParts.{any_holds, names, same_target, slot_of}
 use Rattle.orc_core.specs.declared.ops.Op.TheVariants.{LinkCas}
 use Rattle.orc_core.specs.declared.records.Agent.{Agent}
-use Rattle.orc_plain_domain.specs.Rows.{row_link, word_at}
+use Rattle.orc_any_domain.specs.Names.{row_link, word_at}
 use Rattle.orc_heap.proofs.Calls.{Puts-trans}
 use Rattle.orc_heap.specs.Calls.{Swings, move_of, unless_node}
 use Rattle.orc_heap.specs.Journals.{FitsAfter, event_by, names_node}

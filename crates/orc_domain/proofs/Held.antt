@@ -6,7 +6,7 @@ use Rattle.orc_core.specs.Allowed.{may_place}
 use Rattle.orc_core.specs.RecordParts.{any_holds, names}
 use Rattle.orc_core.specs.declared.records.SlotUse.{SlotUse}
 use Rattle.orc_core.specs.declared.records.SlotUse.TheVariants.{Held}
-use Rattle.orc_plain_domain.specs.Rows.{row_link, word_at}
+use Rattle.orc_any_domain.specs.Names.{row_link, word_at}
 use Rattle.orc_heap.specs.Heap.{HeapNumbers}
 use Rattle.orc_heap.specs.Journals.{run_heap}
 use Rattle.orc_heap.specs.Seats.{HoldsPlace, HoldsWant, link_in, place_in}

@@ -8,8 +8,8 @@ use Rattle.orc_core.specs.Allowed.{may_change, may_place, may_target}
 use Rattle.orc_core.specs.Machine.{word_in}
 use Rattle.orc_core.specs.RecordParts.{any_holds, is_empty, names, slot_of}
 use Rattle.orc_core.specs.declared.ops.Op.TheVariants.{LinkCas, LinkStore}
-use Rattle.orc_plain_domain.specs.Calls.{MayAimAt, aim_at}
-use Rattle.orc_plain_domain.specs.Rows.{row_link, target_link, word_at}
+use Rattle.orc_any_domain.specs.Aims.{MayAimAt, aim_at}
+use Rattle.orc_any_domain.specs.Names.{row_link, target_link, word_at}
 use Rattle.orc_heap.specs.Acts.{aim_act}
 use Rattle.orc_heap.specs.Allowed.{AllowedLater, AllowedWhereFits}
 use Rattle.orc_heap.specs.Calls.{MayMove}

@@ -7,7 +7,7 @@ use Rattle.orc_core.specs.RecordParts.{any_holds, names, slot_of}
 use Rattle.orc_core.specs.declared.ops.Op.TheVariants.{LinkLoad, Publish}
 use Rattle.orc_core.specs.declared.records.SlotUse.{SlotUse}
 use Rattle.orc_core.specs.declared.records.SlotUse.TheVariants.{Empty, Published}
-use Rattle.orc_plain_domain.specs.Rows.{word_at}
+use Rattle.orc_any_domain.specs.Names.{word_at}
 use Rattle.orc_heap.proofs.Calls.{looks_beside}
 use Rattle.orc_heap.specs.Calls.{Looks, MovesOn}
 use Rattle.orc_heap.specs.Journals.{event_by}

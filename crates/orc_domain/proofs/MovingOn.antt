@@ -9,7 +9,7 @@ use Rattle.orc_core.specs.declared.ops.Op.TheVariants.{Clear, MoveOn}
 use Rattle.orc_core.specs.declared.records.Agent.{Agent}
 use Rattle.orc_core.specs.declared.records.SlotUse.{SlotUse}
 use Rattle.orc_core.specs.declared.records.SlotUse.TheVariants.{Empty, Held, Published}
-use Rattle.orc_plain_domain.specs.Rows.{word_at}
+use Rattle.orc_any_domain.specs.Names.{word_at}
 use Rattle.orc_heap.proofs.Slots.{get-set_other}
 use Rattle.orc_heap.specs.Calls.{MovesOn}
 use Rattle.orc_heap.specs.Journals.{event_by}

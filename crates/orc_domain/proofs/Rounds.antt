@@ -17,8 +17,8 @@ use Rattle.orc_heap.specs.OwnEvents.{Puts}
 use Rattle.orc_heap.specs.declared.events.Act.TheVariants.{Give}
 use Rattle.orc_heap.specs.declared.events.Event.{Event}
 use Rattle.orc_projection.specs.Mirror.{numbers_of}
-use Rattle.orc_plain_domain.specs.Turns.{IsNext}
-use Rattle.orc_plain_domain.proofs.Counting.{nodes_stay}
+use Rattle.orc_any_domain.specs.Turns.{IsNext}
+use Rattle.orc_any_domain.proofs.Counting.{nodes_stay}
 use Rattle.orc_machine_board.specs.Licences.{ids_of}
 use Rattle.orc_domain.specs.Seats.{seat_by}
 use Rattle.orc_history.specs.Journals.{own_of}

@@ -4,7 +4,7 @@ use Rattle.std.proofs.lemmas.Bool.{false≢true}
 use Rattle.std.specs.Borrow.{Bor}
 use Rattle.std.specs.Option.{option_eq}
 use Rattle.std.specs.Prelude.{Err, IfErr, Ok, Result}
-use Rattle.orc_plain_domain.specs.Calls.{MayAimAt, aim_at}
+use Rattle.orc_any_domain.specs.Aims.{MayAimAt, aim_at}
 use Rattle.orc_heap.proofs.Calls.{Puts-trans}
 use Rattle.orc_heap.proofs.Stays.{allowed-join, allowed-right}
 use Rattle.orc_heap.specs.Allowed.{AllAllowed, Later}

@@ -4,7 +4,7 @@ use Rattle.std.specs.Prelude.{cond, if◌then◌else◌, slice_get}
 use Rattle.orc_core.specs.Machine.{new_machine, record_at, word_read}
 use Rattle.orc_core.specs.declared.ops.Op.TheVariants.{GateTake}
 use Rattle.orc_core.specs.declared.records.Agent.{Agent}
-use Rattle.orc_plain_domain.proofs.Counting.{nodes_stay}
+use Rattle.orc_any_domain.proofs.Counting.{nodes_stay}
 use Rattle.orc_heap.proofs.Runs.{run_heap-snoc}
 use Rattle.orc_heap.specs.Heap.{Heap, Node, new_node}
 use Rattle.orc_heap.specs.Journals.{event_by, run_heap}

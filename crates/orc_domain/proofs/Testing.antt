@@ -4,7 +4,7 @@ use Rattle.std.proofs.lemmas.Bool.{eqb-true}
 use Rattle.std.specs.Prelude.{if◌then◌else◌, ◌==◌}
 use Rattle.orc_core.specs.declared.ops.Op.TheVariants.{LinkLoad}
 use Rattle.orc_core.specs.declared.records.Agent.{Agent}
-use Rattle.orc_plain_domain.specs.Rows.{row_link, word_at}
+use Rattle.orc_any_domain.specs.Names.{row_link, word_at}
 use Rattle.orc_heap.specs.Allowed.{AllowedLater}
 use Rattle.orc_heap.specs.Calls.{Tests, look_of}
 use Rattle.orc_heap.specs.Journals.{FitsAfter, event_by}

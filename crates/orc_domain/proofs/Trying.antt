@@ -8,7 +8,7 @@ use Rattle.orc_core.specs.RecordParts.{number_of}
 use Rattle.orc_core.specs.declared.ops.CounterUse.TheVariants.{Check}
 use Rattle.orc_core.specs.declared.ops.Op.TheVariants.{CounterLoad, GateLook, GateTake}
 use Rattle.orc_core.specs.declared.records.Agent.{Agent}
-use Rattle.orc_plain_domain.proofs.Counting.{nodes_stay}
+use Rattle.orc_any_domain.proofs.Counting.{nodes_stay}
 use Rattle.orc_heap.proofs.Calls.{Puts-trans}
 use Rattle.orc_heap.specs.Heap.{new_node}
 use Rattle.orc_heap.specs.Journals.{event_by, run_heap}

@@ -3,7 +3,7 @@
 ghost use Rattle.std.specs.Prelude.{◌≡◌, ◌<◌, ◌∷◌, [], IfErr, IfOk, None, Some, false, true, ℕ};
 ghost use mathlib.Core.List.{IsPrefix};
 ghost use Rattle.orc_core.specs.{Allowed.{may_change}, RecordParts.{checked_below, names}};
-ghost use Rattle.orc_plain_domain.specs.{Calls.{MayAimLink, aim_at}, Rows.{row_link}};
+ghost use Rattle.orc_any_domain.specs.{Aims.{MayAimLink, aim_at}, Names.{row_link}};
 ghost use Rattle.orc_heap.specs.{
   Calls.{IsWorn, MayMove, RefusesAim, RefusesSwing, Swings},
   OwnEvents.{Only},
@@ -22,11 +22,11 @@ ghost use Rattle.orc_machine_rest.specs.OwnSteps.{LeavesNothing};
 ghost use Rattle.orc_words.specs.Bounds.{link_limit};
 
 use crate::domain::{OrcDomain, OrcPass};
+use orc_any_domain::{row_link, word_at};
 use orc_core::{CounterUse, SEQUENCE};
 use orc_fault::Spent;
 use orc_heap::{At, Discipline, Held, Want};
 use orc_machine_board::{MachineBoardPass, to_count};
-use orc_plain_domain::{row_link, word_at};
 use orc_words::{RowLink, named};
 
 impl<D: Discipline> OrcDomain<D> {

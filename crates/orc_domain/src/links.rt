@@ -2,7 +2,7 @@
 
 ghost use Rattle.std.specs.Prelude.{◌≡◌, ◌≢◌, ◌<◌, ◌*◌, ◌+◌, ◌%◌, ◌∷◌, [], IfErr, IfOk, None, Some, refl};
 ghost use mathlib.Core.List.{IsPrefix};
-ghost use Rattle.orc_plain_domain.specs.Turns.{IsNext};
+ghost use Rattle.orc_any_domain.specs.Turns.{IsNext};
 ghost use Rattle.orc_heap.specs.{
   Calls.{Gives, Learns, Looks, MayAim, MayAimSide, MayLook, MayMove, MovesOn, ReadsValue, RefusesAim, RefusesSwing, Releases, Swings, Tests, aim_of, aim_side_of, fill_of},
   Journals.{run_heap},
@@ -21,10 +21,10 @@ ghost use Rattle.orc_machine_rest.specs.OwnSteps.{AtMostMore, HasTakenIn, Leaves
 
 use crate::domain::{OrcDomain, OrcPass};
 use crate::steps::numbers_of;
+use orc_any_domain::{around, row_link, word_at};
 use orc_fault::{NoNode, Spent};
 use orc_heap::{At, Discipline, Held, Links, Looked, LookedOn, Seen, Want};
 use orc_machine_rest::settle;
-use orc_plain_domain::{around, row_link, word_at};
 use orc_sound::Step;
 use orc_words::pack_link;
 

@@ -2,7 +2,7 @@
 
 ghost use Rattle.std.specs.Prelude.{◌≡◌, ◌<◌, ◌%◌, [], All, IfOk, length};
 ghost use Rattle.orc_words.specs.Bounds.{bounds_of};
-ghost use Rattle.orc_plain_domain.specs.Turns.{first_row};
+ghost use Rattle.orc_any_domain.specs.Turns.{first_row};
 ghost use Rattle.orc_heap.specs.{Seats.{IsIdle}, Seeds.{SeedAllowed, opening_events}};
 ghost use Rattle.orc_machine_board.specs.Views.{board_seed, shows};
 ghost use Rattle.orc_projection.specs.Mirror.{numbers_of};
@@ -10,10 +10,10 @@ ghost use Rattle.orc_shared_words.specs.Lists.{EachAt, EachFrom};
 ghost use Rattle.orc_domain.specs.Passes.{IsPassOf, domain_bounds, domain_opening, next_row, seat_of};
 
 use crate::domain::{OrcDomain, OrcPass};
+use orc_any_domain::first_row;
 use orc_fault::NoMemory;
 use orc_heap::{Discipline, Seed};
 use orc_machine_board::{MachineBoard, MachineBoardPass};
-use orc_plain_domain::first_row;
 use orc_words::Shape;
 use std::alloc::Global;
 

@@ -4,15 +4,15 @@ ghost use Rattle.std.specs.Prelude.{◌≡◌, ◌<◌, None, false, true, ℕ};
 ghost use Rattle.std.specs.Option.{ForSome};
 ghost use Rattle.orc_core.specs.RecordParts.{is_empty, slot_of};
 ghost use Rattle.orc_machine_rest.specs.OwnSteps.{HasTakenIn};
-ghost use Rattle.orc_plain_domain.specs.Turns.{IsNext};
+ghost use Rattle.orc_any_domain.specs.Turns.{IsNext};
 ghost use Rattle.orc_machine_board.specs.Views.{Belongs, shows};
 ghost use Rattle.orc_domain.specs.{Passes.{domain_bounds}, Searches.{Fails, Found, Gets, Idles, TriesAll}, Seats.{IsCalm, IsBetweenCalls}};
 
 use crate::domain::OrcDomain;
+use orc_any_domain::around;
 use orc_core::{CounterUse, SEQUENCE};
 use orc_heap::Discipline;
 use orc_machine_board::MachineBoardPass;
-use orc_plain_domain::around;
 
 impl<D: Discipline> OrcDomain<D> {
     // Goes through all rows once, from this one on, until one is taken.

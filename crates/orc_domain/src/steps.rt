@@ -3,7 +3,7 @@
 ghost use Rattle.std.specs.Prelude.{◌≡◌, None, Some, false, true};
 ghost use Rattle.orc_core.specs.{RecordParts.{names}, declared.ops.Op.{Op}};
 ghost use Rattle.orc_machine_board.specs.{Kinds.{MakesPlain, MayDo}, Views.{Belongs, shows}};
-ghost use Rattle.orc_plain_domain.specs.Rows.{word_at};
+ghost use Rattle.orc_any_domain.specs.Names.{word_at};
 ghost use Rattle.orc_words.specs.Packed.{link_of, link_word};
 ghost use Rattle.orc_domain.specs.{
   Calls.{Retires, Unlocks},

@@ -15,13 +15,14 @@ use Rattle.orc_shared_words.specs.Runs.{AgentsBelow}
 use Rattle.orc_shared_words.specs.declared.journal.View.{View}
 use Rattle.orc_shared_words.proofs.Events.{AllBy}
 use Rattle.orc_plain_board.specs.Calls.{AddsOwn}
-use Rattle.orc_plain_board.specs.Machine.{State, AllowedFrom, events_at, finds, index_of, next, numbers, project, project_from, run, start}
+use Rattle.orc_any_domain.specs.Rows.{index_of}
+use Rattle.orc_plain_board.specs.Machine.{State, AllowedFrom, events_at, finds, next, numbers, project, project_from, run, start}
 use Rattle.orc_plain_board.specs.Rules.{opening_steps, project-append}
 use Rattle.orc_plain_board.specs.Views.{FreshHeld, IsFreshRow, Keeps, PlainView, heap_of, view_of}
 use Rattle.orc_plain_board.specs.Words.{Tie}
 use Rattle.orc_plain_board.specs.declared.machine.PlainStep.{PlainStep}
 use Rattle.orc_plain_board.specs.declared.shape.PlainShape.{PlainShape}
-use Rattle.orc_plain_board.proofs.Lists.{index_grown}
+use Rattle.orc_any_domain.proofs.Rows.{index_grown}
 use Rattle.orc_plain_board.proofs.Opening.{lawful_roots, opened_events}
 use Rattle.orc_plain_board.proofs.Steps.{heap_is, tied}
 use Rattle.orc_plain_board.proofs.Walks.{allowed_front, by, lawful_of, signed}

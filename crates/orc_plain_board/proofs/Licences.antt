@@ -26,7 +26,8 @@ use Rattle.orc_shared_words.specs.Lists.{Each}
 use Rattle.orc_shared_words.specs.Steps.{IsAllowedLater}
 use Rattle.orc_shared_words.specs.declared.journal.View.{View}
 use Rattle.orc_plain_board.specs.Calls.{KnowsPlace, KnowsRow, KnowsTarget, MayWhereFits, MayWhereShown, aim_event, look_event, move_event}
-use Rattle.orc_plain_board.specs.Machine.{State, IsLinkWord, IsRowLink, events_of, finds, id_by, index_of, link_at, link_by, numbers, place_by, project, project_from, run, run_from, start, tested}
+use Rattle.orc_any_domain.specs.Rows.{index_of}
+use Rattle.orc_plain_board.specs.Machine.{State, IsLinkWord, IsRowLink, events_of, finds, id_by, link_at, link_by, numbers, place_by, project, project_from, run, run_from, start, tested}
 use Rattle.orc_plain_board.specs.Rules.{plain_rules}
 use Rattle.orc_plain_board.specs.Views.{FreshHeld, Keeps, PlainView, heap_of, view_of}
 use Rattle.orc_plain_board.specs.Words.{IsWord}
@@ -34,7 +35,8 @@ use Rattle.orc_plain_board.specs.declared.machine.PlainOp.{PlainOp}
 use Rattle.orc_plain_board.specs.declared.machine.PlainOp.TheVariants.{Fill, LinkLoad, LinkCas, LinkStore}
 use Rattle.orc_plain_board.specs.declared.machine.PlainStep.{PlainStep}
 use Rattle.orc_plain_board.specs.declared.shape.PlainShape.{PlainShape}
-use Rattle.orc_plain_board.proofs.Lists.{at_index, index_grown, lt_get, some_one}
+use Rattle.orc_any_domain.proofs.Rows.{at_index, index_grown, some_one}
+use Rattle.orc_plain_board.proofs.Lists.{lt_get}
 use Rattle.orc_plain_board.proofs.Ties.{Given, link_in, one_link, word_by}
 use Rattle.orc_plain_board.proofs.Steps.{Tied, heap_is, tied}
 use Rattle.orc_plain_board.proofs.Walks.{Mid, given_more, lawful_of, mid_fresh, mid_of, mid_target}

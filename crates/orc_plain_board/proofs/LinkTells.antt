@@ -21,14 +21,15 @@ use Rattle.orc_heap.specs.declared.events.Place.{Place}
 use Rattle.orc_heap.proofs.Untouched.{names_other, target_from, untouched_after}
 use Rattle.orc_shared_words.specs.declared.journal.View.{View}
 use Rattle.orc_plain_board.specs.Calls.{AddsOwn, MissesWanted, FindsLink, KnowsPlace, KnowsTarget, Misses, Replaces, look_event, move_event, unless_linked}
-use Rattle.orc_plain_board.specs.Machine.{State, finds, id_by, index_of, link_at, link_by, numbers, place_by, project, project_from, run, run_from, taken, tested}
+use Rattle.orc_any_domain.specs.Rows.{index_of}
+use Rattle.orc_plain_board.specs.Machine.{State, finds, id_by, link_at, link_by, numbers, place_by, project, project_from, run, run_from, taken, tested}
 use Rattle.orc_plain_board.specs.Views.{FreshHeld, Keeps, heap_of}
 use Rattle.orc_plain_board.specs.Words.{IsWord}
 use Rattle.orc_plain_board.specs.declared.machine.PlainOp.{PlainOp}
 use Rattle.orc_plain_board.specs.declared.machine.PlainOp.TheVariants.{LinkLoad, LinkCas, LinkStore}
 use Rattle.orc_plain_board.specs.declared.machine.PlainStep.{PlainStep}
 use Rattle.orc_plain_board.specs.declared.shape.PlainShape.{PlainShape}
-use Rattle.orc_plain_board.proofs.Lists.{at_index, some_one}
+use Rattle.orc_any_domain.proofs.Rows.{at_index, some_one}
 use Rattle.orc_plain_board.proofs.Ties.{Given}
 use Rattle.orc_plain_board.proofs.Walks.{Walk, others_none, given_more, heap_later, later_fresh, mid_fresh, own, rows_later}
 use Rattle.orc_plain_board.proofs.Licences.{PlaceHeld, Shows, link_given, link_grown, missed, place_given, place_grown, shows}

@@ -25,7 +25,8 @@ use Rattle.orc_plain_board.specs.declared.machine.PlainOp.TheVariants.{GateTake,
 use Rattle.orc_plain_board.specs.declared.machine.PlainStep.{PlainStep}
 use Rattle.orc_heap.specs.declared.seed.Seed.{Seed}
 use Rattle.orc_heap.specs.declared.seed.Seed.TheVariants.{Empty, Dummy}
-use Rattle.orc_plain_board.proofs.Lists.{same_word, some_one}
+use Rattle.orc_any_domain.proofs.Rows.{some_one}
+use Rattle.orc_plain_board.proofs.Lists.{same_word}
 use Rattle.orc_plain_board.proofs.Ties.{tie_start}
 use Rattle.orc_words.proofs.NewWords.{new_words_each}
 

@@ -18,7 +18,8 @@ use Rattle.orc_heap.specs.declared.events.Link.{Link}
 use Rattle.orc_heap.specs.declared.events.Place.{Place}
 use Rattle.orc_heap.specs.declared.events.Place.TheVariants.{Next, Side}
 use Rattle.orc_heap.proofs.Runs.{lawful-left, lawful-right, run_from-append as heap-append}
-use Rattle.orc_plain_board.specs.Machine.{State, Allowed, AllowedFrom, IsLinkWord, events_at, events_of, finds, id_by, index_of, link_by, load_event, next, numbers, place_by, project, project_from, run, run_from, start, taken, tested, value_word, word_of, written}
+use Rattle.orc_any_domain.specs.Rows.{index_of}
+use Rattle.orc_plain_board.specs.Machine.{State, Allowed, AllowedFrom, IsLinkWord, events_at, events_of, finds, id_by, link_by, load_event, next, numbers, place_by, project, project_from, run, run_from, start, taken, tested, value_word, word_of, written}
 use Rattle.orc_plain_board.specs.declared.machine.PlainOp.{PlainOp}
 use Rattle.orc_plain_board.specs.declared.machine.PlainOp.TheVariants.{GateLook, GateTake, Fill, Read, LinkLoad, LinkCas, LinkStore}
 use Rattle.orc_plain_board.specs.declared.machine.PlainStep.{PlainStep}

@@ -18,15 +18,17 @@ use Rattle.orc_shared_words.specs.Steps.{Extends, LaterJournal}
 use Rattle.orc_shared_words.specs.declared.journal.View.{View}
 use Rattle.orc_heap.specs.Calls.{ReadsValue, value_of}
 use Rattle.orc_plain_board.specs.Calls.{AddsOwn, GivesNewRow, IsGateWord, KnowsRow, Loses}
-use Rattle.orc_plain_board.specs.Machine.{State, events_of, finds, index_of, numbers, run, run_from, start, taken, value_word}
+use Rattle.orc_any_domain.specs.Rows.{IsListed, index_of}
+use Rattle.orc_plain_board.specs.Machine.{State, events_of, finds, numbers, run, run_from, start, taken, value_word}
 use Rattle.orc_plain_board.specs.Rules.{plain_rules}
 use Rattle.orc_plain_board.specs.Views.{FreshHeld, Keeps, PlainView, heap_of, view_of}
-use Rattle.orc_plain_board.specs.Words.{Block, IsListed, Named}
+use Rattle.orc_plain_board.specs.Words.{Block, Named}
 use Rattle.orc_plain_board.specs.declared.machine.PlainOp.{PlainOp}
 use Rattle.orc_plain_board.specs.declared.machine.PlainOp.TheVariants.{GateLook, GateTake, Fill, Read}
 use Rattle.orc_plain_board.specs.declared.machine.PlainStep.{PlainStep}
 use Rattle.orc_plain_board.specs.declared.shape.PlainShape.{PlainShape}
-use Rattle.orc_plain_board.proofs.Lists.{at_index, get_last, index_at, index_grown, index_in, lt_get, some_one}
+use Rattle.orc_any_domain.proofs.Rows.{at_index, index_at, index_grown, index_in, some_one}
+use Rattle.orc_plain_board.proofs.Lists.{get_last, lt_get}
 use Rattle.orc_plain_board.proofs.Steps.{Tied, heap_is}
 use Rattle.orc_plain_board.proofs.Walks.{Walk, adds, given_later, given_more, heap_later, later_fresh, walk}
 use Rattle.orc_plain_board.proofs.Licences.{row_given}

@@ -15,9 +15,11 @@ use Rattle.orc_heap.specs.declared.events.Link.{Link}
 use Rattle.orc_heap.specs.declared.events.Place.{Place}
 use Rattle.orc_heap.specs.declared.events.Place.TheVariants.{Root as AtRoot, Next, Side}
 use Rattle.orc_heap.proofs.Changes.{get-change, get-grown, get_lt, length-change}
-use Rattle.orc_plain_board.specs.Machine.{index_of, id_by, numbers}
-use Rattle.orc_plain_board.specs.Words.{Block, IsFreeRow, IsWord, Named, Once, Tie}
-use Rattle.orc_plain_board.proofs.Lists.{some_one, lt_get, get_end, get_last, change_back, at_index, index_at, new_word, same_word}
+use Rattle.orc_any_domain.specs.Rows.{Once, index_of}
+use Rattle.orc_plain_board.specs.Machine.{id_by, numbers}
+use Rattle.orc_plain_board.specs.Words.{Block, IsFreeRow, IsWord, Named, Tie}
+use Rattle.orc_any_domain.proofs.Rows.{at_index, index_at, some_one}
+use Rattle.orc_plain_board.proofs.Lists.{lt_get, get_end, get_last, change_back, new_word, same_word}
 
 -- the place of a row's gate; its values stand two and three after it, its first link four, and its second, if there is one, five
 abbrev pub row_place : Bounds → ℕ → ℕ

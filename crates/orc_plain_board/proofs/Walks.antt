@@ -27,14 +27,15 @@ use Rattle.orc_heap.proofs.Prefixes.{prefix_same}
 use Rattle.orc_shared_words.proofs.Events.{AllBy, none-append, none_of_all}
 use Rattle.orc_shared_words.proofs.Runs.{by_other, by_own, cons_nil}
 use Rattle.orc_plain_board.specs.Calls.{AddsOwn}
-use Rattle.orc_plain_board.specs.Machine.{State, AllowedFrom, answer, events_at, events_of, finds, index_of, link_by, load_event, next, numbers, place_by, project, project_from, run, run_from, start, taken, tested}
+use Rattle.orc_any_domain.specs.Rows.{index_of}
+use Rattle.orc_plain_board.specs.Machine.{State, AllowedFrom, answer, events_at, events_of, finds, link_by, load_event, next, numbers, place_by, project, project_from, run, run_from, start, taken, tested}
 use Rattle.orc_plain_board.specs.Rules.{plain_rules, project-append, step_of, steps-append}
 use Rattle.orc_plain_board.specs.Views.{FreshHeld, view_of}
 use Rattle.orc_plain_board.specs.declared.machine.PlainOp.{PlainOp}
 use Rattle.orc_plain_board.specs.declared.machine.PlainOp.TheVariants.{GateLook, GateTake, Fill, Read, LinkLoad, LinkCas, LinkStore}
 use Rattle.orc_plain_board.specs.declared.machine.PlainStep.{PlainStep}
 use Rattle.orc_plain_board.specs.declared.shape.PlainShape.{PlainShape}
-use Rattle.orc_plain_board.proofs.Lists.{index_grown, some_one}
+use Rattle.orc_any_domain.proofs.Rows.{index_grown, some_one}
 use Rattle.orc_plain_board.proofs.Steps.{Tied, heap_is, tied}
 
 module _ {N : Type 0} where

@@ -6,7 +6,8 @@ use Rattle.orc_heap.specs.declared.discipline.Discipline as discipline
 use Rattle.orc_heap.specs.declared.events.Act.TheVariants.{Fill}
 use Rattle.orc_shared_words.specs.declared.machine.Machine as machine
 use Rattle.orc_plain_board.specs.Calls.{Absorbs, AddsOwn, MissesWanted, FindsLink, GivesNewRow, KnowsPlace as ViewKnowsPlace, KnowsRow as ViewKnowsRow, KnowsTarget, LearnsEvents, Loses, MayWhereFits, MayWhereShown, Misses, Replaces, aim_event, look_event, move_event, unless_linked}
-use Rattle.orc_plain_board.specs.Machine.{index_of, link_by, place_by}
+use Rattle.orc_any_domain.specs.Rows.{index_of}
+use Rattle.orc_plain_board.specs.Machine.{link_by, place_by}
 use Rattle.orc_plain_board.specs.Views.{board_bounds, board_numbers, heap_of, shows}
 use Rattle.orc_plain_board.specs.declared.machine.Plain.{Plain}
 use Rattle.orc_plain_board.specs.declared.machine.PlainOp.{PlainOp}

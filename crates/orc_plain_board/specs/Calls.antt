@@ -15,9 +15,10 @@ use Rattle.orc_heap.specs.declared.events.Link.{Link}
 use Rattle.orc_heap.specs.declared.events.Place.{Place}
 use mathlib.Core.List.{IsPrefix}
 use Rattle.orc_shared_words.specs.Lists.{Among}
-use Rattle.orc_plain_board.specs.Machine.{id_by, index_of, link_by, numbers, place_by}
+use Rattle.orc_any_domain.specs.Rows.{IsListed, index_of}
+use Rattle.orc_plain_board.specs.Machine.{id_by, link_by, numbers, place_by}
 use Rattle.orc_plain_board.specs.Views.{PlainView, heap_of}
-use Rattle.orc_plain_board.specs.Words.{IsListed, IsWord}
+use Rattle.orc_plain_board.specs.Words.{IsWord}
 
 -- the gate word is 3 where the row was given, and 0 where it wasn't
 abbrev pub IsGateWord : List ℕ → ℕ → ℕ → Type 0

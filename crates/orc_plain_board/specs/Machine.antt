@@ -87,11 +87,6 @@ abbrev pub taken : PlainOp → ℕ → List ℕ
 taken (GateTake row) n = if n == 0 then row ∷ [] else []
 taken op n = []
 
--- present: the place of a row in the list of the rows that were given, which is its node's id
-abbrev pub index_of : ℕ → List ℕ → ℕ
-index_of row [] = 0
-index_of row (x ∷ xs) = if x == row then 0 else suc (index_of row xs)
-
 -- the id of a row's node, if there is a row
 abbrev pub id_by : List ℕ → Option ℕ → Option ℕ
 id_by g None = None

@@ -13,14 +13,6 @@ abbrev pub IsWord : List ℕ → Option ℕ → Bool → ℕ → Type 0
 IsWord g None mark n = n ≡ bit mark
 IsWord g (Some id) mark n = (row : ℕ) × (slice_get g id ≡ Some row) × (n ≡ 2 * (row + 1) + bit mark)
 
--- the row stands in the list
-abbrev pub IsListed : List ℕ → ℕ → Type 0
-IsListed g row = (id : ℕ) × (slice_get g id ≡ Some row)
-
--- no row stands in the list twice
-abbrev pub Once : List ℕ → Type 0
-Once g = (i j row : ℕ) → slice_get g i ≡ Some row → slice_get g j ≡ Some row → i ≡ j
-
 -- the words of a row show its node: the gate word of a first life, the links, and each value that was filled
 pub record Block (b : Bounds) (w g : List ℕ) (row : ℕ) (n : Node) : Type 0 where
   pub gate : slice_index w (place b (Gate row)) ≡ 3

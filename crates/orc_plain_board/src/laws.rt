@@ -12,11 +12,12 @@ ghost use Rattle.orc_heap.specs.{
 };
 ghost use mathlib.Core.List.{IsPrefix};
 ghost use Rattle.orc_shared_words.specs.Lists.{Among};
+ghost use Rattle.orc_any_domain.specs.Rows.{Once, index_of};
 ghost use Rattle.orc_plain_board.specs.{
   Calls.{AddsOwn},
-  Machine.{AllowedFrom, index_of, numbers, project, run},
+  Machine.{AllowedFrom, numbers, project, run},
   Views.{Belongs, IsFreshRow, PlainView, board_bounds, board_numbers, board_seed, heap_of, shows},
-  Words.{Once, Tie},
+  Words.{Tie},
   declared.machine.PlainStep.{PlainStep},
 };
 

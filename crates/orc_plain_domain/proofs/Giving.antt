@@ -14,9 +14,9 @@ use Rattle.orc_heap.specs.declared.discipline.Discipline as discipline
 use Rattle.orc_heap.specs.declared.events.Act.TheVariants.{Fill, Give}
 use Rattle.orc_heap.specs.declared.events.Event.{Event}
 use Rattle.orc_shared_words.specs.declared.machine.Machine as machine
-use Rattle.orc_plain_board.specs.Machine.{id_by, index_of}
+use Rattle.orc_any_domain.specs.Rows.{IsListed, index_of}
+use Rattle.orc_plain_board.specs.Machine.{id_by}
 use Rattle.orc_plain_board.specs.Views.{shows}
-use Rattle.orc_plain_board.specs.Words.{IsListed}
 use Rattle.orc_plain_board.specs.declared.machine.Plain.{Plain}
 use Rattle.orc_plain_board.specs.declared.machine.PlainOp.{PlainOp}
 use Rattle.orc_plain_board.specs.declared.machine.PlainStep.{PlainStep}
@@ -29,8 +29,9 @@ use Rattle.orc_plain_domain.specs.Given.{IsLacking}
 use Rattle.orc_plain_domain.specs.Laws.Passes.{seen_by}
 use Rattle.orc_plain_domain.specs.Passes.{journal_of}
 use Rattle.orc_plain_domain.specs.Rows.{slots_by}
-use Rattle.orc_plain_domain.specs.Turns.{IsNext}
-use Rattle.orc_plain_domain.proofs.Counting.{lacks_all, nodes_given, nodes_stay, once_round, rows_all}
+use Rattle.orc_any_domain.specs.Turns.{IsNext}
+use Rattle.orc_any_domain.proofs.Counting.{nodes_given, nodes_stay}
+use Rattle.orc_plain_domain.proofs.Counting.{lacks_all, once_round, rows_all}
 use Rattle.orc_plain_domain.proofs.Growing.{held_given, tie}
 use Rattle.orc_plain_domain.proofs.Rows.{slots_grow}
 

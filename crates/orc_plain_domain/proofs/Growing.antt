@@ -15,10 +15,11 @@ use Rattle.orc_heap.proofs.Stays.{allowed-join}
 use mathlib.Core.List.{IsPrefix}
 use Rattle.orc_shared_words.specs.declared.machine.Machine as machine
 use Rattle.orc_plain_board.proofs.Known.{fresh_row, ties}
-use Rattle.orc_plain_board.proofs.Lists.{index_grown}
+use Rattle.orc_any_domain.proofs.Rows.{index_grown}
 use Rattle.orc_plain_board.proofs.Ties.{Given}
 use Rattle.orc_plain_board.specs.Calls.{AddsOwn}
-use Rattle.orc_plain_board.specs.Machine.{id_by, index_of, numbers, run}
+use Rattle.orc_any_domain.specs.Rows.{index_of}
+use Rattle.orc_plain_board.specs.Machine.{id_by, numbers, run}
 use Rattle.orc_plain_board.specs.Views.{Belongs, PlainView, heap_of, shows}
 use Rattle.orc_plain_board.specs.Words.{Tie}
 use Rattle.orc_plain_board.specs.declared.machine.Plain.{Plain}

@@ -13,4 +13,3 @@ pub mod Learning
 pub mod Making
 pub mod Draining
 pub mod Resting
-pub mod Turns

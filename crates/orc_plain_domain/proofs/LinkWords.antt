@@ -3,8 +3,9 @@ use Rattle.std.proofs.Common.{Bool, List, None, Option, Some, ap, arith, false, 
 use Rattle.orc_plain_board.specs.Machine.{id_by, link_by}
 use Rattle.orc_words.specs.Packed.{bit, link_word, name_word}
 use Rattle.orc_words.specs.declared.packed.RowLink.{RowLink}
-use Rattle.orc_plain_board.proofs.Lists.{index_at}
-use Rattle.orc_plain_board.specs.Words.{IsWord, Once}
+use Rattle.orc_any_domain.proofs.Rows.{index_at}
+use Rattle.orc_any_domain.specs.Rows.{Once}
+use Rattle.orc_plain_board.specs.Words.{IsWord}
 
 bit_low : (a : Bool) → bit a < 2
 bit_low true = omega arith

@@ -16,10 +16,11 @@ use Rattle.orc_heap.specs.declared.holds.At.{At}
 use Rattle.orc_heap.specs.declared.holds.Looked.TheVariants.{Moved, Stable}
 use Rattle.orc_heap.specs.declared.holds.LookedOn.TheVariants.{Moved as MovedOff, On, Stays}
 use Rattle.orc_shared_words.specs.declared.machine.Machine as machine
-use Rattle.orc_plain_board.proofs.Lists.{some_one}
+use Rattle.orc_any_domain.proofs.Rows.{some_one}
 use Rattle.orc_plain_board.proofs.Ties.{Given, given_by}
 use Rattle.orc_plain_board.specs.Calls.{KnowsPlace, KnowsRow}
-use Rattle.orc_plain_board.specs.Machine.{id_by, index_of, link_by, place_by, run}
+use Rattle.orc_any_domain.specs.Rows.{index_of}
+use Rattle.orc_plain_board.specs.Machine.{id_by, link_by, place_by, run}
 use Rattle.orc_heap.specs.Journals.{event_by}
 use Rattle.orc_plain_board.specs.Views.{PlainView, heap_of, shows}
 use Rattle.orc_plain_board.specs.declared.machine.Plain.{Plain}
@@ -30,7 +31,8 @@ use Rattle.orc_plain_domain.specs.Passes.{IsPassOf, domain_bounds, domain_number
 use Rattle.orc_plain_domain.specs.declared.domain.PlainDomain.{PlainDomain}
 use Rattle.orc_plain_domain.specs.declared.domain.PlainPass.{PlainPass}
 use Rattle.orc_plain_domain.specs.Calls.{IsSame, Loads}
-use Rattle.orc_plain_domain.specs.Rows.{seat_by, slots_by, word_at}
+use Rattle.orc_any_domain.specs.Names.{word_at}
+use Rattle.orc_plain_domain.specs.Rows.{seat_by, slots_by}
 use Rattle.orc_plain_domain.proofs.Growing.{Grows, adds_grow, adds_put, fresh_given, fresh_stays, held_given, mine, slots_stay, tie, two_views}
 use Rattle.orc_plain_domain.proofs.Naming.{place_is, place_known}
 use Rattle.orc_plain_domain.proofs.Releasing.{keeps_set}

@@ -12,10 +12,11 @@ use Rattle.orc_heap.specs.declared.holds.Want.{Want}
 use Rattle.orc_heap.specs.declared.holds.Want.TheVariants.{Node as WantNode, Null as WantNull}
 use Rattle.orc_shared_words.specs.declared.machine.Machine as machine
 use Rattle.std.specs.Option.{ForSome}
-use Rattle.orc_plain_board.proofs.Lists.{at_index, some_one}
+use Rattle.orc_any_domain.proofs.Rows.{at_index, some_one}
 use Rattle.orc_plain_board.proofs.Ties.{Given}
 use Rattle.orc_plain_board.specs.Calls.{KnowsPlace, KnowsRow, KnowsTarget}
-use Rattle.orc_plain_board.specs.Machine.{id_by, index_of, link_by, place_by}
+use Rattle.orc_any_domain.specs.Rows.{index_of}
+use Rattle.orc_plain_board.specs.Machine.{id_by, link_by, place_by}
 use Rattle.orc_plain_board.specs.Views.{PlainView, shows}
 use Rattle.orc_plain_board.specs.declared.machine.Plain.{Plain}
 use Rattle.orc_plain_board.specs.declared.machine.PlainOp.{PlainOp}
@@ -23,7 +24,7 @@ use Rattle.orc_plain_board.specs.declared.machine.PlainStep.{PlainStep}
 use Rattle.orc_plain_board.specs.declared.shape.PlainShape.{PlainShape}
 use Rattle.orc_plain_domain.specs.Laws.Passes.{row_in}
 use Rattle.orc_plain_domain.specs.Passes.{IsPassOf, domain_bounds, domain_numbers, seat_of}
-use Rattle.orc_plain_domain.specs.Rows.{row_link, target_link, word_at}
+use Rattle.orc_any_domain.specs.Names.{row_link, target_link, word_at}
 use Rattle.orc_plain_domain.specs.declared.domain.PlainDomain.{PlainDomain}
 use Rattle.orc_plain_domain.specs.declared.domain.PlainPass.{PlainPass}
 use Rattle.orc_plain_domain.proofs.Growing.{fresh_given, held_given, tie}

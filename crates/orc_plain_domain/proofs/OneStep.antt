@@ -10,7 +10,8 @@ use Rattle.orc_heap.specs.declared.events.Act.TheVariants.{Fill, Look, Miss, Mov
 use Rattle.orc_heap.specs.declared.events.Event.{Event}
 use Rattle.orc_shared_words.specs.declared.machine.Machine as machine
 use Rattle.orc_plain_board.specs.Calls.{AddsOwn, FindsLink, KnowsPlace, KnowsTarget, MayWhereFits, MayWhereShown, Misses, MissesWanted, aim_event, look_event, move_event, unless_linked}
-use Rattle.orc_plain_board.specs.Machine.{id_by, index_of, link_by, place_by}
+use Rattle.orc_any_domain.specs.Rows.{index_of}
+use Rattle.orc_plain_board.specs.Machine.{id_by, link_by, place_by}
 use Rattle.orc_plain_board.specs.Views.{Belongs, heap_of}
 use Rattle.orc_plain_board.specs.declared.machine.Plain.{Plain}
 use Rattle.orc_plain_board.specs.declared.machine.PlainOp.{PlainOp}
@@ -18,7 +19,8 @@ use Rattle.orc_plain_board.specs.declared.machine.PlainStep.{PlainStep}
 use Rattle.orc_plain_board.specs.declared.pass.PlainBoardPass.{PlainBoardPass as BoardPass}
 use Rattle.orc_plain_board.specs.declared.shape.PlainShape.{PlainShape}
 use Rattle.orc_plain_domain.specs.Passes.{IsPassOf, domain_numbers, seat_of}
-use Rattle.orc_plain_domain.specs.Rows.{row_link, seat_by, target_link, word_at}
+use Rattle.orc_any_domain.specs.Names.{row_link, target_link, word_at}
+use Rattle.orc_plain_domain.specs.Rows.{seat_by}
 use Rattle.orc_plain_domain.specs.declared.domain.PlainDomain.{PlainDomain}
 use Rattle.orc_plain_domain.specs.declared.domain.PlainPass.{PlainPass}
 use Rattle.orc_plain_domain.proofs.Growing.{adds_grow, adds_put, fresh_given, fresh_same, fresh_stays, mine, only_adds, slots_same, still_adds, two_views}

@@ -6,7 +6,7 @@ use Rattle.orc_heap.specs.Calls.{Releases, unless_node}
 use Rattle.orc_heap.specs.Slots.{Hold, Holds}
 use Rattle.orc_heap.specs.declared.discipline.Discipline as discipline
 use Rattle.orc_shared_words.specs.declared.machine.Machine as machine
-use Rattle.orc_plain_board.proofs.Lists.{some_one}
+use Rattle.orc_any_domain.proofs.Rows.{some_one}
 use Rattle.orc_plain_board.specs.Calls.{KnowsRow, unless_linked}
 use Rattle.orc_plain_board.specs.Machine.{id_by}
 use Rattle.orc_plain_board.specs.Views.{PlainView, shows}

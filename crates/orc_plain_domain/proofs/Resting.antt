@@ -27,7 +27,8 @@ use Rattle.orc_heap.specs.Moves.{gives_in}
 use Rattle.orc_heap.proofs.Pieces.{goes_on}
 use Rattle.orc_heap.proofs.Prefixes.{prefix_same}
 use Rattle.orc_plain_domain.specs.Rest.{CoversAll, TakesInEvents}
-use Rattle.orc_plain_domain.proofs.Counting.{bit_free, bit_out, nodes_given, out_bit, outs, outs_all, outs_low}
+use Rattle.orc_any_domain.proofs.Counting.{nodes_given}
+use Rattle.orc_plain_domain.proofs.Counting.{bit_free, bit_out, out_bit, outs, outs_all, outs_low}
 use Rattle.orc_plain_domain.proofs.Growing.{still_adds, still_of, tie}
 use Rattle.orc_plain_domain.proofs.Learning.{first_more, grow_seen}
 
@@ -37,10 +38,6 @@ covers_on agents s t own same all = λ agent low. elim (all agent low) [
   | inl mine ↦ inl (own ∙ mine)
   | inr taken ↦ inr (subst (λ z. Among agent z) (sym same) taken)
 ]
-
-pub first_removed : {A : Type 0} (xs : List A) (x : A) → x ≡ slice_index_or xs 0 x → 0 < length xs → xs ≡ x ∷ drop 1 xs
-first_removed [] x e l = absurd (omega (arith, l))
-first_removed (y ∷ xs) x e l = ap (λ z. z ∷ xs) (sym e)
 
 module _ {N : Type 0} {W : Type 0} (view : W → PlainView N) where
   pub takes_none : (s : PlainView N) (all : List W) → all ≡ [] → TakesInEvents view s s all

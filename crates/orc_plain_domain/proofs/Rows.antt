@@ -3,9 +3,10 @@ use Rattle.std.proofs.Common.{Bool, List, None, Option, Some, [], ap, cond, eq-e
 use Rattle.orc_heap.specs.Acts.{IsKnown}
 use Rattle.orc_heap.specs.Heap.{Heap}
 use Rattle.orc_heap.proofs.Changes.{get-grown, get_lt}
-use Rattle.orc_plain_board.proofs.Lists.{at_index, index_grown, some_one}
+use Rattle.orc_any_domain.proofs.Rows.{at_index, index_grown, some_one}
 use Rattle.orc_plain_board.proofs.Ties.{Given}
-use Rattle.orc_plain_board.specs.Machine.{id_by, index_of}
+use Rattle.orc_any_domain.specs.Rows.{index_of}
+use Rattle.orc_plain_board.specs.Machine.{id_by}
 use Rattle.orc_plain_domain.specs.Rows.{slot_by, slots_by}
 use Rattle.orc_heap.specs.Calls.{unless_node}
 use Rattle.orc_plain_board.specs.Calls.{unless_linked}

@@ -13,11 +13,12 @@ use Rattle.orc_heap.specs.declared.discipline.Discipline as discipline
 use Rattle.orc_heap.specs.declared.events.Act.TheVariants.{Fill, Give}
 use Rattle.orc_heap.specs.declared.events.Event.{Event}
 use Rattle.orc_shared_words.specs.declared.machine.Machine as machine
-use Rattle.orc_plain_board.proofs.Lists.{get_last, index_at, some_one}
+use Rattle.orc_any_domain.proofs.Rows.{index_at, some_one}
+use Rattle.orc_plain_board.proofs.Lists.{get_last}
 use Rattle.orc_plain_board.specs.Calls.{AddsOwn, GivesNewRow as BoardGives, KnowsRow, Loses as BoardLoses}
-use Rattle.orc_plain_board.specs.Machine.{id_by, index_of, numbers}
+use Rattle.orc_any_domain.specs.Rows.{IsListed, index_of}
+use Rattle.orc_plain_board.specs.Machine.{id_by, numbers}
 use Rattle.orc_plain_board.specs.Views.{Belongs, PlainView, heap_of, shows}
-use Rattle.orc_plain_board.specs.Words.{IsListed}
 use Rattle.orc_plain_board.specs.declared.machine.Plain.{Plain}
 use Rattle.orc_plain_board.specs.declared.machine.PlainOp.{PlainOp}
 use Rattle.orc_plain_board.specs.declared.machine.PlainStep.{PlainStep}
@@ -28,7 +29,7 @@ use Rattle.orc_plain_domain.specs.declared.domain.PlainDomain.{PlainDomain}
 use Rattle.orc_plain_domain.specs.declared.domain.PlainPass.{PlainPass}
 use Rattle.orc_plain_domain.specs.Calls.{Furnishes, Loses, GivesFreshRow}
 use Rattle.orc_plain_domain.specs.Rows.{seat_by}
-use Rattle.orc_plain_domain.proofs.Counting.{nodes_stay}
+use Rattle.orc_any_domain.proofs.Counting.{nodes_stay}
 use Rattle.orc_plain_domain.proofs.Growing.{Grows, adds_grow, adds_put, fresh_given, fresh_stays, grow_trans, held_given, index_stays, keeps_stay, mine, slots_stay, still_of, tie, two_views}
 use Rattle.std.proofs.lemmas.List.Elements.{filter-append}
 use Rattle.std.specs.List.{list_any}

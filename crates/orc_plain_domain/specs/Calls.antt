@@ -1,16 +1,13 @@
 -- What the parts of calls do to what a pass shows.
-use Rattle.std.specs.Borrow.{Bor}
 use Rattle.std.specs.Prelude.{◌≡◌, ℕ, ◌≤◌, List, [], ◌∷◌, Option, Some, None, length, slice_get, slice_set}
 use Rattle.orc_words.specs.Bounds.{Bounds}
 use Rattle.orc_words.specs.declared.packed.RowLink.{RowLink}
-use Rattle.orc_heap.specs.Acts.{IsTarget, aim_act}
-use Rattle.orc_heap.specs.Allowed.{AllowedWhereFits}
-use Rattle.orc_heap.specs.Calls.{event_of, given_node}
+use Rattle.orc_heap.specs.Acts.{IsTarget}
+use Rattle.orc_heap.specs.Calls.{given_node}
 use Rattle.orc_heap.specs.Heap.{HeapNumbers, new_node}
 use Rattle.orc_heap.specs.Journals.{event_by, run_heap}
 use Rattle.orc_heap.specs.OwnEvents.{Puts}
-use Rattle.orc_heap.specs.Seats.{HoldsFresh, HoldsTarget, Seat, target_in}
-use Rattle.orc_heap.specs.Slots.{Hold, id_in}
+use Rattle.orc_heap.specs.Seats.{Seat}
 use Rattle.orc_heap.specs.declared.discipline.Discipline as discipline
 use Rattle.orc_heap.specs.declared.events.Act.TheVariants.{Fill, Give, Look}
 use Rattle.orc_heap.specs.declared.events.Event.{Event}
@@ -18,9 +15,9 @@ use Rattle.orc_heap.specs.declared.events.Place.{Place}
 use mathlib.Core.List.{IsPrefix}
 use Rattle.orc_shared_words.specs.declared.machine.Machine as machine
 use Rattle.orc_plain_board.specs.Calls.{AddsOwn, unless_linked}
-use Rattle.orc_plain_board.specs.Machine.{id_by, index_of, link_by}
+use Rattle.orc_any_domain.specs.Rows.{IsListed, index_of}
+use Rattle.orc_plain_board.specs.Machine.{id_by, link_by}
 use Rattle.orc_plain_board.specs.Views.{PlainView, heap_of}
-use Rattle.orc_plain_board.specs.Words.{IsListed}
 use Rattle.orc_plain_board.specs.declared.machine.Plain.{Plain}
 use Rattle.orc_plain_board.specs.declared.machine.PlainOp.{PlainOp}
 use Rattle.orc_plain_board.specs.declared.machine.PlainStep.{PlainStep}
@@ -57,20 +54,6 @@ module _ {N : Type 0} where
     pub slots : t.slots ≡ slice_set s.slots slot (Some (record { row = row; id = id }))
     pub puts : Puts s (event_by s.agent (Fill id 0 first) None ∷ event_by s.agent (Fill id 1 second) None ∷ []) t
     pub node : slice_get (run_heap n t.seen).nodes id ≡ Some (given_node s.agent first second)
-
-  -- an Aim of the first (0) or second (1) link of the fresh node, and that the discipline allows it wherever it fits
-  abbrev pub aim_at : Seat N → ℕ → Hold → Option (Bor Hold) → Event N
-  aim_at s number fresh to = event_of s (aim_act number (id_in s.slots fresh) (target_in s.slots to)) None
-
-  abbrev pub MayAimAt : (List (Event N) → Event N → Type 0) → HeapNumbers → Seat N → ℕ → Hold → Option (Bor Hold) → Type 0
-  MayAimAt may n s number fresh to = AllowedWhereFits may n s.agent s.seen (aim_at s number fresh to)
-
-  -- the pass holds the fresh node and its target, and may make that Aim
-  pub record MayAimLink (may : List (Event N) → Event N → Type 0) (n : HeapNumbers) (s : Seat N) (number : ℕ) (hold : Hold) (to : Option (Bor Hold))
-      : Type 0 where
-    pub fresh : HoldsFresh s hold
-    pub target : HoldsTarget s to
-    pub allowed : MayAimAt may n s number hold to
 
   -- the link was found at the place, and the agent knows its target from then on
   pub record Loads (may : List (Event N) → Event N → Type 0) (b : Bounds) (place : Place) (link : RowLink) (s t : PlainView N) : Type 0 where

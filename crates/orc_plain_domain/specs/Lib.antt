@@ -6,4 +6,3 @@ pub mod Twins
 pub mod Laws
 pub mod Ends
 pub mod Rest
-pub mod Turns

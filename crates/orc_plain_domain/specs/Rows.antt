@@ -1,18 +1,13 @@
 -- What the slots of a pass show, by the rows in them.
-use Rattle.std.specs.Borrow.{Bor}
-use Rattle.std.specs.Prelude.{◌≡◌, ℕ, ◌<◌, List, [], ◌∷◌, length, false, Option, Some, None, slice_get}
+use Rattle.std.specs.Prelude.{◌≡◌, ℕ, ◌<◌, List, [], ◌∷◌, length, Option, Some, None, slice_get}
 use Rattle.orc_words.specs.Bounds.{Bounds}
-use Rattle.orc_words.specs.declared.packed.RowLink.{RowLink}
 use Rattle.orc_words.specs.declared.place.Word.{Word}
 use Rattle.orc_words.specs.declared.place.Word.TheVariants as word
 use Rattle.orc_heap.specs.Seats.{Seat}
-use Rattle.orc_heap.specs.Slots.{Hold, SlotNode, Slots}
-use Rattle.orc_heap.specs.declared.holds.At.{At}
-use Rattle.orc_heap.specs.declared.holds.At.TheVariants.{Node as AtNode, Root as AtRoot, Side as AtSide}
-use Rattle.orc_heap.specs.declared.holds.Want.{Want}
-use Rattle.orc_heap.specs.declared.holds.Want.TheVariants.{Node as WantNode, Null as WantNull}
+use Rattle.orc_heap.specs.Slots.{SlotNode, Slots}
 use Rattle.orc_plain_board.specs.Calls.{KnowsRow}
-use Rattle.orc_plain_board.specs.Machine.{id_by, index_of}
+use Rattle.orc_any_domain.specs.Rows.{index_of}
+use Rattle.orc_plain_board.specs.Machine.{id_by}
 use Rattle.orc_plain_board.specs.Views.{PlainView}
 
 -- a slot, with the node that lies in its row; `rows` are the rows of the nodes, in the order in which they were given
@@ -33,19 +28,3 @@ pub record Keeps {N : Type 0} (b : Bounds) (s : PlainView N) (slots : List (Opti
   pub eight : length slots ≡ 8
   pub known : (slot row : ℕ) → slice_get slots slot ≡ Some (Some row) → KnowsRow b s row
   pub inside : next < b.rows
-
--- the word of a place that a caller names
-abbrev pub word_at : At → Word
-word_at (AtRoot r) = word.Root r
-word_at (AtNode h) = word.Next h.now.row
-word_at (AtSide h) = word.Side h.now.row
-
--- the link that a caller names, by its row
-abbrev pub row_link : Want → RowLink
-row_link (WantNull mark) = record { to = None; mark = mark }
-row_link (WantNode h mark) = record { to = Some h.now.row; mark = mark }
-
--- an unmarked link to what a caller names, by its row
-abbrev pub target_link : Option (Bor Hold) → RowLink
-target_link None = record { to = None; mark = false }
-target_link (Some h) = record { to = Some h.now.row; mark = false }

@@ -7,11 +7,9 @@ mod ends;
 mod laws;
 mod links;
 mod make;
-mod names;
 mod rest;
 mod steps;
 pub mod twins;
 
 pub use domain::{PlainDomain, PlainPass, PlainRest};
 pub use make::MadePlainDomain;
-pub use names::{around, first_row, row_link, word_at};

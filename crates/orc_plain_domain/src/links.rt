@@ -14,12 +14,11 @@ ghost use Rattle.orc_history.specs.Parts.{InPart};
 ghost use Rattle.orc_plain_domain.specs.{
   Given.{IsLacking},
   Passes.{IsPassOf, domain_bounds, domain_numbers, journal_of, next_row, rows_of, seat_of},
-  Turns.{IsNext},
 };
-ghost use Rattle.orc_plain_board.specs.Words.{IsListed};
+ghost use Rattle.orc_any_domain.specs.{Rows.{IsListed}, Turns.{IsNext}};
 
 use crate::domain::{PlainDomain, PlainPass};
-use crate::names::{around, row_link, word_at};
+use orc_any_domain::{around, row_link, word_at};
 use orc_fault::{NoNode, Spent};
 use orc_heap::{At, Discipline, Event, Held, Links, Looked, LookedOn, Seen, Want};
 use orc_words::pack_link;

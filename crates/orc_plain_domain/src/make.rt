@@ -5,10 +5,11 @@ ghost use Rattle.orc_words.specs.Bounds.{bounds_of};
 ghost use Rattle.orc_heap.specs.{Seats.{IsIdle}, Seeds.{SeedAllowed, opening_events}};
 ghost use Rattle.orc_plain_board.specs.{Machine.{numbers}, Views.{shows_by}};
 ghost use Rattle.orc_shared_words.specs.Lists.{EachAt, EachFrom};
-ghost use Rattle.orc_plain_domain.specs.{Passes.{IsPassOf, domain_bounds, domain_opening, next_row, seat_of}, Turns.{first_row}};
+ghost use Rattle.orc_any_domain.specs.Turns.{first_row};
+ghost use Rattle.orc_plain_domain.specs.Passes.{IsPassOf, domain_bounds, domain_opening, next_row, seat_of};
 
 use crate::domain::{PlainDomain, PlainPass};
-use crate::names::first_row;
+use orc_any_domain::first_row;
 use orc_fault::NoMemory;
 use orc_heap::{Discipline, Seed};
 use orc_plain_board::PlainBoard;

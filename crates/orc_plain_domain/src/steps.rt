@@ -3,14 +3,15 @@
 ghost use Rattle.std.specs.Prelude.{◌≡◌, ◌<◌, ◌%◌, ◌+◌, ◌∷◌, [], MatchBool, None, Some, slice_get};
 ghost use mathlib.Core.List.{IsPrefix};
 ghost use Rattle.orc_heap.specs.{Heap.{new_node}, OwnEvents.{Only}};
-ghost use Rattle.orc_plain_board.specs.{Calls.{KnowsPlace}, Machine.{index_of, place_by}, Views.{heap_of, shows}};
+ghost use Rattle.orc_any_domain.specs.{Aims.{MayAimLink, aim_at}, Rows.{index_of}};
+ghost use Rattle.orc_plain_board.specs.{Calls.{KnowsPlace}, Machine.{place_by}, Views.{heap_of, shows}};
 ghost use Rattle.orc_plain_domain.specs.{
-  Calls.{Furnishes, IsSame, Loads, Loses, MayAimLink, Retires, GivesFreshRow, aim_at},
+  Calls.{Furnishes, IsSame, Loads, Loses, Retires, GivesFreshRow},
   Passes.{IsPassOf, domain_bounds, domain_numbers, journal_of, next_row, rows_of, seat_of},
 };
 
 use crate::domain::{PlainDomain, PlainPass};
-use crate::names::{around, target_link};
+use orc_any_domain::{around, target_link};
 use orc_heap::{Discipline, Held};
 use orc_words::{RowLink, Word, read_link};
 

@@ -1,9 +1,9 @@
 -- Where no row could be given, each row was taken before, so as many nodes as there are rows had been given.
-use Rattle.std.proofs.Common.{List, Some, [], ap, arith, length, refl, subst, suc, sym, take, true, zero, ℕ, ⊎_elim, ◌++◌, ◌<◌, ◌∙◌, ◌≡◌, ◌∷◌, ◌≤◌}
+use Rattle.std.proofs.Common.{List, Some, [], ap, arith, refl, subst, suc, sym, take, true, zero, ℕ, ⊎_elim, ◌++◌, ◌<◌, ◌∙◌, ◌≡◌, ◌∷◌, ◌≤◌}
 use Rattle.std.specs.Prelude.{slice_get}
 use Rattle.orc_core.specs.Counts.{is_out}
 use Rattle.orc_core.specs.Machine.{new_machine, word_in}
-use Rattle.orc_plain_domain.proofs.Counting.{no_more, nodes_given}
+use Rattle.orc_any_domain.proofs.Counting.{listed_all, nodes_given}
 use Rattle.orc_heap.proofs.Changes.{get-grown}
 use Rattle.orc_heap.specs.Moves.{gives_in}
 use Rattle.orc_machine_board.specs.Laws.Steps.{bounds_run}
@@ -20,9 +20,7 @@ use Rattle.orc_sound.proofs.NewState.{counter_first, zero_first}
 use Rattle.orc_sound.proofs.Shown.{word_shown}
 use Rattle.orc_sound.specs.Journals.{IsLawfulJournal}
 use Rattle.orc_sound.specs.declared.steps.Step.{Step}
-use Rattle.orc_plain_board.proofs.Lists.{at_index, index_in, some_one}
-use Rattle.orc_plain_board.specs.Machine.{index_of}
-use Rattle.orc_plain_board.specs.Words.{IsListed}
+use Rattle.orc_any_domain.specs.Rows.{IsListed}
 use Rattle.orc_words.specs.Bounds.{Bounds, IsShape}
 use Rattle.orc_words.specs.declared.place.Word.TheVariants.{Counter, Gate}
 
@@ -85,13 +83,7 @@ module _ {N : Type 0} where
       let lawful = ((IsLawfulJournal-append (new_machine b) (take place j) cut.0).0 (subst (IsLawfulJournal (new_machine b)) cut.1 steps.lawful)).0 in
       subst (λ z. IsListed (rows_taken b z) r) (sym cut.1)
       (taken_later b (take place j) cut.0 r (was_taken b (take place j) r steps.shape lawful h (l.taken r h))) in
-      let many : b.rows ≤ length rows = no_more b.rows (length rows) (λ r. index_of r rows) (record {
-        low = λ r h. let o = taken r h in index_in r rows o.0 o.1;
-        apart = λ q r h i e.
-            let o = taken q h in
-            let u = taken r i in
-            some_one q r (sym (at_index q rows (index_in q rows o.0 o.1)) ∙ (ap (slice_get rows) e ∙ at_index r rows (index_in r rows u.0 u.1)));
-      }) in
+      let many = listed_all rows b.rows taken in
       let count = taken_count b all steps.shape steps.lawful in
       let mirror = projection_mirrors b all steps.shape steps.lawful steps.unmarked in
       let given = mirror.given in

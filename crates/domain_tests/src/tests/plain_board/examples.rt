@@ -4,11 +4,12 @@ ghost use Rattle.std.specs.Prelude.{◌≡◌, ℕ, [], ◌∷◌, None, Some, f
 ghost use Rattle.orc_words.specs.Bounds.{Bounds};
 ghost use Rattle.orc_heap.specs.declared.events.Act.TheVariants as act;
 ghost use Rattle.orc_heap.specs.declared.events.Place.TheVariants as at;
+ghost use Rattle.orc_any_domain.specs.Rows.{IsListed, index_of};
 ghost use Rattle.orc_plain_board.specs.{
   Calls.{IsGateWord, seen_free, unless_linked},
-  Machine.{index_of, link_by, place_by, project, written},
+  Machine.{link_by, place_by, project, written},
   Rules.{step_of},
-  Words.{IsListed, IsWord},
+  Words.{IsWord},
 };
 ghost use Rattle.orc_heap.specs.Journals.{event_by};
 

@@ -4,7 +4,8 @@ use Rattle.orc_heap.specs.Journals.{run_heap}
 use Rattle.orc_heap.proofs.Known.{known-later}
 use Rattle.orc_heap.specs.AnyFit.{AnyFit}
 use Rattle.orc_words.specs.declared.packed.RowLink.{RowLink}
-use Rattle.orc_plain_board.specs.Machine.{id_by, index_of}
+use Rattle.orc_any_domain.specs.Rows.{index_of}
+use Rattle.orc_plain_board.specs.Machine.{id_by}
 use Rattle.orc_plain_board.specs.Views.{board_numbers, shows}
 use Rattle.domain_tests.proofs.tests.plain_board.link_row.Goals as goal
 

@@ -2,11 +2,11 @@ use Rattle.std.proofs.Common.{Option, Some, ap, false, rules, subst, sym, true, 
 use Rattle.std.specs.Borrow.{Bor}
 use Rattle.orc_core.specs.Allowed.{may_target}
 use Rattle.orc_core.specs.RecordParts.{names}
-use Rattle.orc_plain_domain.specs.Rows.{target_link}
+use Rattle.orc_any_domain.specs.Names.{target_link}
 use Rattle.orc_heap.specs.Seats.{HoldsFresh, HoldsTarget}
 use Rattle.orc_heap.specs.Slots.{Hold}
 use Rattle.orc_machine_board.specs.Licences.{AimAllowed}
-use Rattle.orc_plain_board.proofs.Lists.{some_one}
+use Rattle.orc_any_domain.proofs.Rows.{some_one}
 use Rattle.orc_machine_board.specs.Rules.{heap_numbers}
 use Rattle.orc_machine_board.specs.Views.{shows}
 use Rattle.orc_domain.proofs.Filling.{fresh_row}

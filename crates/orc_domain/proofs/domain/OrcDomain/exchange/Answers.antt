@@ -3,7 +3,7 @@ use Rattle.std.specs.Option.{ForSome}
 use Rattle.std.specs.Prelude.{None, cond}
 use Rattle.orc_core.specs.RecordParts.{any_holds, same_target}
 use Rattle.orc_core.specs.declared.ops.Op.TheVariants.{LinkCas}
-use Rattle.orc_plain_domain.specs.Rows.{row_link}
+use Rattle.orc_any_domain.specs.Names.{row_link}
 use Rattle.orc_machine_board.specs.Kinds.{MayDo, asks}
 use Rattle.orc_machine_board.specs.Licences.{MoveAllowed}
 use Rattle.orc_machine_board.specs.Rules.{heap_numbers}

@@ -1,5 +1,5 @@
 use Rattle.std.proofs.Common.{arith, ◌∙◌, ◌≡◌}
-use Rattle.orc_plain_domain.proofs.Turns.{first_rows}
+use Rattle.orc_any_domain.proofs.FirstRows.{first_rows}
 use Rattle.orc_machine_board.specs.Views.{shows}
 use Rattle.orc_words.specs.Bounds.{bounds_of}
 use Rattle.orc_domain.proofs.Making.{all_belong, all_idle, each_at, opening_seen}

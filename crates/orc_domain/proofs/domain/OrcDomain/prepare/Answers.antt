@@ -1,5 +1,5 @@
 use Rattle.std.proofs.Common.{Some, ap, subst, sym, ◌∙◌, ◌≢◌}
-use Rattle.orc_plain_domain.specs.Rows.{row_link}
+use Rattle.orc_any_domain.specs.Names.{row_link}
 use Rattle.orc_heap.specs.Calls.{RefusesSwing}
 use Rattle.orc_heap.specs.Seats.{HoldsWant}
 use Rattle.orc_machine_board.specs.Views.{shows}

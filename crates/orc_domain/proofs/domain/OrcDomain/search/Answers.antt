@@ -1,6 +1,6 @@
 use Rattle.std.proofs.Common.{ap, arith, refl, subst, sym, ◌∙◌, ◌%◌, ◌+◌, ◌<◌, ◌≡◌}
 use Rattle.std.proofs.Math.Nat.{mod-lt}
-use Rattle.orc_plain_domain.specs.Turns.{IsNext}
+use Rattle.orc_any_domain.specs.Turns.{IsNext}
 use Rattle.orc_machine_board.specs.Views.{shows}
 use Rattle.orc_domain.proofs.Rounds.{tries_gets, tries_next, tries_none, tries_one}
 use Rattle.orc_domain.specs.Passes.{domain_bounds}

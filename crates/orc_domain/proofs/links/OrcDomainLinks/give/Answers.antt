@@ -4,7 +4,7 @@ use Rattle.orc_domain.proofs.Giving.{Gave, Took, first_can, gave, publish_can, s
 use Rattle.orc_domain.proofs.Rounds.{next_grows, tries_all, tries_then}
 use Rattle.orc_domain.proofs.Ending.{between_of, ends_later, pass_of, stage_of}
 use Rattle.orc_domain.proofs.TakingIn.{takes_free}
-use Rattle.orc_plain_domain.specs.Turns.{IsNext}
+use Rattle.orc_any_domain.specs.Turns.{IsNext}
 use Rattle.orc_heap.specs.Slots.{Hold}
 use Rattle.orc_machine_board.specs.Views.{shows}
 use Rattle.orc_domain.specs.Passes.{domain_bounds}

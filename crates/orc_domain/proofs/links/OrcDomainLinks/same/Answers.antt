@@ -1,6 +1,6 @@
 use Rattle.std.proofs.Common.{None, Some, ap, subst, sym, ◌∙◌, ◌≡◌}
 use Rattle.orc_core.specs.declared.ops.Op.TheVariants.{LinkLoad}
-use Rattle.orc_plain_domain.specs.Rows.{row_link, word_at}
+use Rattle.orc_any_domain.specs.Names.{row_link, word_at}
 use Rattle.orc_machine_board.specs.Kinds.{MayDo, wants}
 use Rattle.orc_machine_board.specs.Licences.{LookAllowed}
 use Rattle.orc_machine_board.specs.Rules.{heap_numbers}

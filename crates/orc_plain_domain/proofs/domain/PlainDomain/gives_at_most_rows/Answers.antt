@@ -1,6 +1,7 @@
 use Rattle.std.proofs.Common.{◌≤◌, ◌∙◌, subst}
 use Rattle.orc_plain_board.specs.Views.{shows}
-use Rattle.orc_plain_domain.proofs.Counting.{nodes_given, rows_at_most}
+use Rattle.orc_any_domain.proofs.Counting.{nodes_given}
+use Rattle.orc_plain_domain.proofs.Counting.{rows_at_most}
 use Rattle.orc_plain_domain.proofs.Growing.{tie}
 use Rattle.orc_plain_domain.specs.Passes.{domain_bounds, domain_numbers}
 use Rattle.orc_plain_domain.proofs.domain.PlainDomain.gives_at_most_rows.Goals as goal

@@ -3,7 +3,7 @@ use Rattle.orc_heap.specs.Seeds.{opening_events}
 use Rattle.orc_plain_board.specs.Views.{shows}
 use Rattle.orc_words.specs.Bounds.{bounds_of}
 use Rattle.orc_plain_domain.proofs.Making.{all_belong, all_idle, each_at, each_pass}
-use Rattle.orc_plain_domain.proofs.Turns.{first_rows}
+use Rattle.orc_any_domain.proofs.FirstRows.{first_rows}
 use Rattle.orc_plain_domain.proofs.domain.PlainDomain.make.Goals as goal
 
 pub returns-clause-belongs : goal.returns-clause-belongs

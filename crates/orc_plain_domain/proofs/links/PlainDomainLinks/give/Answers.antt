@@ -1,11 +1,11 @@
 use Rattle.std.proofs.Common.{◌%◌, ◌+◌, ◌≡◌, ◌∙◌, ap, arith, refl, subst, sym}
 use Rattle.orc_heap.proofs.Pieces.{goes_on}
 use Rattle.orc_heap.specs.Slots.{Hold}
-use Rattle.orc_plain_board.specs.Words.{IsListed}
+use Rattle.orc_any_domain.specs.Rows.{IsListed}
 use Rattle.orc_plain_domain.specs.Passes.{domain_bounds, rows_of}
 use Rattle.orc_plain_board.specs.Views.{shows}
 use Rattle.orc_plain_domain.specs.Calls.{Loses}
-use Rattle.orc_plain_domain.specs.Turns.{IsNext}
+use Rattle.orc_any_domain.specs.Turns.{IsNext}
 use Rattle.orc_plain_domain.proofs.Giving.{gives, tried_all, tried_next, tried_none, tried_one}
 use Rattle.orc_plain_domain.proofs.links.PlainDomainLinks.give.Goals as goal
 

@@ -1,5 +1,5 @@
 use Rattle.std.proofs.Common.{◌∙◌, refl, sym, ap, subst, arith}
-use Rattle.orc_plain_board.proofs.Lists.{some_one}
+use Rattle.orc_any_domain.proofs.Rows.{some_one}
 use Rattle.orc_plain_board.specs.Calls.{KnowsTarget, MayWhereShown, look_event}
 use Rattle.orc_plain_board.specs.Views.{shows}
 use Rattle.orc_words.specs.declared.packed.RowLink.{RowLink}
