@@ -43,7 +43,9 @@ impl<L: Drop> LineList<L> {
         self.items.push(item)?;
         Ok(())
     }
+}
 
+impl<L> LineList<L> {
     /// How many lines it has.
     pub fn len(&self) -> usize
         ensures { result ≡ length self.now }

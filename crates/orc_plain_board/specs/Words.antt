@@ -1,5 +1,6 @@
 -- How words show links, gates and values.
 use Rattle.std.specs.Prelude.{◌≡◌, ◌≢◌, ℕ, ◌+◌, ◌*◌, ◌<◌, List, length, Bool, true, Option, Some, None, slice_get, slice_index}
+use Rattle.orc_any_domain.specs.Rows.{Once}
 use Rattle.orc_words.specs.Bounds.{Bounds}
 use Rattle.orc_words.specs.Packed.{bit}
 use Rattle.orc_words.specs.Places.{place, places}
