@@ -1,4 +1,4 @@
-//! Worked examples of the definitions, the laws called once, and what crosses threads.
+//! Worked examples of the definitions, the laws called once, calls over both domains, and what crosses threads.
 
 mod cell;
 mod chain_rule;

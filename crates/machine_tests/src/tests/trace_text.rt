@@ -66,7 +66,7 @@ fn words()
 {}
 
 // A link to this row, or to none.
-fn link_to(to: Option<u32>, mark: bool) -> RowLink {
+fn link_with_mark(to: Option<u32>, mark: bool) -> RowLink {
     RowLink { to, mark }
 }
 
@@ -90,7 +90,10 @@ fn a_trace_is_read_line_by_line(rt: HostRuntime) -> Result<(), Fail> {
         panic!(rt; "cas")
     };
     assert!(rt; matches!(place, Word::Root(0)));
-    assert_eq!(rt; (from, to), (link_to(None, false), link_to(Some(1), true)));
+    assert_eq!(rt;
+        (from, to),
+        (link_with_mark(None, false), link_with_mark(Some(1), true))
+    );
     let end = first_step(&shape, rest);
     let Some((1, Op::CounterLoad { row, how }, rest)) = end else {
         panic!(rt; "end")
@@ -100,7 +103,7 @@ fn a_trace_is_read_line_by_line(rt: HostRuntime) -> Result<(), Fail> {
     let Some((0, Op::LinkStore { row, number, link }, rest)) = side else {
         panic!(rt; "side")
     };
-    assert_eq!(rt; (row, number, link), (0, 1, link_to(Some(1), false)));
+    assert_eq!(rt; (row, number, link), (0, 1, link_with_mark(Some(1), false)));
     assert_eq!(rt; rest.len(), 0);
     Ok(())
 }
