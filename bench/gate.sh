@@ -72,5 +72,7 @@ if sys.argv[1] == 'first start':
         subprocess.run(['git', 'clone', '--quiet', '.', scratch], check=True)
         sys.exit(measure(['./mooringakee'], cwd=scratch, stdin=open('examples/five.jobs'),
                          stdout=subprocess.DEVNULL, env=dict(os.environ, MOORINGAKEE_BUILD='here')))
+if sys.argv[1]:
+    sys.exit('gate: the words are `first start`, or none')
 sys.exit(measure(['rt', 'ci', '--anew']))
 PY
