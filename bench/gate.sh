@@ -27,7 +27,7 @@ def provers():
                 continue
             status = open(f'/proc/{pid}/stat').read().rsplit(')', 1)[1].split()
             folder = os.readlink(f'/proc/{pid}/cwd')
-        except OSError:
+        except (OSError, IndexError):
             continue
         if folder.startswith('/tmp/rt-edit'):
             kind = 'edits'
