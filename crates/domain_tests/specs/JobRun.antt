@@ -78,12 +78,12 @@ before_took = (after_put ++ own_steps (
 
 module _ {D N : Type 0} {d : discipline.Ghosts D N} {m : machine.Ghosts Reclaiming N (MachineShape N) Request (Step N) Agent Agent} where
   -- the board is this small, and the pass is that of its one agent
-  pub record IsSolePass (board : MachineBoard D N) (p : MachineBoardPass D N (MachineShape N) Request (Step N) Agent Agent d m) : Type 0 where
+  pub record IsSolePass (board : MachineBoard D N) (p : MachineBoardPass D N d m) : Type 0 where
     pub belongs : Belongs board p
     pub sizes : board_bounds board ≡ small
     pub agent : (shows p).agent ≡ 0
 
   -- so it is, and the machine is where the pass's steps lead
-  pub record IsPlayed (board : MachineBoard D N) (p : MachineBoardPass D N (MachineShape N) Request (Step N) Agent Agent d m) (state : Machine) : Type 0 where
+  pub record IsPlayed (board : MachineBoard D N) (p : MachineBoardPass D N d m) (state : Machine) : Type 0 where
     pub sole : IsSolePass board p
     pub is : state ≡ run_of (board_bounds board) (shows p).journal

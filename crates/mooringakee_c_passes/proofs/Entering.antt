@@ -21,7 +21,7 @@ use Rattle.mooringakee_c_passes.specs.Views.{GoesOn, RefusesCall}
 use Rattle.mooringakee_c_passes.proofs.Quiet.{enters_none}
 
 module _ {D N E W : Type 0} {d : discipline.Ghosts D N} {m : machine.Ghosts Reclaiming N (MachineShape N) Request (Step N) Agent Agent}
-    (kind : ContainerKind D N E W) (x y : OrcDomain D N) (is : x ≡ y) (turns : ℕ) (old new : OrcPass D N (MachineShape N) Request (Step N) Agent Agent d m)
+    (kind : ContainerKind D N E W) (x y : OrcDomain D N) (is : x ≡ y) (turns : ℕ) (old new : OrcPass D N d m)
     (legal : kind.IsLegal (calls_in kind x (journal_of new))) (agent : (seat_of x new).agent ≡ (seat_of x old).agent)
   where
     -- the call's own entries are these
@@ -46,7 +46,7 @@ module _ {D N E W : Type 0} {d : discipline.Ghosts D N} {m : machine.Ghosts Recl
 module _ {D N E W : Type 0} {d : discipline.Ghosts D N} {m : machine.Ghosts Reclaiming N (MachineShape N) Request (Step N) Agent Agent}
     (kind : ContainerKind D N E W)
     (own : (n : HeapNumbers) (es : List (Event N)) (e : Event N) → d.may n es e → AllByRecursion (λ (x : E). kind.agent_of x ≡ e.agent) (kind.entries_in e.note))
-    (x : OrcDomain D N) (turns : ℕ) (old new : OrcPass D N (MachineShape N) Request (Step N) Agent Agent d m)
+    (x : OrcDomain D N) (turns : ℕ) (old new : OrcPass D N d m)
   where
     -- a pass that makes no event enters nothing
     pub quiet : kind.IsLegal (calls_in kind x (journal_of new)) → IsPassOf x new → Only [] (seat_of x old) (seat_of x new)

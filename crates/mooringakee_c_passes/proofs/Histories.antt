@@ -30,7 +30,7 @@ use Rattle.mooringakee_c_passes.specs.Kinds.{BeginsAtZero, calls_in, queue, set,
 
 module _ {m : machine.Ghosts Reclaiming FifoNote (MachineShape FifoNote) Request (Step FifoNote) Agent Agent} where
   -- of a queue whose positions begin with 0
-  pub legal_queue : (x : OrcDomain Fifo FifoNote) (p : OrcPass Fifo FifoNote (MachineShape FifoNote) Request (Step FifoNote) Agent Agent fifo m)
+  pub legal_queue : (x : OrcDomain Fifo FifoNote) (p : OrcPass Fifo FifoNote fifo m)
       → HasDummy (domain_numbers x) (domain_opening x) → BeginsAtZero x → IsPassOf x p → IsLegalQueue 0 (calls_in queue x (journal_of p))
   legal_queue x p made zero belongs =
       subst (λ (n : ℕ). IsLegalQueue n (calls_in queue x (journal_of p))) zero
@@ -39,14 +39,14 @@ module _ {m : machine.Ghosts Reclaiming FifoNote (MachineShape FifoNote) Request
 
 module _ {m : machine.Ghosts Reclaiming ChainNote (MachineShape ChainNote) Request (Step ChainNote) Agent Agent} where
   -- of a bucketed set
-  pub legal_set : (x : OrcDomain Chain ChainNote) (p : OrcPass Chain ChainNote (MachineShape ChainNote) Request (Step ChainNote) Agent Agent chain m)
+  pub legal_set : (x : OrcDomain Chain ChainNote) (p : OrcPass Chain ChainNote chain m)
       → IsPassOf x p → IsLegalSet (calls_in set x (journal_of p))
   legal_set x p belongs =
       chain_legal (domain_numbers x) (seat_of x p).seen (project (domain_bounds x) (journal_of p)) belongs.board.keeps.now.kept refl
 
 module _ {m : machine.Ghosts Reclaiming SplitNote (MachineShape SplitNote) Request (Step SplitNote) Agent Agent} where
   -- of a split-ordered set
-  pub legal_split : (x : OrcDomain Split SplitNote) (p : OrcPass Split SplitNote (MachineShape SplitNote) Request (Step SplitNote) Agent Agent splits m)
+  pub legal_split : (x : OrcDomain Split SplitNote) (p : OrcPass Split SplitNote splits m)
       → IsPassOf x p → IsLegalSet (calls_in split x (journal_of p))
   legal_split x p belongs =
       split_legal (domain_numbers x) (seat_of x p).seen (project (domain_bounds x) (journal_of p)) belongs.board.keeps.now.kept refl

@@ -25,7 +25,7 @@ module _ {D N E W C T K : Type 0} {d : discipline.Ghosts D N} {m : machine.Ghost
     (rooms : GivenBack T K (OrcDomain D N)) (turns : ℕ)
   where
     -- the place of a new pass is a new place
-    new_place : (agent : ℕ) (p : OrcPass D N (MachineShape N) Request (Step N) Agent Agent d m) (place : AgentPlace C (GivenBack T K (OrcDomain D N)) (OrcPass D N (MachineShape N) Request (Step N) Agent Agent d m)) → place.container.value ≡ container → place.places.value ≡ rooms → p ≡ place.pass
+    new_place : (agent : ℕ) (p : OrcPass D N d m) (place : AgentPlace C (GivenBack T K (OrcDomain D N)) (OrcPass D N d m)) → place.container.value ≡ container → place.places.value ≡ rooms → p ≡ place.pass
         → place.turns ≡ turns → CanBeUsed domain (tags rooms) p → (seat_of domain p).agent ≡ agent → calls_in kind domain (journal_of p) ≡ []
         → IsNewPlace kind domain turns agent (domain_of place.container.value) place
     new_place agent p place same places is turns_are can agent_is none =
@@ -33,23 +33,23 @@ module _ {D N E W C T K : Type 0} {d : discipline.Ghosts D N} {m : machine.Ghost
         record {
           usable = subst (λ (z : OrcDomain D N). CanBeUsed z (tags place.places.value) place.pass) (sym own)
               (subst (λ (r : GivenBack T K (OrcDomain D N)). CanBeUsed domain (tags r) place.pass) (sym places)
-              (subst (λ (q : OrcPass D N (MachineShape N) Request (Step N) Agent Agent d m). CanBeUsed domain (tags rooms) q) is can));
+              (subst (λ (q : OrcPass D N d m). CanBeUsed domain (tags rooms) q) is can));
           domain_is = own;
           turns_are = turns_are;
-          agent_is = subst (λ (q : OrcPass D N (MachineShape N) Request (Step N) Agent Agent d m). (seat_of (domain_of place.container.value) q).agent ≡ agent) is agent_is;
+          agent_is = subst (λ (q : OrcPass D N d m). (seat_of (domain_of place.container.value) q).agent ≡ agent) is agent_is;
           none = subst (λ (z : OrcDomain D N). calls_in kind z (journal_of place.pass) ≡ []) (sym own)
-              (subst (λ (q : OrcPass D N (MachineShape N) Request (Step N) Agent Agent d m). calls_in kind domain (journal_of q) ≡ []) is none);
+              (subst (λ (q : OrcPass D N d m). calls_in kind domain (journal_of q) ≡ []) is none);
         }
 
     -- and so of all passes, in order
-    pub new_seats : (seat : AgentPlace C (GivenBack T K (OrcDomain D N)) (OrcPass D N (MachineShape N) Request (Step N) Agent Agent d m) → Seat) (IsNew : ℕ → Seat → Type 0)
-        (passes : List (OrcPass D N (MachineShape N) Request (Step N) Agent Agent d m)) (seats : List (Box Seat Global)) → length seats ≡ length passes
+    pub new_seats : (seat : AgentPlace C (GivenBack T K (OrcDomain D N)) (OrcPass D N d m) → Seat) (IsNew : ℕ → Seat → Type 0)
+        (passes : List (OrcPass D N d m)) (seats : List (Box Seat Global)) → length seats ≡ length passes
         → All (λ p. CanBeUsed domain (tags rooms) p) passes → EachAt (λ i p. (seat_of domain p).agent ≡ i) passes
         → All (λ p. calls_in kind domain (journal_of p) ≡ []) passes
-        → (made : AgentPlace C (GivenBack T K (OrcDomain D N)) (OrcPass D N (MachineShape N) Request (Step N) Agent Agent d m) → Seat → Type 0)
+        → (made : AgentPlace C (GivenBack T K (OrcDomain D N)) (OrcPass D N d m) → Seat → Type 0)
         → EachAt (λ i b. GetsPlace made container rooms passes turns i b.value) seats
-        → ((place : AgentPlace C (GivenBack T K (OrcDomain D N)) (OrcPass D N (MachineShape N) Request (Step N) Agent Agent d m)) (s : Seat) → made place s → s ≡ seat place)
-        → ((agent : ℕ) (place : AgentPlace C (GivenBack T K (OrcDomain D N)) (OrcPass D N (MachineShape N) Request (Step N) Agent Agent d m))
+        → ((place : AgentPlace C (GivenBack T K (OrcDomain D N)) (OrcPass D N d m)) (s : Seat) → made place s → s ≡ seat place)
+        → ((agent : ℕ) (place : AgentPlace C (GivenBack T K (OrcDomain D N)) (OrcPass D N d m))
         → IsNewPlace kind domain turns agent (domain_of place.container.value) place → IsNew agent (seat place))
         → EachAt (λ agent b. IsNew agent b.value) seats
     new_seats seat IsNew passes seats many can order none made gets seated is_new i b low =

@@ -36,7 +36,7 @@ cause_over x first agent turns why journal from to =
 
 module _ {m : machine.Ghosts Reclaiming FifoNote (MachineShape FifoNote) Request (Step FifoNote) Agent Agent} (x y : OrcDomain Fifo FifoNote)
     (is : x ≡ y) (zero : BeginsAtZero y) (made : HasDummy (domain_numbers x) (domain_opening x)) (turns : ℕ)
-    (old new : OrcPass Fifo FifoNote (MachineShape FifoNote) Request (Step FifoNote) Agent Agent fifo m) (u : IsPassOf x new × IsIdle (seat_of x new))
+    (old new : OrcPass Fifo FifoNote fifo m) (u : IsPassOf x new × IsIdle (seat_of x new))
     (agent : (seat_of x new).agent ≡ (seat_of x old).agent)
   where
     -- the call's own entries are these

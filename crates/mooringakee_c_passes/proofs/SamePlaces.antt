@@ -15,20 +15,20 @@ use Rattle.mooringakee_c_passes.specs.Usable.{CanBeUsed}
 
 module _ {D N : Type 0} {d : discipline.Ghosts D N} {m : machine.Ghosts Reclaiming N (MachineShape N) Request (Step N) Agent Agent} where
   -- a pass of the same domain, as it is and with its places
-  pub usable_by : {x y : OrcDomain D N} (p : OrcPass D N (MachineShape N) Request (Step N) Agent Agent d m) → x ≡ y → IsPassOf x p → IsIdle (seat_of x p)
+  pub usable_by : {x y : OrcDomain D N} (p : OrcPass D N d m) → x ≡ y → IsPassOf x p → IsIdle (seat_of x p)
       → IsPassOf y p × IsIdle (seat_of y p)
   usable_by p is belongs idle = subst (λ (z : OrcDomain D N). IsPassOf z p × IsIdle (seat_of z p)) is (belongs, idle)
 
   -- a pass that goes on can be used as before
-  pub still_used : {x y : OrcDomain D N} {rooms : List (OrcDomain D N)} {old : OrcPass D N (MachineShape N) Request (Step N) Agent Agent d m}
-      (p : OrcPass D N (MachineShape N) Request (Step N) Agent Agent d m) → x ≡ y → CanBeUsed y rooms old → IsPassOf x p × IsIdle (seat_of x p)
+  pub still_used : {x y : OrcDomain D N} {rooms : List (OrcDomain D N)} {old : OrcPass D N d m}
+      (p : OrcPass D N d m) → x ≡ y → CanBeUsed y rooms old → IsPassOf x p × IsIdle (seat_of x p)
       → CanBeUsed y rooms p
   still_used p is before now =
       let here = usable_by p is now.0 now.1 in
       record { belongs = here.0; idle = here.1; places = before.places }
 
   -- and what else is true
-  pub used_after : {x y : OrcDomain D N} {rooms : List (OrcDomain D N)} {old : OrcPass D N (MachineShape N) Request (Step N) Agent Agent d m} {Z : Type 0}
-      (p : OrcPass D N (MachineShape N) Request (Step N) Agent Agent d m) → x ≡ y → CanBeUsed y rooms old × Z → IsPassOf x p × IsIdle (seat_of x p)
+  pub used_after : {x y : OrcDomain D N} {rooms : List (OrcDomain D N)} {old : OrcPass D N d m} {Z : Type 0}
+      (p : OrcPass D N d m) → x ≡ y → CanBeUsed y rooms old × Z → IsPassOf x p × IsIdle (seat_of x p)
       → CanBeUsed y rooms p × Z
   used_after p is before now = (still_used p is before.0 now, before.1)

@@ -41,7 +41,7 @@ settles_so Quiet Stays Alone left Spent leads h = h
 module _ {D N E W C T K : Type 0} {d : discipline.Ghosts D N} {m : machine.Ghosts Reclaiming N (MachineShape N) Request (Step N) Agent Agent}
     (kind : ContainerKind D N E W)
     (own : (n : HeapNumbers) (es : List (Event N)) (e : Event N) → d.may n es e → AllByRecursion (λ (x : E). kind.agent_of x ≡ e.agent) (kind.entries_in e.note))
-    (old new : AgentPlace C (GivenBack T K (OrcDomain D N)) (OrcPass D N (MachineShape N) Request (Step N) Agent Agent d m)) (domain_of : C → OrcDomain D N)
+    (old new : AgentPlace C (GivenBack T K (OrcDomain D N)) (OrcPass D N d m)) (domain_of : C → OrcDomain D N)
     (legal : kind.IsLegal (calls_in kind (domain_of old.container.value) (journal_of new.pass))) (belongs : IsPassOf (domain_of old.container.value) new.pass)
   where
     -- the container is the same, and nothing was entered

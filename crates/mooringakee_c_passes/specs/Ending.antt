@@ -24,6 +24,6 @@ module _ {D N : Type 0} {d : discipline.Ghosts D N} {m : machine.Ghosts Reclaimi
   -- all passes of this domain, which are given back to these places, came to rest, and these are the rows that the domain gave, those
   -- that it freed and those that are out, by the whole journal of its steps: as many were given as were freed and are out
   pub record TellsRows {K : Type 0} (domain : OrcDomain D N)
-      (places : GivenBack (OrcPass D N (MachineShape N) Request (Step N) Agent Agent d m) K (OrcDomain D N)) (counts : RowCounts) : Type 0 where
-    pub passes : List (OrcPass D N (MachineShape N) Request (Step N) Agent Agent d m)
+      (places : GivenBack (OrcPass D N d m) K (OrcDomain D N)) (counts : RowCounts) : Type 0 where
+    pub passes : List (OrcPass D N d m)
     pub ends : ComesToRest domain passes counts

@@ -48,7 +48,7 @@ calls_in kind domain journal = noted_entries kind.entries_in (project (domain_bo
 
 module _ {D N E W : Type 0} {d : discipline.Ghosts D N} {m : machine.Ghosts Reclaiming N (MachineShape N) Request (Step N) Agent Agent} (kind : ContainerKind D N E W) where
   -- what a pass to this domain shows of the container, before a call with so many turns or after it
-  abbrev pub calls_view : OrcDomain D N → ℕ → OrcPass D N (MachineShape N) Request (Step N) Agent Agent d m → CallView E W
+  abbrev pub calls_view : OrcDomain D N → ℕ → OrcPass D N d m → CallView E W
   calls_view domain turns p = record {
     agent_of = kind.agent_of;
     IsLegal = kind.IsLegal;

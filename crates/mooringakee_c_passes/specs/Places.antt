@@ -41,34 +41,34 @@ SettlesQuietly Quiet Alone left _ = ⊥
 
 module _ {D N : Type 0} {d : discipline.Ghosts D N} {m : machine.Ghosts Reclaiming N (MachineShape N) Request (Step N) Agent Agent} where
   -- how many retired rows a pass has to work through: those in its work list, and one that it has in hand or scanned
-  abbrev pub backlog_of : OrcPass D N (MachineShape N) Request (Step N) Agent Agent d m → ℕ
+  abbrev pub backlog_of : OrcPass D N d m → ℕ
   backlog_of p = backlog_in (shows p.pass).record_is
 
   -- no other agent made a step meanwhile
-  abbrev pub WasAloneAt : OrcDomain D N → (old new : OrcPass D N (MachineShape N) Request (Step N) Agent Agent d m) → Type 0
+  abbrev pub WasAloneAt : OrcDomain D N → (old new : OrcPass D N d m) → Type 0
   WasAloneAt domain old new = IsAlone (λ step. step.agent) (seat_of domain old).agent (journal_of old) (journal_of new)
 
   module _ {C T K : Type 0} where
     -- the place can be used over this domain
     abbrev pub IsUsablePlace : OrcDomain D N
-        → AgentPlace C (GivenBack T K (OrcDomain D N)) (OrcPass D N (MachineShape N) Request (Step N) Agent Agent d m) → Type 0
+        → AgentPlace C (GivenBack T K (OrcDomain D N)) (OrcPass D N d m) → Type 0
     IsUsablePlace domain s = CanBeUsed domain (tags s.places.value) s.pass
 
     -- the place is the same, and its pass made no event
     pub record StaysWithoutEvent (domain : OrcDomain D N)
-        (old new : AgentPlace C (GivenBack T K (OrcDomain D N)) (OrcPass D N (MachineShape N) Request (Step N) Agent Agent d m)) : Type 0 where
+        (old new : AgentPlace C (GivenBack T K (OrcDomain D N)) (OrcPass D N d m)) : Type 0 where
       pub container : new.container ≡ old.container
       pub turns : new.turns ≡ old.turns
       pub nothing : Only [] (seat_of domain old.pass) (seat_of domain new.pass)
 
     -- settling: the place is the same, and its pass made no event
-    abbrev pub SettlesPlace : OrcDomain D N → AgentPlace C (GivenBack T K (OrcDomain D N)) (OrcPass D N (MachineShape N) Request (Step N) Agent Agent d m)
-        → Answer → AgentPlace C (GivenBack T K (OrcDomain D N)) (OrcPass D N (MachineShape N) Request (Step N) Agent Agent d m) → Type 0
+    abbrev pub SettlesPlace : OrcDomain D N → AgentPlace C (GivenBack T K (OrcDomain D N)) (OrcPass D N d m)
+        → Answer → AgentPlace C (GivenBack T K (OrcDomain D N)) (OrcPass D N d m) → Type 0
     SettlesPlace domain old answer new = SettlesQuietly (StaysWithoutEvent domain old new) (WasAloneAt domain old.pass new.pass) (backlog_of new.pass) answer
 
     -- the agent's place at a new container over this domain, by the domain that its own container stands on
     pub record IsNewPlace {E W : Type 0} (kind : ContainerKind D N E W) (domain : OrcDomain D N) (turns agent : ℕ) (own : OrcDomain D N)
-        (s : AgentPlace C (GivenBack T K (OrcDomain D N)) (OrcPass D N (MachineShape N) Request (Step N) Agent Agent d m)) : Type 0 where
+        (s : AgentPlace C (GivenBack T K (OrcDomain D N)) (OrcPass D N d m)) : Type 0 where
       pub usable : IsUsablePlace own s
       pub domain_is : own ≡ domain
       pub turns_are : s.turns ≡ turns

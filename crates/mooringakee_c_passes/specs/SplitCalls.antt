@@ -29,7 +29,7 @@ pub record SplitView : Type 1 where
 
 module _ {d : discipline.Ghosts Split SplitNote} {m : machine.Ghosts Reclaiming SplitNote (MachineShape SplitNote) Request (Step SplitNote) Agent Agent} where
   -- what a pass to this domain shows, before a call with so many turns or after it
-  abbrev pub split_view : OrcDomain Split SplitNote → ℕ → OrcPass Split SplitNote (MachineShape SplitNote) Request (Step SplitNote) Agent Agent d m → SplitView
+  abbrev pub split_view : OrcDomain Split SplitNote → ℕ → OrcPass Split SplitNote d m → SplitView
   split_view domain turns p = record {
     calls = calls_view split domain turns p;
     buckets = size_of (domain_numbers domain) (seat_of domain p).seen;

@@ -16,7 +16,7 @@ use Rattle.mooringakee_c_passes.specs.Ending.{ArePlacesOf}
 module _ {D N : Type 0} {d : discipline.Ghosts D N} {m : machine.Ghosts Reclaiming N (MachineShape N) Request (Step N) Agent Agent} where
   -- the pass is one of the domain that the container stands on, and idle; and these are places to which the domain's passes are given back
   pub record CanBeUsed (domain : OrcDomain D N) (rooms : List (OrcDomain D N))
-      (p : OrcPass D N (MachineShape N) Request (Step N) Agent Agent d m) : Type 0 where
+      (p : OrcPass D N d m) : Type 0 where
     pub belongs : IsPassOf domain p
     pub idle : IsIdle (seat_of domain p)
     pub places : ArePlacesOf domain rooms

@@ -1,3 +1,4 @@
+pub mod Lists
 pub mod Rounds
 pub mod Counting
 pub mod Rows

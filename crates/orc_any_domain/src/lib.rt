@@ -1,4 +1,4 @@
-//! Any domain of nodes, from its making to its rest.
+//! Any domain of nodes, from its making to its rest; the names of its words, and where its searches begin.
 #![tactic(auto)]
 
 mod domain;

@@ -22,6 +22,6 @@ pub record ArePasses {X : Type 0} (is_usable : X → Type 0) (agent_of : X → �
 
 -- what is left of a domain whose passes had all seen this journal
 pub left_of : {D N : Type 0} {d : discipline.Ghosts D N} {m : machine.Ghosts Reclaiming N (MachineShape N) Request (Step N) Agent Agent}
-    (domain : OrcDomain D N) (passes : List (OrcPass D N (MachineShape N) Request (Step N) Agent Agent d m)) (seen : List (Step N)) (r : OrcRest D N d m)
+    (domain : OrcDomain D N) (passes : List (OrcPass D N d m)) (seen : List (Step N)) (r : OrcRest D N d m)
     → IsRestOf domain passes r → All (λ p. journal_of p ≡ seen) passes → IsLeftAtRest domain seen r
 left_of domain passes seen r h saw = record { domain_is = h.domain_is; shown = h.shown; rest = h.at_rest; journal = h.journal seen saw }

@@ -7,7 +7,8 @@ use mathlib.Core.List.{IsPrefix}
 use Rattle.orc_machine_rest.specs.Drains.{Drains}
 use Rattle.orc_core.specs.Machine.{record_at}
 use Rattle.orc_core.specs.declared.records.Agent.{Agent}
-use Rattle.orc_any_domain.proofs.Rounds.{idle_all, one_of_all, pairwise_all, pairwise_join, pairwise_long, pairwise_map, same_trans}
+use Rattle.orc_any_domain.proofs.Lists.{pairwise_all, pairwise_join, pairwise_long, pairwise_map}
+use Rattle.orc_any_domain.proofs.Rounds.{idle_all, one_of_all, same_trans}
 use Rattle.orc_any_domain.specs.Learning.{Hears, HearsAll, HoldsSame, LearnsAll}
 use Rattle.orc_history.specs.Lists.{Pairwise}
 use Rattle.orc_heap.proofs.Pieces.{goes_on}
@@ -44,7 +45,7 @@ by s = s.agent
 
 module _ {D N : Type 0} where
   abbrev Pass : (d : discipline.Ghosts D N) → machine.Ghosts Reclaiming N (MachineShape N) Request (Step N) Agent Agent → Type 0
-  Pass d m = OrcPass D N (MachineShape N) Request (Step N) Agent Agent d m
+  Pass d m = OrcPass D N d m
 
 -- what is true once all passes have learned, drained one after another and learned again
 pub record Drained {D N : Type 0} {d : discipline.Ghosts D N} {m : machine.Ghosts Reclaiming N (MachineShape N) Request (Step N) Agent Agent}

@@ -29,16 +29,16 @@ module _ {D N : Type 0} {d : discipline.Ghosts D N} {k : MachineShape N} where
 
 module _ {D N : Type 0} {d : discipline.Ghosts D N} {m : machine.Ghosts Reclaiming N (MachineShape N) Request (Step N) Agent Agent} where
   -- a pass that belongs to a board is at one
-  abbrev pub stage_of : {board : MachineBoard D N} {p : MachineBoardPass D N (MachineShape N) Request (Step N) Agent Agent d m} → Belongs board p
+  abbrev pub stage_of : {board : MachineBoard D N} {p : MachineBoardPass D N d m} → Belongs board p
       → Stage d board.words.shape
   stage_of {board} {p} h = stage d board.words.shape _ _ h.keeps
 
   -- a pass of a domain is between calls
-  abbrev pub between_of : {domain : OrcDomain D N} {p : OrcPass D N (MachineShape N) Request (Step N) Agent Agent d m} (h : IsPassOf domain p)
+  abbrev pub between_of : {domain : OrcDomain D N} {p : OrcPass D N d m} (h : IsPassOf domain p)
       → Between (stage_of h.board)
   between_of h = record { ready = h.ready; untouched = h.untouched }
 
   -- a pass of its board that is between calls is one of the domain's
-  pub pass_of : {domain : OrcDomain D N} {q : MachineBoardPass D N (MachineShape N) Request (Step N) Agent Agent d m} {next : ℕ}
+  pub pass_of : {domain : OrcDomain D N} {q : MachineBoardPass D N d m} {next : ℕ}
       (h : Belongs domain.board q) → Between (stage_of h) → next < (domain_bounds domain).rows → IsPassOf domain (record { pass = q; next = next })
   pass_of h is inside = record { board = h; ready = is.ready; untouched = is.untouched; inside = inside }

@@ -10,7 +10,7 @@ use mathlib.Core.List.{IsPrefix}
 use mathlib.Core.Logic.{dite}
 use native.Mathlib.Decide.{ℕ_discrete}
 use Rattle.orc_core.specs.Machine.{record_at}
-use Rattle.orc_any_domain.proofs.Rounds.{pairwise_at, pairwise_long}
+use Rattle.orc_any_domain.proofs.Lists.{pairwise_at, pairwise_long}
 use Rattle.orc_any_domain.specs.Learning.{HearsAll, HoldsSame}
 use Rattle.orc_history.specs.Lists.{Pairwise}
 use Rattle.orc_rest.proofs.DrainAll.{rest_after_drains}

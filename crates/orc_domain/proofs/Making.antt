@@ -53,10 +53,10 @@ nothing_ready d h = record {
 
 module _ {D N : Type 0} where
   abbrev BoardPass : (d : discipline.Ghosts D N) → machine.Ghosts Reclaiming N (MachineShape N) Request (Step N) Agent Agent → Type 0
-  BoardPass d m = MachineBoardPass D N (MachineShape N) Request (Step N) Agent Agent d m
+  BoardPass d m = MachineBoardPass D N d m
 
   abbrev DomainPass : (d : discipline.Ghosts D N) → machine.Ghosts Reclaiming N (MachineShape N) Request (Step N) Agent Agent → Type 0
-  DomainPass d m = OrcPass D N (MachineShape N) Request (Step N) Agent Agent d m
+  DomainPass d m = OrcPass D N d m
 
 module _ {D N : Type 0} {d : discipline.Ghosts D N} {m : machine.Ghosts Reclaiming N (MachineShape N) Request (Step N) Agent Agent} where
   module _ (domain : OrcDomain D N) (xs : List (DomainPass d m)) (ys : List (BoardPass d m)) (long : length xs ≡ length ys)

@@ -35,7 +35,7 @@ by s = s.agent
 
 module _ {D N : Type 0} where
   abbrev Pass : (d : discipline.Ghosts D N) → machine.Ghosts Reclaiming N (MachineShape N) Request (Step N) Agent Agent → Type 0
-  Pass d m = OrcPass D N (MachineShape N) Request (Step N) Agent Agent d m
+  Pass d m = OrcPass D N d m
 
 module _ {D N : Type 0} {d : discipline.Ghosts D N} {m : machine.Ghosts Reclaiming N (MachineShape N) Request (Step N) Agent Agent}
     (domain : OrcDomain D N)

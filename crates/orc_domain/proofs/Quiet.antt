@@ -32,13 +32,13 @@ module _ {N : Type 0} (b : Bounds) where
       ∙ (one_look (j ++ gate_looks a n) a n ∙ looks_quiet j a n)
 
 module _ {D N : Type 0} {d : discipline.Ghosts D N} {m : machine.Ghosts Reclaiming N (MachineShape N) Request (Step N) Agent Agent} where
-  first_seen : (ps : List (OrcPass D N (MachineShape N) Request (Step N) Agent Agent d m)) (seen : List (Step N)) → 0 < length ps
+  first_seen : (ps : List (OrcPass D N d m)) (seen : List (Step N)) → 0 < length ps
       → All (λ p. journal_of p ≡ seen) ps → whole_journal ps ≡ seen
   first_seen [] seen some same = absurd (omega (arith, some))
   first_seen (p ∷ ps) seen some same = same 0 p (omega arith)
 
   -- passes that have seen the same drain, and the first of them looks at the gates
-  pub rests_quietly : (b : Bounds) (ps qs : List (OrcPass D N (MachineShape N) Request (Step N) Agent Agent d m)) (seen after : List (Step N)) (n : ℕ)
+  pub rests_quietly : (b : Bounds) (ps qs : List (OrcPass D N d m)) (seen after : List (Step N)) (n : ℕ)
       → 0 < length ps → All (λ p. journal_of p ≡ seen) ps → IsPrefix (whole_journal ps) (whole_journal qs)
       → project b (whole_journal qs) ≡ project b seen → after ≡ whole_journal qs ++ gate_looks 0 n → GoesOnQuietly b seen after
   rests_quietly b ps qs seen after n some same later quiet is = record {

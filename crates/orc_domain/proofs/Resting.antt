@@ -29,21 +29,21 @@ use Rattle.orc_rest.specs.Rest.{IsAtRest}
 module _ {D N : Type 0} {d : discipline.Ghosts D N} {m : machine.Ghosts Reclaiming N (MachineShape N) Request (Step N) Agent Agent}
     (domain : OrcDomain D N)
   where
-    abbrev view : OrcPass D N (MachineShape N) Request (Step N) Agent Agent d m → MachineView N
+    abbrev view : OrcPass D N d m → MachineView N
     view p = shows p.pass
 
     -- what is still to be taken in
-    pub record Taking (p q : MachineBoardPass D N (MachineShape N) Request (Step N) Agent Agent d m)
-        (all rest : List (OrcPass D N (MachineShape N) Request (Step N) Agent Agent d m)) : Type 0 where
+    pub record Taking (p q : MachineBoardPass D N d m)
+        (all rest : List (OrcPass D N d m)) : Type 0 where
       pub belongs : Belongs domain.board q
       pub others : AllByRecursion (λ w. IsPassOf domain w) rest
       pub to_go : (u : MachineView N) → TakesInSteps view (shows q) u rest → TakesInSteps view (shows p) u all
 
-    pub taking_next : (p q : MachineBoardPass D N (MachineShape N) Request (Step N) Agent Agent d m)
-        (all rest : List (OrcPass D N (MachineShape N) Request (Step N) Agent Agent d m)) → Taking p q all rest
-        → (w : OrcPass D N (MachineShape N) Request (Step N) Agent Agent d m) → rest ≡ w ∷ drop 1 rest
-        → (left : List (OrcPass D N (MachineShape N) Request (Step N) Agent Agent d m)) → left ≡ drop 1 rest
-        → (r : MachineBoardPass D N (MachineShape N) Request (Step N) Agent Agent d m) → Belongs domain.board r
+    pub taking_next : (p q : MachineBoardPass D N d m)
+        (all rest : List (OrcPass D N d m)) → Taking p q all rest
+        → (w : OrcPass D N d m) → rest ≡ w ∷ drop 1 rest
+        → (left : List (OrcPass D N d m)) → left ≡ drop 1 rest
+        → (r : MachineBoardPass D N d m) → Belongs domain.board r
         → AbsorbsSteps (shows q) (view w) (shows r) → Taking p r all left
     taking_next p q all rest t w is left e r x a = subst (Taking p r all) (sym e) (record {
       belongs = x;
@@ -51,26 +51,26 @@ module _ {D N : Type 0} {d : discipline.Ghosts D N} {m : machine.Ghosts Reclaimi
       to_go = λ u k. t.to_go u (takes_more view (shows q) (shows r) u w (drop 1 rest) rest is a k);
     })
 
-    pub next_belongs : (p q : MachineBoardPass D N (MachineShape N) Request (Step N) Agent Agent d m)
-        (all rest : List (OrcPass D N (MachineShape N) Request (Step N) Agent Agent d m)) → Taking p q all rest
-        → (w : OrcPass D N (MachineShape N) Request (Step N) Agent Agent d m) → rest ≡ w ∷ drop 1 rest → Belongs domain.board w.pass
+    pub next_belongs : (p q : MachineBoardPass D N d m)
+        (all rest : List (OrcPass D N d m)) → Taking p q all rest
+        → (w : OrcPass D N d m) → rest ≡ w ∷ drop 1 rest → Belongs domain.board w.pass
     next_belongs p q all rest t w is = (subst (AllByRecursion (λ w. IsPassOf domain w)) is t.others).0.board
 
-    pub taking_done : (p q : MachineBoardPass D N (MachineShape N) Request (Step N) Agent Agent d m)
-        (all rest : List (OrcPass D N (MachineShape N) Request (Step N) Agent Agent d m)) → Taking p q all rest → rest ≡ []
+    pub taking_done : (p q : MachineBoardPass D N d m)
+        (all rest : List (OrcPass D N d m)) → Taking p q all rest → rest ≡ []
         → TakesInSteps view (shows p) (shows q) all
     taking_done p q all rest t is = t.to_go (shows q) (takes_none view (shows q) rest is)
 
     -- passes that are each idle are all passes of the domain
-    pub all_passes : (ps : List (OrcPass D N (MachineShape N) Request (Step N) Agent Agent d m)) → length ps ≡ (domain_bounds domain).agents
+    pub all_passes : (ps : List (OrcPass D N d m)) → length ps ≡ (domain_bounds domain).agents
         → All (λ p. IsPassOf domain p × IsIdle (seat_of domain p)) ps → EachAt (λ i p. (shows p.pass).agent ≡ i) ps → AreAll domain ps
     all_passes ps many each order = record { many = many; belong = λ i p low. (each i p low).0; order = order }
 
-    pub some_passes : (ps : List (OrcPass D N (MachineShape N) Request (Step N) Agent Agent d m)) → AreAll domain ps → 0 < length ps
+    pub some_passes : (ps : List (OrcPass D N d m)) → AreAll domain ps → 0 < length ps
     some_passes ps all = let many = all.many in let some = domain.board.words.shape.shape.some_agents in omega (arith, many, some)
 
-    module _ (ps : List (OrcPass D N (MachineShape N) Request (Step N) Agent Agent d m)) (w : OrcPass D N (MachineShape N) Request (Step N) Agent Agent d m)
-        (ws : List (OrcPass D N (MachineShape N) Request (Step N) Agent Agent d m)) (is : ps ≡ w ∷ ws) (all : AreAll domain ps) where
+    module _ (ps : List (OrcPass D N d m)) (w : OrcPass D N d m)
+        (ws : List (OrcPass D N d m)) (is : ps ≡ w ∷ ws) (all : AreAll domain ps) where
       pub first_of : IsPassOf domain w
       first_of = (subst (AreAll domain) is all).belong 0 w (omega arith)
 
@@ -78,8 +78,8 @@ module _ {D N : Type 0} {d : discipline.Ghosts D N} {m : machine.Ghosts Reclaimi
       others_of = (recursion_from_All (λ p. IsPassOf domain p) (w ∷ ws) (subst (AreAll domain) is all).belong).1
 
       -- the first has taken in all others
-      module _ (q : MachineBoardPass D N (MachineShape N) Request (Step N) Agent Agent d m) (x : Belongs domain.board q)
-          (left : List (OrcPass D N (MachineShape N) Request (Step N) Agent Agent d m)) (e : left ≡ ws) (t : TakesInSteps view (view w) (shows q) left) where
+      module _ (q : MachineBoardPass D N d m) (x : Belongs domain.board q)
+          (left : List (OrcPass D N d m)) (e : left ≡ ws) (t : TakesInSteps view (view w) (shows q) left) where
         taken : TakesInSteps view (view w) (shows q) ws
         taken = subst (TakesInSteps view (view w) (shows q)) e t
 

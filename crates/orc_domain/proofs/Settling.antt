@@ -111,7 +111,7 @@ module _ {D N : Type 0} {d : discipline.Ghosts D N} {k : MachineShape N} (s : St
 
 -- a pass of a domain that was idle, once its board has settled or drained with it
 module _ {D N : Type 0} {d : discipline.Ghosts D N} {m : machine.Ghosts Reclaiming N (MachineShape N) Request (Step N) Agent Agent} {domain : OrcDomain D N}
-    {p : OrcPass D N (MachineShape N) Request (Step N) Agent Agent d m} {q : MachineBoardPass D N (MachineShape N) Request (Step N) Agent Agent d m}
+    {p : OrcPass D N d m} {q : MachineBoardPass D N d m}
     (h : IsPassOf domain p) (idle : IsIdle (seat_of domain p)) (x : Belongs domain.board q) (between : IsBetweenRounds (shows q).record_is)
     (agent : (shows q).agent ≡ (shows p.pass).agent)
     (quiet : NoEvents (domain_bounds domain) (shows p.pass).agent (shows p.pass).journal (shows q).journal)

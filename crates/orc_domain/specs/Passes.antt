@@ -35,19 +35,19 @@ module _ {D N : Type 0} where
 
 module _ {D N : Type 0} {d : discipline.Ghosts D N} {m : machine.Ghosts Reclaiming N (MachineShape N) Request (Step N) Agent Agent} where
   -- the steps that a pass has seen
-  abbrev pub journal_of : OrcPass D N (MachineShape N) Request (Step N) Agent Agent d m → List (Step N)
+  abbrev pub journal_of : OrcPass D N d m → List (Step N)
   journal_of p = (shows p.pass).journal
 
   -- what a pass shows
-  abbrev pub seat_of : OrcDomain D N → OrcPass D N (MachineShape N) Request (Step N) Agent Agent d m → Seat N
+  abbrev pub seat_of : OrcDomain D N → OrcPass D N d m → Seat N
   seat_of domain p = seat_by (domain_bounds domain) (shows p.pass)
 
   -- the row with which the next search of a pass begins
-  abbrev pub next_row : OrcPass D N (MachineShape N) Request (Step N) Agent Agent d m → ℕ
+  abbrev pub next_row : OrcPass D N d m → ℕ
   next_row p = p.next
 
   -- the pass is one of the domain's: nothing is pending in it, its fresh node is untouched, and it goes on from a row of the table
-  pub record IsPassOf (domain : OrcDomain D N) (p : OrcPass D N (MachineShape N) Request (Step N) Agent Agent d m) : Type 0 where
+  pub record IsPassOf (domain : OrcDomain D N) (p : OrcPass D N d m) : Type 0 where
     pub board : Belongs domain.board p.pass
     pub ready : IsBetweenCalls (shows p.pass).record_is
     pub untouched : IsFreshUntouched (domain_numbers domain) (seat_of domain p)

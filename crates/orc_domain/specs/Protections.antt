@@ -28,7 +28,7 @@ word_by (suc number) row = link_at number row
 module _ {D N : Type 0} (d : discipline.Ghosts D N) (m : machine.Ghosts Reclaiming N (MachineShape N) Request (Step N) Agent Agent) where
   -- a pass of a board
   abbrev pub Pass : Type 0
-  Pass = MachineBoardPass D N (MachineShape N) Request (Step N) Agent Agent d m
+  Pass = MachineBoardPass D N d m
 
 module _ {D N : Type 0} {d : discipline.Ghosts D N} {m : machine.Ghosts Reclaiming N (MachineShape N) Request (Step N) Agent Agent}
     (board : MachineBoard D N) (w : Word) (slot : ℕ) where

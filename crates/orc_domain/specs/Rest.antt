@@ -45,7 +45,7 @@ module _ {D N : Type 0} {d : discipline.Ghosts D N} {m : machine.Ghosts Reclaimi
     pub all : TookInAll (board_bounds r.domain.board) (shows r.pass)
 
   -- this domain, of which one of these passes has taken in all others and then looked at each gate, is at rest, with these counts
-  pub record ComesToRest (domain : OrcDomain D N) (passes : List (OrcPass D N (MachineShape N) Request (Step N) Agent Agent d m))
+  pub record ComesToRest (domain : OrcDomain D N) (passes : List (OrcPass D N d m))
       (counts : RowCounts) : Type 0 where
     pub rest : OrcRest D N d m
     pub domain_is : rest_domain rest ≡ domain
@@ -56,7 +56,7 @@ module _ {D N : Type 0} {d : discipline.Ghosts D N} {m : machine.Ghosts Reclaimi
 
   -- this is the domain at rest, which had these passes: its board has shown one whole journal, in which what was given was freed or
   -- is out, and on which what all passes had seen goes on without an event
-  pub record IsRestOf (domain : OrcDomain D N) (passes : List (OrcPass D N (MachineShape N) Request (Step N) Agent Agent d m))
+  pub record IsRestOf (domain : OrcDomain D N) (passes : List (OrcPass D N d m))
       (r : OrcRest D N d m) : Type 0 where
     pub domain_is : rest_domain r ≡ domain
     pub shown : IsShown r

@@ -4,9 +4,11 @@ ghost use Rattle.std.specs.Prelude.{◌≡◌};
 ghost use Rattle.orc_machine_board.specs.{Passes.{backlog_in}, Views.{shows}};
 ghost use Rattle.orc_domain.specs.Passes.{IsPassOf};
 
+use orc_core::Agent;
 use orc_heap::Discipline;
-use orc_machine_board::{MachineBoard, MachineBoardPass, Reclaiming};
+use orc_machine_board::{MachineBoard, MachineBoardPass, MachineShape, Reclaiming, Request};
 use orc_shared_words::Machine;
+use orc_sound::Step;
 
 /// A domain of links whose rows are reclaimed (OrcGC, Correia, Ramalhete and Felber 2021).
 #[derive(Drop)]
@@ -18,7 +20,14 @@ pub struct OrcDomain<D: Discipline> {
 #[derive(Drop)]
 pub struct OrcPass<D: Discipline>
 where
-    Reclaiming: Machine<D::Note>,
+    Reclaiming: Machine<
+        D::Note,
+        Shape = MachineShape<D::Note>,
+        Op = Request,
+        Step = Step<D::Note>,
+        Record = Agent,
+        Own = Agent,
+    >,
 {
     pub(crate) pass: MachineBoardPass<D>,
     pub(crate) next: u32,

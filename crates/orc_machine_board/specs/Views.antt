@@ -72,10 +72,10 @@ module _ {D N : Type 0} where
 
 module _ {D N : Type 0} {d : discipline.Ghosts D N} {m : machine.Ghosts Reclaiming N (MachineShape N) Request (Step N) Agent Agent} where
   -- what the pass shows
-  abbrev pub shows : MachineBoardPass D N (MachineShape N) Request (Step N) Agent Agent d m → MachineView N
+  abbrev pub shows : MachineBoardPass D N d m → MachineView N
   shows p = view_of p.pass.agent p.pass.seat.me.0
 
   -- the pass is one of the board's
-  pub record Belongs (board : MachineBoard D N) (p : MachineBoardPass D N (MachineShape N) Request (Step N) Agent Agent d m) : Type 0 where
+  pub record Belongs (board : MachineBoard D N) (p : MachineBoardPass D N d m) : Type 0 where
     pub table : p.pass.seat.table_id ≡ board.words.table.shared.table_id
     pub keeps : Keeps board.words.shape (d.holds (board_numbers board)) (d.may (board_numbers board)) p.pass.seat.me.0 p.pass.agent

@@ -4,9 +4,11 @@ ghost use Rattle.std.specs.Prelude.{◌≡◌};
 ghost use Rattle.orc_layout.specs.Layout.{table_length};
 ghost use Rattle.orc_words.specs.Bounds.{bounds_of};
 
-use crate::machine::Reclaiming;
+use crate::machine::{MachineShape, Reclaiming, Request};
+use orc_core::Agent;
 use orc_heap::Discipline;
 use orc_shared_words::{Machine, SharedPass, SharedWords};
+use orc_sound::Step;
 
 /// Words that agents share, whose rows are counted, retired, scanned for and freed.
 #[derive(Drop)]
@@ -19,7 +21,14 @@ pub struct MachineBoard<D: Discipline> {
 #[derive(Drop)]
 pub struct MachineBoardPass<D: Discipline>
 where
-    Reclaiming: Machine<D::Note>,
+    Reclaiming: Machine<
+        D::Note,
+        Shape = MachineShape<D::Note>,
+        Op = Request,
+        Step = Step<D::Note>,
+        Record = Agent,
+        Own = Agent,
+    >,
 {
     pub(crate) pass: SharedPass<Reclaiming, D>,
 }

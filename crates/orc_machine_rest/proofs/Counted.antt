@@ -41,7 +41,7 @@ module _ {D N : Type 0} {d : discipline.Ghosts D N} {m : machine.Ghosts Reclaimi
     (board : MachineBoard D N)
   where
     -- the gates of the first rows were looked at, and nothing else was done
-    pub record Counted (p q : MachineBoardPass D N (MachineShape N) Request (Step N) Agent Agent d m) (rows row given linked : ℕ) : Type 0 where
+    pub record Counted (p q : MachineBoardPass D N d m) (rows row given linked : ℕ) : Type 0 where
       pub belongs : Belongs board q
       pub agent : (shows q).agent ≡ (shows p).agent
       pub absorbed : (shows q).absorbed ≡ (shows p).absorbed
@@ -52,7 +52,7 @@ module _ {D N : Type 0} {d : discipline.Ghosts D N} {m : machine.Ghosts Reclaimi
       pub given_is : given ≡ sum_below row (life_at (board_bounds board) (shows p).journal)
       pub linked_is : linked ≡ sum_below row (out_at (board_bounds board) (shows p).journal)
 
-    module _ {p q : MachineBoardPass D N (MachineShape N) Request (Step N) Agent Agent d m} {rows row given linked : ℕ}
+    module _ {p q : MachineBoardPass D N d m} {rows row given linked : ℕ}
         (c : Counted p q rows row given linked)
       where
         pub look_allowed : row < rows → MayDo (board_bounds board) (shows q) (GateLook row)
@@ -73,7 +73,7 @@ module _ {D N : Type 0} {d : discipline.Ghosts D N} {m : machine.Ghosts Reclaimi
         pub still_all : TookInAll (board_bounds board) (shows p) → TookInAll (board_bounds board) (shows q)
         still_all all a l = subst (λ (z : ℕ × List ℕ). (a ≡ z.0) ⊎ Among a z.1) (λ i. (sym c.agent i, sym c.absorbed i)) (all a l)
 
-        module _ (all : TookInAll (board_bounds board) (shows p)) {r : MachineBoardPass D N (MachineShape N) Request (Step N) Agent Agent d m}
+        module _ (all : TookInAll (board_bounds board) (shows p)) {r : MachineBoardPass D N d m}
             (x : Belongs board r)
             {n : ℕ} (made : MakesPlain (board_bounds board) (GateLook row) (shows q) n (shows r))
           where

@@ -60,7 +60,7 @@ target_left (Some r) = refl
 module _ {D N : Type 0} where
   -- a pass of a board
   abbrev pub Pass : (d : discipline.Ghosts D N) → machine.Ghosts Reclaiming N (MachineShape N) Request (Step N) Agent Agent → Type 0
-  Pass d m = MachineBoardPass D N (MachineShape N) Request (Step N) Agent Agent d m
+  Pass d m = MachineBoardPass D N d m
 
 module _ {D N : Type 0} {d : discipline.Ghosts D N} {m : machine.Ghosts Reclaiming N (MachineShape N) Request (Step N) Agent Agent} where
   pub bounds_are : (board : MachineBoard D N) (p : Pass d m) → (state_of board p).bounds ≡ board_bounds board

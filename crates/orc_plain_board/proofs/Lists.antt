@@ -1,4 +1,4 @@
--- Rows and their places in a list.
+-- Items of lists that grow by one, and of lists of which one item changes.
 use Rattle.std.proofs.Common.{◌≡◌, ◌≢◌, ℕ, zero, suc, ◌<◌, List, [], ◌∷◌, ◌++◌, length, Some, slice_get, slice_index, slice_set, get_or-set_same, get_or-set_other, refl, ap, ◌⊎◌, inl, inr, arith}
 use Rattle.orc_heap.specs.Heap.{change}
 

@@ -2,7 +2,8 @@
 use Rattle.std.proofs.Common.{All, ◌≡◌, ◌≢◌, ℕ, suc, ◌<◌, ◌≤◌, List, ◌∷◌, length, slice_index_or, sym, ap, ◌∙◌, subst, arith}
 use Rattle.std.proofs.lemmas.List.Elements.{All-from_recursion, recursion_from_All}
 use Rattle.std.specs.List.{AllByRecursion}
-use Rattle.orc_any_domain.proofs.Rounds.{idle_same, one_of_all, pairwise_at, pairwise_long}
+use Rattle.orc_any_domain.proofs.Lists.{pairwise_at, pairwise_long}
+use Rattle.orc_any_domain.proofs.Rounds.{idle_same, one_of_all}
 use Rattle.orc_any_domain.specs.Learning.{HearsAll, LearnsAll}
 use Rattle.orc_history.specs.Lists.{Pairwise}
 use Rattle.orc_heap.specs.Allowed.{events_by}

@@ -26,7 +26,7 @@ each_below n [] h = tt
 each_below n (s ∷ ss) h = (h.0, each_below n ss h.1)
 
 module _ {D N : Type 0} {d : discipline.Ghosts D N} {m : machine.Ghosts Reclaiming N (MachineShape N) Request (Step N) Agent Agent}
-    (domain : OrcDomain D N) (p : OrcPass D N (MachineShape N) Request (Step N) Agent Agent d m) (h : IsPassOf domain p)
+    (domain : OrcDomain D N) (p : OrcPass D N d m) (h : IsPassOf domain p)
   where
     pub begins_so : IsPrefix (domain_opening domain) (seat_of domain p).seen
     begins_so =

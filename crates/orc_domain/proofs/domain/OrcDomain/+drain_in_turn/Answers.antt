@@ -1,6 +1,6 @@
 use Rattle.std.proofs.Common.{rules, subst}
 use Rattle.std.specs.List.{AllByRecursion}
-use Rattle.orc_any_domain.proofs.Rounds.{all_behind}
+use Rattle.orc_any_domain.proofs.Lists.{all_behind}
 use Rattle.orc_domain.proofs.NextDrain.{before_hears, list_stays, next_numbered, next_seen, others_idle, turns_next}
 use Rattle.orc_domain.specs.Passes.{IsPassOf}
 use Rattle.orc_domain.proofs.domain.OrcDomain.+drain_in_turn.Goals as goal

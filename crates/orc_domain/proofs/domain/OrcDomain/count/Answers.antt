@@ -1,6 +1,6 @@
 use Rattle.std.proofs.Common.{subst, sym}
 use Rattle.std.specs.List.{AllByRecursion}
-use Rattle.orc_any_domain.proofs.Rounds.{first_removed}
+use Rattle.orc_any_domain.proofs.Lists.{first_removed}
 use Rattle.orc_domain.proofs.Resting.{covered, looked, others_of, some_passes, still_rests}
 use Rattle.orc_domain.specs.Passes.{IsPassOf, domain_bounds}
 use Rattle.orc_domain.proofs.domain.OrcDomain.count.Goals as goal

@@ -1,6 +1,6 @@
 use Rattle.std.proofs.Common.{rules, ◌≡◌, ◌<◌, length}
 use Rattle.std.proofs.lemmas.List.{nil_from_length}
-use Rattle.orc_any_domain.proofs.Rounds.{first_removed}
+use Rattle.orc_any_domain.proofs.Lists.{first_removed}
 use Rattle.orc_domain.proofs.Resting.{next_belongs, taking_done, taking_next}
 use Rattle.orc_domain.proofs.domain.OrcDomain.take_in_steps.Goals as goal
 

@@ -1,7 +1,7 @@
 use Rattle.std.proofs.Common.{◌∙◌, sym, subst}
 use Rattle.std.specs.List.{AllByRecursion}
 use Rattle.orc_plain_domain.proofs.Draining.{others_of}
-use Rattle.orc_any_domain.proofs.Rounds.{first_removed}
+use Rattle.orc_any_domain.proofs.Lists.{first_removed}
 use Rattle.orc_plain_domain.proofs.Resting.{covers, nothing_new, some_passes, taken_of}
 use Rattle.orc_plain_domain.specs.Passes.{IsPassOf}
 use Rattle.orc_plain_domain.proofs.domain.PlainDomain.rest.Goals as goal
