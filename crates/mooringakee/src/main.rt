@@ -26,7 +26,7 @@ fn main(rt: HostRuntime) -> ExitCode {
         }
     }
     let mut source = StdSource::new(rt.stdin());
-    let mut ended = Ended::new();
+    let mut ended = Ended::Nothing;
     let status = orc_main(
         &rt,
         rt.alloc(),

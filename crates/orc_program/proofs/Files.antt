@@ -8,29 +8,30 @@ use Rattle.orc_jobs.specs.declared.records.FileRefused.{FileRefused}
 use Rattle.orc_jobs.specs.declared.records.FileRefused.TheVariants as fault
 use Rattle.orc_program.specs.declared.answer.Answer.{Answer}
 use Rattle.orc_program.specs.declared.ended.Ended.{Ended}
+use Rattle.orc_program.specs.declared.ended.Ended.TheVariants as end
 use Rattle.orc_program.specs.Answers.{AnswersFile, RefusesSize}
-use Rattle.orc_program.specs.Ended.{NothingEnded}
 use Rattle.orc_program.specs.Refusals.{AnswersFault, record_line}
 
-module _ {L C : Type 0} (is_file : List L → Type 0) (refuses : FileRefused C → Type 0) (word : C → List ℕ) (has_told : List L → Ended → List ℕ → Type 0) where
+module _ {L C : Type 0} (is_file : List L → Type 0) (refuses : FileRefused C → Type 0) (word : C → List ℕ) (has_told : List L → Ended → List ℕ → Type 0)
+    (ended : Ended) where
   -- what is told of the lines of a file, of its first record outside the grammar, or of its size
   abbrev pub IsTheAnswer : Answer → Type 0
-  IsTheAnswer a = AnswersFile is_file refuses word has_told a.ended a.status a.text ⊎ RefusesSize (refuses fault.TooMany) a.ended a.status a.text
+  IsTheAnswer a = AnswersFile is_file refuses word has_told ended a.status a.text ⊎ RefusesSize (refuses fault.TooMany) ended a.status a.text
 
   pub is_told : {E : Type 0} (r : Result Answer E) (lines : List L) → is_file lines
-      → IfOk r (λ (a : Answer). (a.status ≡ 0) × has_told lines a.ended a.text) → IfOk r IsTheAnswer
+      → IfOk r (λ (a : Answer). (a.status ≡ 0) × has_told lines ended a.text) → IfOk r IsTheAnswer
   is_told r lines file h =
-      IfOk-weaker r (λ (a : Answer). (a.status ≡ 0) × has_told lines a.ended a.text) IsTheAnswer (λ a done. inl (inl (done.0, (lines, file, done.1)))) h
+      IfOk-weaker r (λ (a : Answer). (a.status ≡ 0) × has_told lines ended a.text) IsTheAnswer (λ a done. inl (inl (done.0, (lines, file, done.1)))) h
 
-  refusal : (a : Answer) (why : FileRefused C) → refuses why → NothingEnded a.ended × AnswersFault word why a.status a.text → IsTheAnswer a
-  refusal a (fault.Malformed place cause) bad said = inl (inr (said.1.0, said.0, record { place = place; why = cause; refused = bad; says = said.1.1 }))
-  refusal a fault.TooMany many said = inr (said.1.0, said.0, many, said.1.1)
-  refusal a fault.NoMemory bad said = absurd said.1
+  refusal : (a : Answer) (why : FileRefused C) → refuses why → ended ≡ end.Nothing → AnswersFault word why a.status a.text → IsTheAnswer a
+  refusal a (fault.Malformed place cause) bad none said = inl (inr (said.0, none, record { place = place; why = cause; refused = bad; says = said.1 }))
+  refusal a fault.TooMany many none said = inr (said.0, none, many, said.1)
+  refusal a fault.NoMemory bad none said = absurd said
 
-  pub is_refused : {E : Type 0} (r : Result Answer E) (why : FileRefused C) → refuses why
-      → IfOk r (λ (a : Answer). NothingEnded a.ended × AnswersFault word why a.status a.text) → IfOk r IsTheAnswer
-  is_refused r why bad h =
-      IfOk-weaker r (λ (a : Answer). NothingEnded a.ended × AnswersFault word why a.status a.text) IsTheAnswer (λ a said. refusal a why bad said) h
+  pub is_refused : {E : Type 0} (r : Result Answer E) (why : FileRefused C) → refuses why → ended ≡ end.Nothing
+      → IfOk r (λ (a : Answer). AnswersFault word why a.status a.text) → IfOk r IsTheAnswer
+  is_refused r why bad none h =
+      IfOk-weaker r (λ (a : Answer). AnswersFault word why a.status a.text) IsTheAnswer (λ a said. refusal a why bad none said) h
 
 -- the answer to the bytes of a file, where lines are known by their records
 module _ {L C : Type 0} {record_of : L → List (List ℕ)} {IsLine : L → Type 0} {HasCause : List (List ℕ) → C → Type 0}

@@ -18,7 +18,8 @@ use Rattle.orc_run.specs.declared.set.SetRest.{SetRest}
 use Rattle.orc_run.specs.declared.set.SetRest.TheVariants as at_rest
 use Rattle.orc_domain.specs.Rest.{rest_journal}
 use Rattle.orc_program.specs.declared.ended.Ended.{Ended}
-use Rattle.orc_program.specs.Ended.{HasSummed, RunEnded, generated_lines}
+use Rattle.orc_program.specs.declared.ended.Ended.TheVariants as end
+use Rattle.orc_program.specs.Ended.{HasSummed, generated_lines}
 use Rattle.orc_program.specs.Headline.{WorkedThrough, set_of}
 
 -- how the jobs of generated lines end
@@ -54,7 +55,7 @@ can_be_reported lines posters takers rows b f (at_rest.Lists r) ran = ran.report
 can_be_reported lines posters takers rows b f (at_rest.Split r) ran = ran.reportable
 
 -- a run of generated lines that is kept, with the summary of its replies
-pub has-summed : (settings : Settings) (f : Finished) (ended : Ended) (text : List ℕ) → 1 ≤ settings.posters → RunEnded f ended
+pub has-summed : (settings : Settings) (f : Finished) (ended : Ended) (text : List ℕ) → 1 ≤ settings.posters → ended ≡ end.Run f
     → WorkedThrough (generated_lines settings) settings f
     → text ≡ summary_of (done_jobs (generated_lines settings) f.replies.takes.items) → HasSummed settings ended text
 has-summed settings f ended text some kept run is =

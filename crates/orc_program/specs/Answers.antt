@@ -19,11 +19,12 @@ use Rattle.orc_options.specs.declared.settings.Mode.{Mode}
 use Rattle.orc_options.specs.declared.settings.Mode.TheVariants as mode
 use Rattle.orc_options.specs.declared.settings.Settings.{Settings}
 use Rattle.orc_program.specs.declared.ended.Ended.{Ended}
+use Rattle.orc_program.specs.declared.ended.Ended.TheVariants as end
 use Rattle.orc_program.specs.declared.jobs_mode.Way.{Way}
 use Rattle.orc_program.specs.declared.jobs_mode.Way.TheVariants as way
 use Rattle.orc_program.specs.declared.trace_mode.Told.{Told}
 use Rattle.orc_program.specs.declared.trace_mode.Told.TheVariants as told
-use Rattle.orc_program.specs.Ended.{HasReported, TellsStages, HasSummed, HasWatched, NothingEnded, generated_lines}
+use Rattle.orc_program.specs.Ended.{HasReported, TellsStages, HasSummed, HasWatched, generated_lines}
 use Rattle.orc_jobs.specs.declared.lines.TheConstants.{MOST_BYTES}
 use Rattle.orc_program.specs.Refusals.{cause_word, input_too_large, record_line, watch_cause_word, words_refused}
 
@@ -54,7 +55,7 @@ TellsTrace told.Audit bytes text = (audit : Audit) × IsAudit bytes audit × (te
 abbrev pub AnswersFile : {L C : Type 0} → (List L → Type 0) → (FileRefused C → Type 0) → (C → List ℕ) → (List L → Ended → List ℕ → Type 0) → Ended → ℕ → List ℕ → Type 0
 AnswersFile {L} is_file refuses word has_told ended status text =
     ((status ≡ 0) × ((lines : List L) × is_file lines × has_told lines ended text))
-    ⊎ ((status ≡ 3) × NothingEnded ended × NamesRecord refuses word text)
+    ⊎ ((status ≡ 3) × (ended ≡ end.Nothing) × NamesRecord refuses word text)
 
 -- the jobs of these lines went their way, and the text tells what came of them
 abbrev pub TellsJobs : Way → List Line → Settings → Ended → List ℕ → Type 0
@@ -77,10 +78,10 @@ AnswersTrace what bytes status text = ((status ≡ 0) × TellsTrace what bytes t
 -- what each mode answers to bytes that are not too large
 abbrev pub ModeAnswers : Mode → Settings → List ℕ → Ended → ℕ → List ℕ → Type 0
 ModeAnswers mode.Run settings bytes ended status text = AnswersJobs way.Board settings bytes ended status text
-ModeAnswers mode.Make settings bytes ended status text = (status ≡ 0) × NothingEnded ended × (text ≡ made_text settings)
+ModeAnswers mode.Make settings bytes ended status text = (status ≡ 0) × (ended ≡ end.Nothing) × (text ≡ made_text settings)
 ModeAnswers mode.Trial settings bytes ended status text = (status ≡ 0) × HasSummed settings ended text
-ModeAnswers mode.Replay settings bytes ended status text = NothingEnded ended × AnswersTrace told.Census bytes status text
-ModeAnswers mode.Audit settings bytes ended status text = NothingEnded ended × AnswersTrace told.Audit bytes status text
+ModeAnswers mode.Replay settings bytes ended status text = (ended ≡ end.Nothing) × AnswersTrace told.Census bytes status text
+ModeAnswers mode.Audit settings bytes ended status text = (ended ≡ end.Nothing) × AnswersTrace told.Audit bytes status text
 ModeAnswers mode.Watch settings bytes ended status text = AnswersWatch settings bytes ended status text
 ModeAnswers mode.Stages settings bytes ended status text = AnswersJobs way.Stages settings bytes ended status text
 
@@ -97,7 +98,7 @@ IsTooLarge m bytes = (MOST_BYTES < length bytes) ⊎ HasTooManyRecords m bytes
 
 -- an input is refused for its size
 abbrev pub RefusesSize : Type 0 → Ended → ℕ → List ℕ → Type 0
-RefusesSize large ended status text = (status ≡ 6) × NothingEnded ended × large × (text ≡ input_too_large)
+RefusesSize large ended status text = (status ≡ 6) × (ended ≡ end.Nothing) × large × (text ≡ input_too_large)
 
 -- what the program answers in these settings to these bytes: that they are too large, or what the mode answers
 abbrev pub ProgramAnswers : Settings → List ℕ → Ended → ℕ → List ℕ → Type 0
@@ -125,7 +126,7 @@ IsInput false left after bytes = (after ≡ left) × (bytes ≡ [])
 -- bytes that it reads in the settings that the words give
 abbrev pub AnswersWords : List (List ℕ) → Option (List ℕ) → Option (List ℕ) → Ended → ℕ → List ℕ → Type 0
 AnswersWords words left after ended status text =
-    (RefusesWords words × NothingEnded ended × (status ≡ 2) × (text ≡ words_refused))
+    (RefusesWords words × (ended ≡ end.Nothing) × (status ≡ 2) × (text ≡ words_refused))
     ⊎ ((settings : Settings) × (bytes : List ℕ) × GivesSettings words settings × IsInput (reads settings.mode) left after bytes
     × ProgramAnswers settings bytes ended status text)
 

@@ -1,23 +1,30 @@
 -- What a run leaves.
-use Rattle.std.specs.Prelude.{◌≡◌, Bool, ℕ, List, Some, None, IfSome, if◌then◌else◌}
+use Rattle.std.specs.Prelude.{◌≡◌, Bool, ℕ, List, Some, None, if◌then◌else◌}
 use Rattle.std.specs.List.{AllByRecursion}
 use Rattle.orc_jobs.specs.declared.line.Job.{Job}
 use Rattle.orc_jobs.specs.declared.line.Line.{Line}
 use Rattle.orc_jobs.specs.Generated.{generated}
 use Rattle.orc_report.specs.AllDone.{AreJobsOf, NoneRefused, NoneVoid}
 use Rattle.orc_report.specs.Summary.{done_jobs, summary_of}
-use Rattle.orc_at_rest.specs.Reuse.{LeaksNothing, ReusesSafely}
 use Rattle.orc_board.specs.Stretches.{pick}
 use Rattle.orc_core.specs.Machine.{new_machine}
+use Rattle.orc_core.specs.declared.records.Agent.{Agent}
+use Rattle.orc_heap.specs.declared.discipline.Discipline as discipline
 use Rattle.orc_machine_board.specs.Rules.{run_of}
+use Rattle.orc_machine_board.specs.declared.machine.MachineShape.{MachineShape}
+use Rattle.orc_machine_board.specs.declared.machine.Reclaiming.{Reclaiming}
+use Rattle.orc_machine_board.specs.declared.machine.Request.{Request}
 use Rattle.orc_domain.specs.Passes.{domain_bounds}
 use Rattle.orc_domain.specs.Rest.{rest_domain, rest_journal}
+use Rattle.orc_domain.specs.declared.at_rest.OrcRest.{OrcRest}
 use Rattle.orc_rest.specs.Reuse.{given, reused, rows_out}
 use Rattle.orc_run.specs.Runs.{EndsWithoutLeak, ReusesRowsSafely}
 use Rattle.orc_run.specs.declared.run.Finished.{Finished}
 use Rattle.orc_run.specs.declared.set.SetRest.{SetRest}
 use Rattle.orc_run.specs.declared.set.SetRest.TheVariants as at_rest
+use Rattle.orc_shared_words.specs.declared.machine.Machine as machine
 use Rattle.orc_sound.specs.Journals.{plain}
+use Rattle.orc_sound.specs.declared.steps.Step.{Step}
 use Rattle.orc_stages_run.specs.Runs.{WentThrough}
 use Rattle.orc_stages_run.specs.declared.run.StagesFinished.{StagesFinished}
 use Rattle.orc_stages_text.specs.StagesText.{stages_report as stages_text_of}
@@ -27,62 +34,33 @@ use Rattle.orc_watch.specs.declared.text.CellNumbers.{CellNumbers}
 use Rattle.orc_watch_domain.specs.Runs.{WatchedThrough}
 use Rattle.orc_watch_domain.specs.declared.watch.WatchFinished.{WatchFinished}
 use Rattle.orc_program.specs.declared.ended.Ended.{Ended}
+use Rattle.orc_program.specs.declared.ended.Ended.TheVariants as end
 use Rattle.orc_options.specs.declared.settings.Settings.{Settings}
 use Rattle.orc_program.specs.Headline.{Headline, WorkedThrough}
 
--- no run has ended
-pub record NoRunEnded (ended : Ended) : Type 0 where
-  pub queue : ended.queue ≡ None
-  pub rush : ended.rush ≡ None
-  pub set : ended.set ≡ None
-  pub split : ended.split ≡ None
-  pub replies : ended.replies ≡ None
+-- The domain is at rest, and by its actual journal no row was used again while it was linked or held, nor twice; and at the end what
+-- was given was freed or is linked.
+module _ {D N : Type 0} {d : discipline.Ghosts D N} {m : machine.Ghosts Reclaiming N (MachineShape N) Request (Step N) Agent Agent} where
+  abbrev pub RestsSafely : OrcRest D N d m → Type 0
+  RestsSafely r = ReusesRowsSafely (domain_bounds (rest_domain r)) r × EndsWithoutLeak (domain_bounds (rest_domain r)) r
 
--- nothing has ended yet
-pub record NothingEnded (ended : Ended) : Type 0 where
-  pub run : NoRunEnded ended
-  pub cell : ended.cell ≡ None
-  pub stages : ended.stages ≡ None
+-- of the domain of a run's set, whichever it was
+abbrev pub SetRestsSafely : SetRest → Type 0
+SetRestsSafely (at_rest.Lists r) = RestsSafely r
+SetRestsSafely (at_rest.Split r) = RestsSafely r
 
--- the set's domain is there, in the place of its kind alone
-abbrev pub SetEnded : SetRest → Ended → Type 0
-SetEnded (at_rest.Lists r) ended = (ended.set ≡ Some r) × (ended.split ≡ None)
-SetEnded (at_rest.Split r) ended = (ended.set ≡ None) × (ended.split ≡ Some r)
-
--- what a run has left is there
-pub record RunEnded (finished : Finished) (ended : Ended) : Type 0 where
-  pub queue : ended.queue ≡ Some finished.queue
-  pub rush : ended.rush ≡ Some finished.rush
-  pub set : SetEnded finished.set ended
-  pub replies : ended.replies ≡ Some finished.replies
-  pub cell : ended.cell ≡ None
-  pub stages : ended.stages ≡ None
-
--- what a watch has left is there
-pub record WatchEnded (finished : WatchFinished) (ended : Ended) : Type 0 where
-  pub run : NoRunEnded ended
-  pub cell : ended.cell ≡ Some finished.cell
-  pub stages : ended.stages ≡ None
-
--- what a run of the pipeline has left is there
-pub record StagesEnded (finished : StagesFinished) (ended : Ended) : Type 0 where
-  pub run : NoRunEnded ended
-  pub cell : ended.cell ≡ None
-  pub stages : ended.stages ≡ Some finished.queues
-
--- Where a run has ended, by the three actual journals, of the queue, at false, of the rush queue, at true, and of the set, or by that
--- of the cell: no row was used again while it was linked or held, nor twice; and at the end what was given was freed or is linked.
-pub record EndsSafely (ended : Ended) : Type 0 where
-  pub queues : (rush : Bool) → IfSome (pick ended.queue ended.rush rush) (λ r. ReusesRowsSafely (domain_bounds (rest_domain r)) r × EndsWithoutLeak (domain_bounds (rest_domain r)) r)
-  pub set : IfSome ended.set (λ r. ReusesRowsSafely (domain_bounds (rest_domain r)) r × EndsWithoutLeak (domain_bounds (rest_domain r)) r)
-  pub split : IfSome ended.split (λ r. ReusesRowsSafely (domain_bounds (rest_domain r)) r × EndsWithoutLeak (domain_bounds (rest_domain r)) r)
-  pub cell : IfSome ended.cell (λ r. ReusesSafely (domain_bounds (rest_domain r)) (rest_journal r) × LeaksNothing (domain_bounds (rest_domain r)) (rest_journal r))
-  pub stages : IfSome ended.stages (λ rs. AllByRecursion (λ r. ReusesRowsSafely (domain_bounds (rest_domain r)) r × EndsWithoutLeak (domain_bounds (rest_domain r)) r) rs.items)
+-- each domain of what has ended rests safely: of a run, those of the queue, at false, of the rush queue, at true, and of the set; of a
+-- watch, that of the cell; and of a pipeline, those of all queues
+abbrev pub EndsSafely : Ended → Type 0
+EndsSafely end.Nothing = Unit {0}
+EndsSafely (end.Run f) = ((rush : Bool) → RestsSafely (pick f.queue f.rush rush)) × SetRestsSafely f.set
+EndsSafely (end.Watch f) = RestsSafely f.cell
+EndsSafely (end.Stages f) = AllByRecursion (λ r. RestsSafely r) f.queues.items
 
 -- these lines were worked through as the settings say, and the headline holds of what has ended
 pub record HasReported (lines : List Line) (settings : Settings) (ended : Ended) (text : List ℕ) : Type 0 where
   pub finished : Finished
-  pub kept : RunEnded finished ended
+  pub kept : ended ≡ end.Run finished
   pub headline : Headline lines settings finished text
 
 -- the lines that are generated from the settings' seed
@@ -92,7 +70,7 @@ generated_lines settings = generated settings.seed settings.lines
 -- the generated lines were worked through as the settings say, and the text is the summary of the replies that have ended
 pub record HasSummed (settings : Settings) (ended : Ended) (text : List ℕ) : Type 0 where
   pub finished : Finished
-  pub kept : RunEnded finished ended
+  pub kept : ended ≡ end.Run finished
   pub run : WorkedThrough (generated_lines settings) settings finished
   pub summary : text ≡ summary_of (done_jobs (generated_lines settings) finished.replies.takes.items)
   -- where no reply is NoNode, Spent or Void, every job is done, and the text is a function of the lines alone
@@ -115,7 +93,7 @@ cell_numbers f = record {
 -- text tells the replies and both parts at last, with what is at rest where it was asked for
 pub record HasWatched (lines : List WatchLine) (settings : Settings) (ended : Ended) (text : List ℕ) : Type 0 where
   pub finished : WatchFinished
-  pub kept : WatchEnded finished ended
+  pub kept : ended ≡ end.Watch finished
   pub run : WatchedThrough lines settings.posters settings.rows finished
   pub told : text ≡ watch_report finished.replies.items finished.now_left finished.now_right (if settings.rest then Some (cell_numbers finished) else None)
 
@@ -123,6 +101,6 @@ pub record HasWatched (lines : List WatchLine) (settings : Settings) (ended : En
 -- the text tells all replies and what came out
 pub record TellsStages (lines : List Line) (settings : Settings) (ended : Ended) (text : List ℕ) : Type 0 where
   pub finished : StagesFinished
-  pub kept : StagesEnded finished ended
+  pub kept : ended ≡ end.Stages finished
   pub run : WentThrough lines settings.posters settings.stages settings.rows finished
   pub told : text ≡ stages_text_of finished.done.posts.items finished.done.moves.items finished.done.outs.items

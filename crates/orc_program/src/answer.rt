@@ -1,5 +1,5 @@
 //! What the program answers to the bytes of an input.
-ghost use Rattle.std.specs.Prelude.{IfOk};
+ghost use Rattle.std.specs.Prelude.{◌≡◌, IfErr, IfOk};
 ghost use Rattle.orc_options.specs.Settings.{AreInRange};
 ghost use Rattle.orc_program.specs.Answers.{ProgramAnswers};
 
@@ -25,32 +25,33 @@ pub(crate) struct Setup<'a, R, G> {
     pub(crate) gate: &'a G,
 }
 
-/// The status with which the program ends, the text that it writes, and what has ended.
+/// The status with which the program ends, and the text that it writes.
 #[derive(Drop)]
 pub(crate) struct Answer {
     pub(crate) status: u8,
     pub(crate) text: Text,
-    pub(crate) ended: Ended,
 }
 
 impl<R: Threads + Wait + Sync, G: Gate + Sync> Setup<'_, R, G> {
     // What the settings ask for: the report of the jobs of these bytes, a generated file, the summary of generated work, what is told
-    // of a trace, what came of a watch, or of the jobs of a pipeline; or the refusal of the bytes.
-    pub(crate) fn answer_of(&self, bytes: &[u8]) -> Result<Answer, NoMemory>
-        requires { AreInRange self.now.settings }
-        ensures { IfOk result (λ a. ProgramAnswers self.now.settings bytes.now a.ended a.status a.text) }
+    // of a trace, what came of a watch, or of the jobs of a pipeline; or the refusal of the bytes. What has ended is left in `ended`.
+    pub(crate) fn answer_of(&self, bytes: &[u8], ended: &mut Ended) -> Result<Answer, NoMemory>
+        requires ranges { AreInRange self.now.settings }
+        requires nothing { ended.old ≡ Ended.Nothing }
+        ensures answered { IfOk result (λ a. ProgramAnswers self.now.settings bytes.now ended.new a.status a.text) }
+        ensures unanswered { IfErr result (λ _. ended.new ≡ Ended.Nothing) }
     {
         if bytes.len() > MOST_BYTES {
             return too_large(self.alloc);
         }
         match self.settings.mode {
-            Mode::Run => self.answer_jobs(bytes, Way::Board),
+            Mode::Run => self.answer_jobs(bytes, Way::Board, ended),
             Mode::Make => answer_make(self.alloc, self.settings),
-            Mode::Trial => self.answer_trial(),
+            Mode::Trial => self.answer_trial(ended),
             Mode::Replay => answer_trace(self.alloc, bytes, Told::Census),
             Mode::Audit => answer_trace(self.alloc, bytes, Told::Audit),
-            Mode::Watch => self.answer_watch(bytes),
-            Mode::Stages => self.answer_jobs(bytes, Way::Stages),
+            Mode::Watch => self.answer_watch(bytes, ended),
+            Mode::Stages => self.answer_jobs(bytes, Way::Stages, ended),
         }
     }
 }

@@ -1,5 +1,5 @@
 //! Modes run and stages: the jobs of a job file are worked through and reported, or go through a pipeline.
-ghost use Rattle.std.specs.Prelude.{◌≡◌, ◌≤◌, ◌⊎◌, if◌then◌else◌, IfOk, None, Some, length};
+ghost use Rattle.std.specs.Prelude.{◌≡◌, ◌≤◌, ◌⊎◌, if◌then◌else◌, IfErr, IfOk, None, Some, length};
 ghost use Rattle.orc_jobs.specs.{GoodLines.{AreGood}, JobGrammar.{Refuses}};
 ghost use Rattle.orc_options.specs.Settings.{AreInRange};
 ghost use Rattle.orc_program.specs.{Answers.{AnswersJobs, RefusesSize, TellsJobs}, Ended.{HasReported}, Headline.{numbers_of_rest}};
@@ -26,44 +26,52 @@ pub(crate) enum Way {
 
 impl<R: Threads + Wait + Sync, G: Gate + Sync> Setup<'_, R, G> {
     // What came of the jobs of these bytes, or why nothing did.
-    pub(crate) fn answer_jobs(&self, bytes: &[u8], way: Way) -> Result<Answer, NoMemory>
+    pub(crate) fn answer_jobs(
+        &self,
+        bytes: &[u8],
+        way: Way,
+        ended: &mut Ended,
+    ) -> Result<Answer, NoMemory>
         requires ranges { AreInRange self.now.settings }
         requires few { length bytes.now ≤ MOST_BYTES }
-        ensures { IfOk result (λ a. AnswersJobs way self.now.settings bytes.now a.ended a.status a.text
-            ⊎ RefusesSize (Refuses bytes.now FileRefused.TooMany) a.ended a.status a.text) }
+        requires nothing { ended.old ≡ Ended.Nothing }
+        ensures answered { IfOk result (λ a. AnswersJobs way self.now.settings bytes.now ended.new a.status a.text
+            ⊎ RefusesSize (Refuses bytes.now FileRefused.TooMany) ended.new a.status a.text) }
+        ensures unanswered { IfErr result (λ _. ended.new ≡ Ended.Nothing) }
     {
         match read_jobs(self.alloc, bytes) {
-            Ok(lines) => self.tell(&lines, way),
+            Ok(lines) => self.tell(&lines, way, ended),
             Err(fault) => refuse_file(self.alloc, fault),
         }
     }
 
     // Takes these lines their way, and tells what came of them.
-    fn tell(&self, lines: &Lines, way: Way) -> Result<Answer, NoMemory>
+    fn tell(&self, lines: &Lines, way: Way, ended: &mut Ended) -> Result<Answer, NoMemory>
         requires ranges { AreInRange self.now.settings }
         requires good { AreGood lines.now }
-        ensures { IfOk result (λ a. (a.status ≡ 0) × TellsJobs way lines.now self.now.settings a.ended a.text) }
+        requires nothing { ended.old ≡ Ended.Nothing }
+        ensures answered { IfOk result (λ a. (a.status ≡ 0) × TellsJobs way lines.now self.now.settings ended.new a.text) }
+        ensures unanswered { IfErr result (λ _. ended.new ≡ Ended.Nothing) }
     {
         match way {
-            Way::Board => self.report(lines),
-            Way::Stages => self.send_through(lines),
+            Way::Board => self.report(lines, ended),
+            Way::Stages => self.send_through(lines, ended),
         }
     }
 
     // Works through these lines, and reports.
-    fn report(&self, lines: &Lines) -> Result<Answer, NoMemory>
+    fn report(&self, lines: &Lines, ended: &mut Ended) -> Result<Answer, NoMemory>
         requires ranges { AreInRange self.now.settings }
         requires good { AreGood lines.now }
-        ensures { IfOk result (λ a. (a.status ≡ 0) × HasReported lines.now self.now.settings a.ended a.text) }
+        requires nothing { ended.old ≡ Ended.Nothing }
+        ensures answered { IfOk result (λ a. (a.status ≡ 0) × HasReported lines.now self.now.settings ended.new a.text) }
+        ensures unanswered { IfErr result (λ _. ended.new ≡ Ended.Nothing) }
     {
         let finished = self.run(lines)?;
         let numbers = numbers_at_rest(self.settings.rest, &finished);
         let text = report_text(self.alloc, lines, &finished.replies, numbers.as_ref())?;
-        Ok(Answer {
-            status: 0,
-            text,
-            ended: Ended::of_run(finished),
-        })
+        *ended = Ended::Run(finished);
+        Ok(Answer { status: 0, text })
     }
 }
 

@@ -1,9 +1,8 @@
 //! Mode make: generated work is written as a job file.
 ghost use Rattle.std.specs.Prelude.{◌≡◌, IfOk};
 ghost use Rattle.orc_options.specs.Settings.{AreInRange};
-ghost use Rattle.orc_program.specs.{Answers.{made_text}, Ended.{NothingEnded}};
+ghost use Rattle.orc_program.specs.Answers.{made_text};
 
-use crate::Ended;
 use crate::answer::Answer;
 use orc_fault::NoMemory;
 use orc_jobs::{lines_text, make_lines};
@@ -13,13 +12,9 @@ use std::alloc::Global;
 // The text of the lines that are generated from the settings' seed.
 pub(crate) fn answer_make(alloc: Global, settings: Settings) -> Result<Answer, NoMemory>
     requires { AreInRange settings }
-    ensures { IfOk result (λ a. (a.status ≡ 0) × NothingEnded a.ended × (a.text ≡ made_text settings)) }
+    ensures { IfOk result (λ a. (a.status ≡ 0) × (a.text ≡ made_text settings)) }
 {
     let made = make_lines(alloc, settings.seed, settings.lines)?;
     let text = lines_text(alloc, &made)?;
-    Ok(Answer {
-        status: 0,
-        text,
-        ended: Ended::new(),
-    })
+    Ok(Answer { status: 0, text })
 }

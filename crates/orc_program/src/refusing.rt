@@ -1,11 +1,7 @@
 //! How an input is refused.
 ghost use Rattle.std.specs.Prelude.{◌≡◌, List, ℕ, IfOk};
-ghost use Rattle.orc_program.specs.{
-  Ended.{NothingEnded},
-  Refusals.{AnswersFault, cause_word, input_too_large, record_line, watch_cause_word},
-};
+ghost use Rattle.orc_program.specs.Refusals.{AnswersFault, cause_word, input_too_large, record_line, watch_cause_word};
 
-use crate::Ended;
 use crate::answer::Answer;
 use orc_fault::NoMemory;
 use orc_jobs::{Cause, FileRefused, Text};
@@ -55,7 +51,7 @@ pub(crate) fn refuse_file<C: Worded>(
     alloc: Global,
     fault: FileRefused<C>,
 ) -> Result<Answer, NoMemory>
-    ensures { IfOk result (λ a. NothingEnded a.ended × AnswersFault C.spelled fault a.status a.text) }
+    ensures { IfOk result (λ a. AnswersFault C.spelled fault a.status a.text) }
 {
     match fault {
         FileRefused::Malformed { line, cause } => refuse_record(alloc, line, cause.word()),
@@ -66,24 +62,19 @@ pub(crate) fn refuse_file<C: Worded>(
 
 // That the input is too large.
 pub(crate) fn too_large(alloc: Global) -> Result<Answer, NoMemory>
-    ensures { IfOk result (λ a. (a.status ≡ 6) × NothingEnded a.ended × (a.text ≡ input_too_large)) }
+    ensures { IfOk result (λ a. (a.status ≡ 6) × (a.text ≡ input_too_large)) }
 {
     let text = Text::from_slice(alloc, b"input too large\n")?;
-    Ok(Answer {
-        status: 6,
-        text,
-        ended: Ended::new(),
-    })
+    Ok(Answer { status: 6, text })
 }
 
 // The line that names a record, and by a word what is wrong with it.
 fn refuse_record(alloc: Global, line: u32, word: &str) -> Result<Answer, NoMemory>
-    ensures { IfOk result (λ a. (a.status ≡ 3) × NothingEnded a.ended × (a.text ≡ record_line line word.now)) }
+    ensures { IfOk result (λ a. (a.status ≡ 3) × (a.text ≡ record_line line word.now)) }
 {
     let text = format!(in alloc; "line {line}: {word}\n")?;
     Ok(Answer {
         status: 3,
         text: Text::from_string(text),
-        ended: Ended::new(),
     })
 }

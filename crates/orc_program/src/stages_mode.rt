@@ -1,5 +1,5 @@
 //! Mode stages: jobs go through a pipeline, and what came of them is told.
-ghost use Rattle.std.specs.Prelude.{◌≡◌, IfOk};
+ghost use Rattle.std.specs.Prelude.{◌≡◌, IfErr, IfOk};
 ghost use Rattle.orc_jobs.specs.GoodLines.{AreGood};
 ghost use Rattle.orc_options.specs.Settings.{AreInRange};
 ghost use Rattle.orc_program.specs.Ended.{TellsStages};
@@ -17,10 +17,12 @@ use std::thread::Threads;
 
 impl<R: Threads + Wait + Sync, G: Gate + Sync> Setup<'_, R, G> {
     // Sends the jobs of these lines through the stages, and tells what came of them.
-    pub(crate) fn send_through(&self, lines: &Lines) -> Result<Answer, NoMemory>
+    pub(crate) fn send_through(&self, lines: &Lines, ended: &mut Ended) -> Result<Answer, NoMemory>
         requires ranges { AreInRange self.now.settings }
         requires good { AreGood lines.now }
-        ensures { IfOk result (λ a. (a.status ≡ 0) × TellsStages lines.now self.now.settings a.ended a.text) }
+        requires nothing { ended.old ≡ Ended.Nothing }
+        ensures answered { IfOk result (λ a. (a.status ≡ 0) × TellsStages lines.now self.now.settings ended.new a.text) }
+        ensures unanswered { IfErr result (λ _. ended.new ≡ Ended.Nothing) }
     {
         let Settings {
             posters,
@@ -30,10 +32,7 @@ impl<R: Threads + Wait + Sync, G: Gate + Sync> Setup<'_, R, G> {
         } = self.settings;
         let finished = run_pipeline(self.rt, self.alloc, lines, posters, stages, rows, self.gate)?;
         let text = stages_text(self.alloc, &finished.done)?;
-        Ok(Answer {
-            status: 0,
-            text,
-            ended: Ended::of_stages(finished),
-        })
+        *ended = Ended::Stages(finished);
+        Ok(Answer { status: 0, text })
     }
 }

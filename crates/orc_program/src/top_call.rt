@@ -4,7 +4,7 @@ ghost use Rattle.std.specs.Io.KnownBytes.{Appends, Keeps};
 ghost use Rattle.orc_feed.specs.{Faults.{Rose}, Whole.{AppendsPrefix, TakesAtMost}};
 ghost use Rattle.orc_jobs.specs.{JobGrammar.{IsFileOf}, declared.line.Line.{Line}};
 ghost use Rattle.orc_options.specs.Settings.{AskFor};
-ghost use Rattle.orc_program.specs.{Answers.{AnswersWords, AskToRead}, Ended.{EndsSafely, NothingEnded}};
+ghost use Rattle.orc_program.specs.{Answers.{AnswersWords, AskToRead}, Ended.{EndsSafely}};
 
 use crate::answer::Setup;
 use crate::reading::read_input;
@@ -48,7 +48,7 @@ pub fn orc_main<R: Threads + Wait + Sync, S: Source, K: Sink, G: Gate + Sync>(
     gate: &G,
     ended: &mut Ended,
 ) -> u8
-    requires { NothingEnded ended.old }
+    requires { ended.old ≡ Ended.Nothing }
     ensures statuses { (result ≡ 0) ⊎ (result ≡ 2) ⊎ (result ≡ 3) ⊎ (result ≡ 4) ⊎ (result ≡ 5) ⊎ (result ≡ 6) ⊎ (result ≡ 7) ⊎ (result ≡ 8) }
 
     // The answer to the words and the input is written: all of its text with its own status, or a front of it with 5.
@@ -58,7 +58,7 @@ pub fn orc_main<R: Threads + Wait + Sync, S: Source, K: Sink, G: Gate + Sync>(
     ensures cut_short { result ≡ 5 → (status : ℕ) × (text : List ℕ)
         × AnswersWords words.now (S.left source.old) (S.left source.new) ended.new status text
         × AppendsPrefix (K.written sink.old) (K.written sink.new) text }
-    ensures unanswered { (result ≡ 4) ⊎ (result ≡ 7) → NothingEnded ended.new × Keeps (K.written sink.old) (K.written sink.new) }
+    ensures unanswered { (result ≡ 4) ⊎ (result ≡ 7) → (ended.new ≡ Ended.Nothing) × Keeps (K.written sink.old) (K.written sink.new) }
 
     // So a file of lines is worked through and reported, unless a read or a write failed or memory was refused.
     ensures complete { (bytes : List ℕ) (lines : List Line) → S.left source.old ≡ Some bytes → AskFor words.now Mode.Run
@@ -95,11 +95,8 @@ pub fn orc_main<R: Threads + Wait + Sync, S: Source, K: Sink, G: Gate + Sync>(
         settings,
         gate,
     };
-    match setup.answer_of(bytes.as_slice()) {
-        Ok(answer) => {
-            *ended = answer.ended;
-            write_text(sink, answer.text.bytes(), answer.status)
-        }
+    match setup.answer_of(bytes.as_slice(), ended) {
+        Ok(answer) => write_text(sink, answer.text.bytes(), answer.status),
         Err(NoMemory) => 7,
     }
 }

@@ -2,9 +2,8 @@
 ghost use Rattle.std.specs.Prelude.{IfErr, IfOk};
 ghost use Rattle.std.specs.String.{string_bytes};
 ghost use Rattle.orc_trace.specs.Replay.{RefusesTrace};
-ghost use Rattle.orc_program.specs.{Answers.{AnswersTrace, TellsTrace}, Ended.{NothingEnded}};
+ghost use Rattle.orc_program.specs.Answers.{AnswersTrace, TellsTrace};
 
-use crate::Ended;
 use crate::answer::Answer;
 use orc_fault::NoMemory;
 use orc_jobs::Text;
@@ -22,7 +21,7 @@ pub(crate) enum Told {
 
 // What is told of the trace of these bytes, or the line of its first fault.
 pub(crate) fn answer_trace(alloc: Global, bytes: &[u8], what: Told) -> Result<Answer, NoMemory>
-    ensures { IfOk result (λ a. NothingEnded a.ended × AnswersTrace what bytes.now a.status a.text) }
+    ensures { IfOk result (λ a. AnswersTrace what bytes.now a.status a.text) }
 {
     let (status, text) = match told_of(alloc, bytes, what) {
         Ok(text) => (0, text),
@@ -32,7 +31,6 @@ pub(crate) fn answer_trace(alloc: Global, bytes: &[u8], what: Told) -> Result<An
     Ok(Answer {
         status,
         text: Text::from_string(text),
-        ended: Ended::new(),
     })
 }
 

@@ -1,5 +1,5 @@
 //! Mode trial: generated work is worked through and summed up.
-ghost use Rattle.std.specs.Prelude.{◌≡◌, IfOk};
+ghost use Rattle.std.specs.Prelude.{◌≡◌, IfErr, IfOk};
 ghost use Rattle.orc_options.specs.Settings.{AreInRange};
 ghost use Rattle.orc_program.specs.Ended.{HasSummed};
 
@@ -14,17 +14,16 @@ use std::thread::Threads;
 
 impl<R: Threads + Wait + Sync, G: Gate + Sync> Setup<'_, R, G> {
     // Works through the lines that are generated from the settings' seed, and sums up.
-    pub(crate) fn answer_trial(&self) -> Result<Answer, NoMemory>
-        requires { AreInRange self.now.settings }
-        ensures { IfOk result (λ a. (a.status ≡ 0) × HasSummed self.now.settings a.ended a.text) }
+    pub(crate) fn answer_trial(&self, ended: &mut Ended) -> Result<Answer, NoMemory>
+        requires ranges { AreInRange self.now.settings }
+        requires nothing { ended.old ≡ Ended.Nothing }
+        ensures answered { IfOk result (λ a. (a.status ≡ 0) × HasSummed self.now.settings ended.new a.text) }
+        ensures unanswered { IfErr result (λ _. ended.new ≡ Ended.Nothing) }
     {
         let made = make_lines(self.alloc, self.settings.seed, self.settings.lines)?;
         let finished = self.run(&made)?;
         let text = summary_text(self.alloc, &made, &finished.replies)?;
-        Ok(Answer {
-            status: 0,
-            text,
-            ended: Ended::of_run(finished),
-        })
+        *ended = Ended::Run(finished);
+        Ok(Answer { status: 0, text })
     }
 }

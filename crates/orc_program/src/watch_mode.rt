@@ -1,5 +1,5 @@
 //! Mode watch: a watch file is worked through over a cell, and told.
-ghost use Rattle.std.specs.Prelude.{◌≡◌, ◌≤◌, ◌⊎◌, if◌then◌else◌, IfOk, None, Some, length};
+ghost use Rattle.std.specs.Prelude.{◌≡◌, ◌≤◌, ◌⊎◌, if◌then◌else◌, IfErr, IfOk, None, Some, length};
 ghost use Rattle.orc_options.specs.Settings.{AreInRange};
 ghost use Rattle.orc_program.specs.{Answers.{AnswersWatch, RefusesSize}, Ended.{HasWatched, cell_numbers}};
 ghost use Rattle.orc_watch.specs.WatchGrammar.{Refuses};
@@ -18,22 +18,26 @@ use std::thread::Threads;
 
 impl<R: Threads + Wait + Sync, G: Gate + Sync> Setup<'_, R, G> {
     // What came of the lines of these bytes, or why nothing did.
-    pub(crate) fn answer_watch(&self, bytes: &[u8]) -> Result<Answer, NoMemory>
-        requires { AreInRange self.now.settings }
-        ensures { IfOk result (λ a. AnswersWatch self.now.settings bytes.now a.ended a.status a.text
-            ⊎ RefusesSize (Refuses bytes.now FileRefused.TooMany) a.ended a.status a.text) }
+    pub(crate) fn answer_watch(&self, bytes: &[u8], ended: &mut Ended) -> Result<Answer, NoMemory>
+        requires ranges { AreInRange self.now.settings }
+        requires nothing { ended.old ≡ Ended.Nothing }
+        ensures answered { IfOk result (λ a. AnswersWatch self.now.settings bytes.now ended.new a.status a.text
+            ⊎ RefusesSize (Refuses bytes.now FileRefused.TooMany) ended.new a.status a.text) }
+        ensures unanswered { IfErr result (λ _. ended.new ≡ Ended.Nothing) }
     {
         match read_watch(self.alloc, bytes) {
-            Ok(lines) => self.watch(&lines),
+            Ok(lines) => self.watch(&lines, ended),
             Err(fault) => refuse_file(self.alloc, fault),
         }
     }
 
     // Works through these lines, and tells what came of them.
-    fn watch(&self, lines: &WatchLines) -> Result<Answer, NoMemory>
+    fn watch(&self, lines: &WatchLines, ended: &mut Ended) -> Result<Answer, NoMemory>
         requires ranges { AreInRange self.now.settings }
         requires few { length lines.now ≤ 65535 }
-        ensures { IfOk result (λ a. (a.status ≡ 0) × HasWatched lines.now self.now.settings a.ended a.text) }
+        requires nothing { ended.old ≡ Ended.Nothing }
+        ensures answered { IfOk result (λ a. (a.status ≡ 0) × HasWatched lines.now self.now.settings ended.new a.text) }
+        ensures unanswered { IfErr result (λ _. ended.new ≡ Ended.Nothing) }
     {
         let Settings { posters, rows, .. } = self.settings;
         let finished = watch_new_cell(self.rt, self.alloc, lines, posters, rows, self.gate)?;
@@ -45,11 +49,8 @@ impl<R: Threads + Wait + Sync, G: Gate + Sync> Setup<'_, R, G> {
             finished.now_right,
             numbers.as_ref(),
         )?;
-        Ok(Answer {
-            status: 0,
-            text,
-            ended: Ended::of_watch(finished),
-        })
+        *ended = Ended::Watch(finished);
+        Ok(Answer { status: 0, text })
     }
 }
 

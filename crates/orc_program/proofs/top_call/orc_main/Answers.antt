@@ -2,6 +2,7 @@ use Rattle.std.proofs.Common.{rules, ◌≡◌, ◌∙◌, ◌⊎◌, ℕ, arith
 use Rattle.orc_options.proofs.NamesAnywhere.{never_both}
 use Rattle.orc_options.specs.Settings.{RefusesWords}
 use Rattle.orc_program.specs.Answers.{AnswersWords}
+use Rattle.orc_program.specs.declared.ended.Ended.TheVariants as end
 use Rattle.orc_program.specs.Refusals.{words_refused}
 use Rattle.orc_program.proofs.OneAnswer.{no_failure, statuses}
 use Rattle.orc_program.proofs.Rows.{of_answer, of_none}
@@ -47,18 +48,18 @@ returns-in-Err-NoMemory-read_input-clause-nothing_read g c none =
 
 -- what was read was answered
 whole : (g : _) → (c : goal.After-drop-bytes g) → IsAnswered c.args.words.now (g.S.Source.left c.args.source.now) (g.S.Source.left c.read_input.new.source)
-    c.in-Ok-answer_of.answer.ended c.in-Ok.settings c.in-Ok-read_input.bytes.items c.in-Ok-answer_of.answer.status c.bytes.result.now
+    c.answer_of.new.ended c.in-Ok.settings c.in-Ok-read_input.bytes.items c.in-Ok-answer_of.answer.status c.bytes.result.now
 whole g c = answered _ _ _ _ _ _ _ _ c.in-Ok.ensures.gives c.in-Ok-read_input.ensures.input _ _ c.as_slice.ensures.value c.bytes.ensures
-    c.in-Ok-answer_of.ensures
+    c.in-Ok-answer_of.ensures.answered
 
 pub write_text-requires : goal.write_text-requires
-write_text-requires g c = (no_failure _ (statuses _ _ _ _ _ c.in-Ok-answer_of.ensures)).1
+write_text-requires g c = (no_failure _ (statuses _ _ _ _ _ c.in-Ok-answer_of.ensures.answered)).1
 
 pub returns-in-Ok-answer_of-clause-answered : goal.returns-in-Ok-answer_of-clause-answered
 returns-in-Ok-answer_of-clause-answered g c not_four not_five not_seven =
     let is : c.write_text.result ≡ c.in-Ok-answer_of.answer.status = elim c.write_text.ensures.statuses [ inl is ↦ is | inr five ↦ absurd (not_five five) ] in (
       c.bytes.result.now,
-      subst (λ n. AnswersWords c.args.words.now (g.S.Source.left c.args.source.now) (g.S.Source.left c.read_input.new.source) c.in-Ok-answer_of.answer.ended n c.bytes.result.now)
+      subst (λ n. AnswersWords c.args.words.now (g.S.Source.left c.args.source.now) (g.S.Source.left c.read_input.new.source) c.answer_of.new.ended n c.bytes.result.now)
           (sym is) (to_words _ _ _ _ _ _ _ _ (whole g c)),
       c.write_text.ensures.written is,
     )
@@ -74,7 +75,7 @@ returns-in-Ok-answer_of-clause-complete g c bytes lines told asks few file reads
 ]
 
 pub returns-in-Ok-answer_of-clause-safe : goal.returns-in-Ok-answer_of-clause-safe
-returns-in-Ok-answer_of-clause-safe g c = of_answer _ _ _ _ _ c.in-Ok-answer_of.ensures
+returns-in-Ok-answer_of-clause-safe g c = of_answer _ _ _ _ _ c.in-Ok-answer_of.ensures.answered
 
 pub returns-in-Err-Words-clause-safe : goal.returns-in-Err-Words-clause-safe
 returns-in-Err-Words-clause-safe g c = of_none _ c.requires
@@ -89,7 +90,9 @@ pub returns-in-Err-NoMemory-read_input-clause-safe : goal.returns-in-Err-NoMemor
 returns-in-Err-NoMemory-read_input-clause-safe g c = of_none _ c.requires
 
 pub returns-clause-safe : goal.returns-clause-safe
-returns-clause-safe g c = of_none _ c.requires
+returns-clause-safe g c =
+    let none : c.answer_of.new.ended ≡ end.Nothing = search rules in
+    of_none _ none
 
 pub returns-in-Ok-answer_of-clause-nothing_read : goal.returns-in-Ok-answer_of-clause-nothing_read
 returns-in-Ok-answer_of-clause-nothing_read g c none =
@@ -97,11 +100,11 @@ returns-in-Ok-answer_of-clause-nothing_read g c none =
 
 pub returns-in-Ok-answer_of-clause-read_fault : goal.returns-in-Ok-answer_of-clause-read_fault
 returns-in-Ok-answer_of-clause-read_fault g c four =
-    absurd (not_failed _ _ (statuses _ _ _ _ _ c.in-Ok-answer_of.ensures) c.write_text.ensures.statuses (inl four))
+    absurd (not_failed _ _ (statuses _ _ _ _ _ c.in-Ok-answer_of.ensures.answered) c.write_text.ensures.statuses (inl four))
 
 pub returns-in-Ok-answer_of-clause-unanswered : goal.returns-in-Ok-answer_of-clause-unanswered
 returns-in-Ok-answer_of-clause-unanswered g c failed =
-    absurd (not_failed _ _ (statuses _ _ _ _ _ c.in-Ok-answer_of.ensures) c.write_text.ensures.statuses failed)
+    absurd (not_failed _ _ (statuses _ _ _ _ _ c.in-Ok-answer_of.ensures.answered) c.write_text.ensures.statuses failed)
 
 pub returns-clause-nothing_read : goal.returns-clause-nothing_read
 returns-clause-nothing_read g c none = c.read_input.ensures.nothing (λ is. none (c.in-Ok.settings, c.in-Ok.ensures.gives, is))

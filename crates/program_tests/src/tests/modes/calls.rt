@@ -3,7 +3,7 @@
 use orc_board::{Gate, OpenGate};
 use orc_fault::NoMemory;
 use orc_feed::{MemorySink, MemorySource};
-use orc_program::{CommandWords, Ended, orc_main};
+use orc_program::{CommandWords, Ended, SetRest, orc_main};
 use std::alloc::Global;
 use std::process::Abort;
 use std::sync::Wait;
@@ -32,44 +32,27 @@ impl Moves<'_> {
     }
 }
 
-/// Which parts of what a call leaves are there.
-#[derive(Clone, Copy, Drop)]
-pub(super) struct Left {
-    pub queue: bool,
-    pub rush: bool,
-    pub set: bool,
-    pub split: bool,
-    pub replies: bool,
-    pub cell: bool,
-    pub stages: bool,
+/// What a call leaves.
+#[derive(Clone, Copy)]
+pub(super) enum Left {
+    Nothing,
+    RunOverLists,
+    RunOverSplit,
+    Watch,
+    Stages,
 }
 
 impl Left {
     fn of(ended: &Ended) -> Left {
-        Left {
-            queue: ended.queue.is_some(),
-            rush: ended.rush.is_some(),
-            set: ended.set.is_some(),
-            split: ended.split.is_some(),
-            replies: ended.replies.is_some(),
-            cell: ended.cell.is_some(),
-            stages: ended.stages.is_some(),
+        match ended {
+            Ended::Nothing => Left::Nothing,
+            Ended::Run(finished) => match finished.set {
+                SetRest::Lists(_) => Left::RunOverLists,
+                SetRest::Split(_) => Left::RunOverSplit,
+            },
+            Ended::Watch(_) => Left::Watch,
+            Ended::Stages(_) => Left::Stages,
         }
-    }
-
-    /// Whether there is nothing.
-    pub(super) fn is_nothing(self) -> bool {
-        !self.is_of_a_run() && !self.cell && !self.stages
-    }
-
-    /// Whether there is a part that a run leaves.
-    pub(super) fn is_of_a_run(self) -> bool {
-        self.queue || self.rush || self.set || self.split || self.replies
-    }
-
-    /// Whether all is there that a run with a set of lists leaves.
-    pub(super) fn is_whole(self) -> bool {
-        self.queue && self.rush && self.set && self.replies
     }
 }
 
@@ -104,7 +87,7 @@ pub(super) fn outcome_of<R: Threads + Wait + Sync, G: Gate + Sync>(
     let mut source = MemorySource::new(alloc, input, piece, moves.read_fails)?;
     let room = piece.wrapping_mul(PIECES);
     let mut sink = MemorySink::new(alloc, room, piece, moves.write_fails)?;
-    let mut ended = Ended::new();
+    let mut ended = Ended::Nothing;
     let status = orc_main(rt, alloc, &words, &mut source, &mut sink, gate, &mut ended);
     let mut written = Vec::new(alloc);
     written.extend_from_slice(sink.bytes())?;

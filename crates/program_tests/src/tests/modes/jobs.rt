@@ -1,4 +1,4 @@
-use super::calls::left_by;
+use super::calls::{Left, left_by};
 use orc_board::OpenGate;
 use std::alloc::Global;
 use std::process::Abort;
@@ -51,7 +51,7 @@ fn run<R: Threads + Wait + Sync + Abort>(
     output: &[u8],
 ) -> Result<(), Fail> {
     let left = left_by(rt, alloc, &[], input, piece, status, output)?;
-    assert_eq!(rt; left.replies, status == 0);
+    assert_eq!(rt; matches!(left, Left::RunOverLists), status == 0);
     Ok(())
 }
 

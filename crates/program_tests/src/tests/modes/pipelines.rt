@@ -1,6 +1,6 @@
 //! What is answered in mode stages.
 
-use super::calls::left_by;
+use super::calls::{Left, left_by};
 use std::test::Fail;
 
 #[test]
@@ -20,8 +20,8 @@ fn tells_what_came_of_each_job_at_each_stage(rt: HostRuntime) -> Result<(), Fail
     for (stages, input, status, text) in cases {
         let words = ["--mode=stages", "--stages", stages];
         let left = left_by(&rt, rt.alloc(), words.as_slice(), input, 16, status, text)?;
-        assert_eq!(rt; left.stages, status == 0);
-        assert!(rt; !left.is_of_a_run() && !left.cell);
+        assert_eq!(rt; matches!(left, Left::Stages), status == 0);
+        assert_eq!(rt; matches!(left, Left::Nothing), status != 0);
     }
     Ok(())
 }

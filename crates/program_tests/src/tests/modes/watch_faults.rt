@@ -1,6 +1,6 @@
 //! Reads and writes of a watch that fail in turn.
 
-use super::calls::{Moves, Outcome, outcome_of};
+use super::calls::{Left, Moves, Outcome, outcome_of};
 use orc_board::OpenGate;
 use std::alloc::Global;
 use std::process::Abort;
@@ -38,11 +38,11 @@ fn read_fails<R: Threads + Wait + Sync + Abort>(
     let got = call(rt, alloc, &[number], &[])?;
     assert_eq!(rt; got.status, 4);
     assert!(rt; got.written.is_empty());
-    assert!(rt; !got.left.cell);
+    assert!(rt; matches!(got.left, Left::Nothing));
     Ok(())
 }
 
-// Lets the write of this number fail, and asks for a front of the text and for the cell.
+// Lets the write of this number fail, and asks for a front of the text and for the watch that has ended.
 fn write_fails<R: Threads + Wait + Sync + Abort>(
     rt: &R,
     alloc: Global,
@@ -53,7 +53,7 @@ fn write_fails<R: Threads + Wait + Sync + Abort>(
     assert!(rt;
         got.written.len() < THREE_TOLD.len() && THREE_TOLD.starts_with(got.written.as_slice())
     );
-    assert!(rt; got.left.cell);
+    assert!(rt; matches!(got.left, Left::Watch));
     Ok(())
 }
 

@@ -1,13 +1,13 @@
 //! What is answered to watch files.
 
-use super::calls::left_by;
+use super::calls::{Left, left_by};
 use std::alloc::Global;
 use std::process::Abort;
 use std::sync::Wait;
 use std::test::Fail;
 use std::thread::Threads;
 
-// Calls in mode watch, and asks for the status and the text; the cell is there exactly after status 0, and nothing else ever.
+// Calls in mode watch, and asks for the status and the text; a watch has ended exactly after status 0, and else nothing has.
 fn is_answered<R: Threads + Wait + Sync + Abort>(
     rt: &R,
     alloc: Global,
@@ -18,8 +18,8 @@ fn is_answered<R: Threads + Wait + Sync + Abort>(
 ) -> Result<(), Fail> {
     let words = ["--mode=watch", "--rest", rest];
     let left = left_by(rt, alloc, words.as_slice(), input, 16, status, text)?;
-    assert_eq!(rt; left.cell, status == 0);
-    assert!(rt; !left.is_of_a_run() && !left.stages);
+    assert_eq!(rt; matches!(left, Left::Watch), status == 0);
+    assert_eq!(rt; matches!(left, Left::Nothing), status != 0);
     Ok(())
 }
 

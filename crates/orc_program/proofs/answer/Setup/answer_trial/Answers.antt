@@ -13,11 +13,11 @@ summary_text-requires-clause-reportable g c =
     let f = c.in_ok-finished.finished in
     can_be_reported c.in_ok-made.made s.posters s.takers s.rows (set_bounds s.posters s.takers s.rows (set_of s)) f f.set c.in_ok-finished.ensures.replies
 
-pub returns : goal.returns
-returns g c =
+pub returns-clause-answered : goal.returns-clause-answered
+returns-clause-answered g c =
     let s = c.args.self.now.settings in
     let f = c.in_ok-finished.finished in
     let worked = subst (λ (lines : List Line). WorkedThrough lines s f) c.in_ok-made.ensures.lines c.in_ok-finished.ensures in
     let summary : c.in_ok-text.text ≡ summary_of (done_jobs (generated_lines s) f.replies.takes.items) =
     c.in_ok-text.ensures ∙ ap (λ (lines : List Line). summary_of (done_jobs lines f.replies.takes.items)) c.in_ok-made.ensures.lines in
-    (refl, has-summed s f c.of_run.result c.in_ok-text.text c.requires.some_posters c.of_run.ensures worked summary)
+    (refl, has-summed s f _ c.in_ok-text.text c.requires.ranges.some_posters refl worked summary)

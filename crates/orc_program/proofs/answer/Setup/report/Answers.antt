@@ -3,9 +3,9 @@ use Rattle.orc_report.specs.Report.{report_of}
 use Rattle.orc_program.specs.Headline.{numbers_of_rest}
 use Rattle.orc_program.proofs.answer.Setup.report.Goals as goal
 
-pub returns : goal.returns
-returns g c =
+pub returns-clause-answered : goal.returns-clause-answered
+returns-clause-answered g c =
     let f = c.in_ok-finished.finished in
     let report : c.in_ok-text.text
     ≡ report_of c.args.lines.now f.replies.posts.items f.replies.takes.items (if c.args.self.now.settings.rest then Some (numbers_of_rest f) else None) = search rules in
-    (refl, record { finished = f; kept = c.of_run.ensures; headline = record { run = c.in_ok-finished.ensures; report = report } })
+    (refl, record { finished = f; kept = refl; headline = record { run = c.in_ok-finished.ensures; report = report } })

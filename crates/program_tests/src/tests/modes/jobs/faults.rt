@@ -1,6 +1,6 @@
 //! Reads and writes that fail in turn, and input that is cut off.
 
-use super::super::calls::{Moves, Outcome, outcome_of};
+use super::super::calls::{Left, Moves, Outcome, outcome_of};
 use super::{FIVE_LINES, FIVE_LINES_REPORT, run};
 use orc_board::OpenGate;
 use orc_fault::NoMemory;
@@ -53,13 +53,13 @@ fn each_read_fails_in_turn(rt: HostRuntime) -> Result<(), Fail> {
         let got = call_with(&rt, rt.alloc(), &[], FIVE_LINES, &[call], &[])?;
         assert_eq!(&rt; got.status, 4);
         assert!(&rt; got.written.is_empty());
-        assert!(&rt; got.left.is_nothing());
+        assert!(&rt; matches!(got.left, Left::Nothing));
     }
     // the sixth read was the last
     let got = call_with(&rt, rt.alloc(), &[], FIVE_LINES, &[6], &[])?;
     assert_eq!(&rt; got.status, 0);
     assert_eq!(&rt; got.written.as_slice(), FIVE_LINES_REPORT);
-    assert!(&rt; got.left.is_whole());
+    assert!(&rt; matches!(got.left, Left::RunOverLists));
     Ok(())
 }
 
@@ -75,8 +75,8 @@ fn fail_each_write<R: Threads + Wait + Sync + Abort>(
 ) -> Result<u64, Fail> {
     for call in 0..64 {
         let got = call_with(rt, alloc, words, FIVE_LINES, &[], &[call])?;
-        assert_eq!(rt; got.left.is_whole(), ran);
-        assert_eq!(rt; got.left.is_nothing(), !ran);
+        assert_eq!(rt; matches!(got.left, Left::RunOverLists), ran);
+        assert_eq!(rt; matches!(got.left, Left::Nothing), !ran);
         if got.status == status {
             assert_eq!(rt; got.written.as_slice(), text);
             return Ok(call);
@@ -124,12 +124,12 @@ fn each_write_of_a_team_fails_in_turn(rt: HostRuntime) -> Result<(), Fail> {
         let got = call_with(&rt, rt.alloc(), words.as_slice(), EIGHT_POSTS, &[], &[call])?;
         assert_eq!(&rt; got.status, 5);
         assert_eq!(&rt; got.written.len() as u64, 16 * call);
-        assert!(&rt; got.left.is_whole());
+        assert!(&rt; matches!(got.left, Left::RunOverLists));
     }
     let got = call_with(&rt, rt.alloc(), words.as_slice(), EIGHT_POSTS, &[], &[34])?;
     assert_eq!(&rt; got.status, 0);
     assert_eq!(&rt; got.written.len(), 542);
-    assert!(&rt; got.left.is_whole());
+    assert!(&rt; matches!(got.left, Left::RunOverLists));
     Ok(())
 }
 
@@ -150,7 +150,7 @@ fn a_trace_is_cut_after_each_byte(rt: HostRuntime) -> Result<(), Fail> {
     for end in 0..=trace.len() {
         let (front, _) = trace.as_bytes().split_at(end);
         let got = call_with(&rt, alloc, words.as_slice(), front, &[], &[])?;
-        assert!(&rt; got.left.is_nothing());
+        assert!(&rt; matches!(got.left, Left::Nothing));
         let lines = lines_in(front);
         let (status, begin) = if lines == 0 {
             (8, format!(in alloc; "shape: unreadable\n")?)

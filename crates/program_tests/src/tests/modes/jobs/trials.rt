@@ -1,6 +1,6 @@
 //! Trials, whose summaries are compared.
 
-use super::super::calls::{Moves, outcome_of};
+use super::super::calls::{Left, Moves, outcome_of};
 use super::teams::report_of;
 use orc_board::OpenGate;
 use std::test::Fail;
@@ -32,8 +32,8 @@ fn one_set_ends(rt: HostRuntime) -> Result<(), Fail> {
             &OpenGate,
         )?;
         assert_eq!(&rt; got.status, 0);
-        assert_eq!(&rt; got.left.split, split);
-        assert_eq!(&rt; got.left.set, !split);
+        assert_eq!(&rt; matches!(got.left, Left::RunOverSplit), split);
+        assert_eq!(&rt; matches!(got.left, Left::RunOverLists), !split);
     }
     Ok(())
 }
