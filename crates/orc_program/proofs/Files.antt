@@ -1,5 +1,5 @@
 -- The answer to a file whose lines are worked through, or which is refused.
-use Rattle.std.proofs.Common.{◌≡◌, ◌∙◌, ◌⊎◌, IfOk, List, Result, [], ap, inl, inr, ℕ}
+use Rattle.std.proofs.Common.{◌≡◌, ◌∙◌, ◌⊎◌, IfOk, List, Ok, Result, [], ap, inl, inr, subst, ℕ}
 use Rattle.std.proofs.lemmas.Result.{IfOk-weaker}
 use Rattle.orc_jobs.proofs.FileLaws.{AreDetermined, not-both, not-few, not-read, one-refusal}
 use Rattle.orc_jobs.specs.OneRecord.{RefusesFile}
@@ -11,6 +11,13 @@ use Rattle.orc_program.specs.declared.ended.Ended.{Ended}
 use Rattle.orc_program.specs.declared.ended.Ended.TheVariants as end
 use Rattle.orc_program.specs.Answers.{AnswersFile, RefusesSize}
 use Rattle.orc_program.specs.Refusals.{AnswersFault, record_line}
+
+-- what is true of a text that is there is true of the text of the answer
+pub is_left : {E : Type 0} (r : Result Answer E) (text : Result (List ℕ) E) (what ended : Ended) (P : List ℕ → Type 0) (Q : Answer → Type 0)
+    → ((a : Answer) → a.status ≡ 0 → ended ≡ what → P a.text → Q a)
+    → IfOk r (λ (a : Answer). (a.status ≡ 0) × (ended ≡ what) × (text ≡ Ok a.text)) → IfOk text P → IfOk r Q
+is_left r text what ended P Q so h told = IfOk-weaker r (λ (a : Answer). (a.status ≡ 0) × (ended ≡ what) × (text ≡ Ok a.text)) Q
+    (λ a is. so a is.0 is.1 (subst (λ t. IfOk t P) is.2 told)) h
 
 module _ {L C : Type 0} (is_file : List L → Type 0) (refuses : FileRefused C → Type 0) (word : C → List ℕ) (has_told : List L → Ended → List ℕ → Type 0)
     (ended : Ended) where

@@ -1,5 +1,5 @@
 //! What the program answers to the bytes of an input.
-ghost use Rattle.std.specs.Prelude.{◌≡◌, IfErr, IfOk};
+ghost use Rattle.std.specs.Prelude.{◌≡◌, IfErr, IfOk, Ok};
 ghost use Rattle.orc_options.specs.Settings.{AreInRange};
 ghost use Rattle.orc_program.specs.Answers.{ProgramAnswers};
 
@@ -30,6 +30,20 @@ pub(crate) struct Setup<'a, R, G> {
 pub(crate) struct Answer {
     pub(crate) status: u8,
     pub(crate) text: Text,
+}
+
+// Answers with this text, and leaves what has ended; where there is no text, nothing has.
+pub(crate) fn leave(
+    what: Ended,
+    text: Result<Text, NoMemory>,
+    ended: &mut Ended,
+) -> Result<Answer, NoMemory>
+    ensures answered { IfOk result (λ a. (a.status ≡ 0) × (ended.new ≡ what) × (text ≡ Ok a.text)) }
+    ensures unanswered { IfErr result (λ _. ended.new ≡ ended.old) }
+{
+    let text = text?;
+    *ended = what;
+    Ok(Answer { status: 0, text })
 }
 
 impl<R: Threads + Wait + Sync, G: Gate + Sync> Setup<'_, R, G> {

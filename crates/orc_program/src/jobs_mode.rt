@@ -5,7 +5,7 @@ ghost use Rattle.orc_options.specs.Settings.{AreInRange};
 ghost use Rattle.orc_program.specs.{Answers.{AnswersJobs, RefusesSize, TellsJobs}, Ended.{HasReported}, Headline.{numbers_of_rest}};
 
 use crate::Ended;
-use crate::answer::{Answer, Setup};
+use crate::answer::{Answer, Setup, leave};
 use crate::refusing::refuse_file;
 use orc_board::Gate;
 use orc_fault::NoMemory;
@@ -69,9 +69,8 @@ impl<R: Threads + Wait + Sync, G: Gate + Sync> Setup<'_, R, G> {
     {
         let finished = self.run(lines)?;
         let numbers = numbers_at_rest(self.settings.rest, &finished);
-        let text = report_text(self.alloc, lines, &finished.replies, numbers.as_ref())?;
-        *ended = Ended::Run(finished);
-        Ok(Answer { status: 0, text })
+        let text = report_text(self.alloc, lines, &finished.replies, numbers.as_ref());
+        leave(Ended::Run(finished), text, ended)
     }
 }
 

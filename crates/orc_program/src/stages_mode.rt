@@ -5,7 +5,7 @@ ghost use Rattle.orc_options.specs.Settings.{AreInRange};
 ghost use Rattle.orc_program.specs.Ended.{TellsStages};
 
 use crate::Ended;
-use crate::answer::{Answer, Setup};
+use crate::answer::{Answer, Setup, leave};
 use orc_board::Gate;
 use orc_fault::NoMemory;
 use orc_jobs::Lines;
@@ -31,8 +31,7 @@ impl<R: Threads + Wait + Sync, G: Gate + Sync> Setup<'_, R, G> {
             ..
         } = self.settings;
         let finished = run_pipeline(self.rt, self.alloc, lines, posters, stages, rows, self.gate)?;
-        let text = stages_text(self.alloc, &finished.done)?;
-        *ended = Ended::Stages(finished);
-        Ok(Answer { status: 0, text })
+        let text = stages_text(self.alloc, &finished.done);
+        leave(Ended::Stages(finished), text, ended)
     }
 }

@@ -4,7 +4,7 @@ ghost use Rattle.orc_options.specs.Settings.{AreInRange};
 ghost use Rattle.orc_program.specs.Ended.{HasSummed};
 
 use crate::Ended;
-use crate::answer::{Answer, Setup};
+use crate::answer::{Answer, Setup, leave};
 use orc_board::Gate;
 use orc_fault::NoMemory;
 use orc_jobs::make_lines;
@@ -22,8 +22,7 @@ impl<R: Threads + Wait + Sync, G: Gate + Sync> Setup<'_, R, G> {
     {
         let made = make_lines(self.alloc, self.settings.seed, self.settings.lines)?;
         let finished = self.run(&made)?;
-        let text = summary_text(self.alloc, &made, &finished.replies)?;
-        *ended = Ended::Run(finished);
-        Ok(Answer { status: 0, text })
+        let text = summary_text(self.alloc, &made, &finished.replies);
+        leave(Ended::Run(finished), text, ended)
     }
 }

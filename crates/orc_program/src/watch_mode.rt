@@ -5,7 +5,7 @@ ghost use Rattle.orc_program.specs.{Answers.{AnswersWatch, RefusesSize}, Ended.{
 ghost use Rattle.orc_watch.specs.WatchGrammar.{Refuses};
 
 use crate::Ended;
-use crate::answer::{Answer, Setup};
+use crate::answer::{Answer, Setup, leave};
 use crate::refusing::refuse_file;
 use orc_board::Gate;
 use orc_fault::NoMemory;
@@ -48,9 +48,8 @@ impl<R: Threads + Wait + Sync, G: Gate + Sync> Setup<'_, R, G> {
             finished.now_left,
             finished.now_right,
             numbers.as_ref(),
-        )?;
-        *ended = Ended::Watch(finished);
-        Ok(Answer { status: 0, text })
+        );
+        leave(Ended::Watch(finished), text, ended)
     }
 }
 
