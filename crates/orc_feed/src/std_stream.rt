@@ -2,8 +2,8 @@
 //! those of the reader or the writer: of standard input and output nothing.
 ghost use Rattle.std.specs.Prelude.{◌≡◌};
 
+use crate::{Sink, Source};
 use orc_fault::Failed;
-use orc_feed::{Sink, Source};
 use std::io::{Read, Write};
 
 /// A reader or a writer of std, with a count of its faults.
