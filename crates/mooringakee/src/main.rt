@@ -36,5 +36,6 @@ fn main(rt: HostRuntime) -> ExitCode {
         &OpenGate,
         &mut ended,
     );
+    ended.let_go();
     ExitCode::from(status)
 }

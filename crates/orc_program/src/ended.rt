@@ -16,3 +16,8 @@ pub enum Ended {
     /// A run of a pipeline of queues.
     Stages(StagesFinished),
 }
+
+impl Ended {
+    /// Lets go of it. So its destructor is written out and proved once, and not where a caller has one.
+    pub fn let_go(self) {}
+}

@@ -89,9 +89,10 @@ pub(super) fn outcome_of<R: Threads + Wait + Sync, G: Gate + Sync>(
     let mut sink = MemorySink::new(alloc, room, piece, moves.write_fails)?;
     let mut ended = Ended::Nothing;
     let status = orc_main(rt, alloc, &words, &mut source, &mut sink, gate, &mut ended);
+    let left = Left::of(&ended);
+    ended.let_go();
     let mut written = Vec::new(alloc);
     written.extend_from_slice(sink.bytes())?;
-    let left = Left::of(&ended);
     Ok(Outcome {
         status,
         written,
