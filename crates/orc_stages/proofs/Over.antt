@@ -150,6 +150,12 @@ module _ {Q P A : Type 0} (q : QueueOf Q P A) (queues : List Q) (lines : List Li
   some_poster (suc i) =
       AllByRecursion-map (λ (r : PostReply). r.poster ≡ suc i) (λ (r : PostReply). 1 ≤ r.poster) (λ r e. omega (arith, e)) (posts_at ws i) (posts_keyed (suc i))
 
+  some_stage : (a : ℕ) → AllByRecursion (λ (r : StageReply). 1 ≤ r.stage) (move_block posters ws a)
+  some_stage zero = tt
+  some_stage (suc i) =
+      AllByRecursion-map (λ (r : StageReply). r.stage ≡ suc i) (λ (r : StageReply). 1 ≤ r.stage) (λ r e. omega (arith, e)) (moves_at ws (posters + i))
+      (moves_keyed (suc i))
+
   posts_are : (i : ℕ) → i < posters → posts_at ws i ≡ posts_of (suc i) (blocks (post_block ws) (suc posters))
   posts_are i low = sym (block_of (λ (r : PostReply). r.poster) (post_block ws) posts_keyed (suc i) (suc posters) (omega (arith, low)))
 
@@ -184,6 +190,7 @@ module _ {Q P A : Type 0} (q : QueueOf Q P A) (queues : List Q) (lines : List Li
   pipeline =
       pipeline_of V lines posters stages (blocks (post_block ws) (suc posters)) (λ i. c.work (posters + i)) c.own outs k some short ran
       (blocks (move_block posters ws) (suc stages)) (blocks_by_key (λ (r : StageReply). r.stage) (move_block posters ws) moves_keyed (suc stages))
+      (every_block (λ (r : StageReply). 1 ≤ r.stage) (move_block posters ws) (suc stages) (λ a l. some_stage a))
       (λ i low.
       block_of (λ (r : StageReply). r.stage) (move_block posters ws) moves_keyed (suc i) (suc stages) (omega (arith, low)) ∙ c.of_stages i low)
 

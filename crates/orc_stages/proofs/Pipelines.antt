@@ -263,9 +263,13 @@ module _ {A : Type 0} (x : ℕ → View A QueueEntry QueueRefused) (lines : List
       AllByRecursion-left (IsItem lines) (jobs_of false (h i)) (map (λ (z : ℕ × ℕ). z.0) (waiting_after [] (h i)))
       (subst (AllByRecursion (IsItem lines)) (all_jobs i) (put_items i low))
 
-  -- the Tooks of each queue but the last are those of its stage's replies
-  tooks_are : (i : ℕ) → i < stages → jobs_of false (h i) ≡ lines_of (work i ++ own i)
-  tooks_are i low =
+  -- who took from a queue but the last: its worker, and the caller
+  record TookBy (i : ℕ) : Type 0 where
+    worker : jobs_by false (posters + suc i) (h i) ≡ lines_of (work i)
+    caller : jobs_by false 0 (h i) ≡ lines_of (own i)
+
+  took_by : (i : ℕ) → i < stages → TookBy i
+  took_by i low =
       let w : ℕ = posters + suc i in
       let up : i ≤ stages = omega (arith, low) in
       let d = ran.moved i low in
@@ -279,10 +283,21 @@ module _ {A : Type 0} (x : ℕ → View A QueueEntry QueueRefused) (lines : List
       caller_tooks i up ∙ ap (λ (s : List QueueShare). jobs_of false (own_of_shares s)) (ran.caller.acts.from i low) in
       let of_caller : AllByRecursion (IsItem lines) (jobs_of false (own_of_shares (froms (ran.caller.acts.rows i)))) =
       subst (AllByRecursion (IsItem lines)) caller (AllByRecursion-right (IsItem lines) (jobs_by false w (h i)) (jobs_by false 0 (h i)) both) in
-      two
-      ∙ (ap (λ z. z ++ jobs_by false 0 (h i)) (worker ∙ from_jobs lines (suc i) w (work i) d.wrote.rows d.wrote.table of_worker)
-      ∙ (ap (λ z. lines_of (work i) ++ z) (caller ∙ from_jobs lines (suc i) 0 (own i) (ran.caller.acts.rows i) (caller_table i low) of_caller)
-      ∙ sym (map-append (λ (r : StageReply). r.line) (work i) (own i))))
+      record {
+        worker = worker ∙ from_jobs lines (suc i) w (work i) d.wrote.rows d.wrote.table of_worker;
+        caller = caller ∙ from_jobs lines (suc i) 0 (own i) (ran.caller.acts.rows i) (caller_table i low) of_caller;
+      }
+
+  -- the Tooks of each queue but the last are those of its stage's replies
+  tooks_are : (i : ℕ) → i < stages → jobs_of false (h i) ≡ lines_of (work i ++ own i)
+  tooks_are i low =
+      let by = took_by i low in
+      jobs_two false (posters + suc i) (h i) (ran.zero_last i) (worker_not i) (no_tooks i)
+      ∙ (ap (λ z. z ++ jobs_by false 0 (h i)) by.worker
+      ∙ (ap (λ z. lines_of (work i) ++ z) by.caller ∙ sym (map-append (λ (r : StageReply). r.line) (work i) (own i))))
+
+  caller_took : outs ≡ jobs_by false 0 (h stages)
+  caller_took = sym ran.caller.acts.tooks ∙ sym (caller_tooks stages (omega arith))
 
   outs_are : outs ≡ jobs_of false (h stages)
   outs_are =
@@ -291,7 +306,7 @@ module _ {A : Type 0} (x : ℕ → View A QueueEntry QueueRefused) (lines : List
         | inl e ↦ jobs_above false a stages (omega (arith, e))
         | inr other ↦ no_tooks stages a zero_not other
       ] in
-      sym ran.caller.acts.tooks ∙ (sym (caller_tooks stages (omega arith)) ∙ sym (jobs_only false 0 (h stages) last))
+      caller_took ∙ sym (jobs_only false 0 (h stages) last)
 
   -- no more jobs go through a queue than there are lines
   own_few : (a : ℕ) → length (jobs_by true a (h 0)) ≤ length (posts_of a posts)
@@ -445,6 +460,8 @@ module _ {A : Type 0} (x : ℕ → View A QueueEntry QueueRefused) (lines : List
         by_worker = work i;
         by_caller = own i;
         are = refl;
+        worker_took = (took_by i low).worker;
+        caller_took = (took_by i low).caller;
         worker = worker_places i low;
         until = b.until;
         later = (shares_stretch (X (suc i)) 0 (took (suc i)) b.until (k (suc i)) b.then).later;
@@ -454,14 +471,16 @@ module _ {A : Type 0} (x : ℕ → View A QueueEntry QueueRefused) (lines : List
 
   -- the whole pipeline
   pub pipeline_of : (moves : List StageReply) → moves ≡ grouped_by_key (λ (r : StageReply). r.stage) (suc stages) moves
-      → ((i : ℕ) → i < stages → moves_of (suc i) moves ≡ work i ++ own i) → IsPipeline x lines posters stages posts moves outs k
-  pipeline_of moves in_order are = record {
+      → AllByRecursion (λ (r : StageReply). 1 ≤ r.stage) moves → ((i : ℕ) → i < stages → moves_of (suc i) moves ≡ work i ++ own i) → IsPipeline x lines posters stages posts moves outs k
+  pipeline_of moves in_order none_of_zero are = record {
     legal = λ i low. ran.legal i;
     empty = empty;
     zero_last = λ i low. ran.zero_last i;
     posted = posters_follow;
     in_order = in_order;
+    none_of_zero = none_of_zero;
     moved = λ i low.
         subst (λ (rs : List StageReply). StageFollows (x i) (x (suc i)) lines posters stages (suc i) rs (k i) (k (suc i))) (sym (are i low)) (stage_follows i low);
     outs_are = outs_are;
+    caller_took = caller_took;
   }

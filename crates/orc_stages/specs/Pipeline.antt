@@ -66,8 +66,8 @@ pub record PostersFollow {A : Type 0} (x : View A QueueEntry QueueRefused) (line
   pub no_others : (a : ℕ) → (1 ≤ a → a ≤ posters → ⊥) → jobs_by true a (x.history k) ≡ []
 
 -- a stage between two queues: its replies are all Tooks of the first, those that found a place are all Puts of the second, first
--- its worker's and then the caller's, beside no agent but those of the run; and its worker found the first queue empty if it has
--- fewer replies than there are jobs
+-- its worker's and then the caller's, each of its own replies, beside no agent but those of the run; and its worker found the first
+-- queue empty if it has fewer replies than there are jobs
 pub record StageFollows {A : Type 0} (x y : View A QueueEntry QueueRefused) (lines : List Line) (posters stages stage : ℕ) (replies : List StageReply)
     (k n : List A) : Type 0 where
   pub tooks : jobs_of false (x.history k) ≡ lines_of replies
@@ -75,14 +75,16 @@ pub record StageFollows {A : Type 0} (x y : View A QueueEntry QueueRefused) (lin
   pub by_worker : List StageReply
   pub by_caller : List StageReply
   pub are : replies ≡ by_worker ++ by_caller
+  pub worker_took : jobs_by false (posters + stage) (x.history k) ≡ lines_of by_worker
+  pub caller_took : jobs_by false 0 (x.history k) ≡ lines_of by_caller
   pub worker : Placing (beside y (IsWorker posters stages)) lines stage (posters + stage) by_worker [] n
   pub until : List A
   pub later : IsPrefix until n
   pub caller : Placing (beside y (IsWorker posters stages)) lines stage 0 by_caller [] until
   pub found_empty : length by_worker < jobs_in lines → LastIsEmpty (posters + stage) (x.history k)
 
--- the journals of the queues 0 to `stages` are those of a pipeline with these replies of posters and of stages, and these jobs came
--- out of the last queue
+-- the journals of the queues 0 to `stages` are those of a pipeline with these replies of posters and of stages 1 to `stages`, and
+-- the caller took these jobs out of the last queue, from which nobody else took any
 pub record IsPipeline {A : Type 0} (x : ℕ → View A QueueEntry QueueRefused) (lines : List Line) (posters stages : ℕ) (posts : List PostReply)
     (moves : List StageReply) (outs : List ℕ) (k : ℕ → List A) : Type 0 where
   pub legal : (i : ℕ) → i ≤ stages → IsLegalQueue 0 ((x i).history (k i))
@@ -90,8 +92,10 @@ pub record IsPipeline {A : Type 0} (x : ℕ → View A QueueEntry QueueRefused) 
   pub zero_last : (i : ℕ) → i ≤ stages → ZeroLast agent_of_entry ((x i).history (k i))
   pub posted : PostersFollow (x 0) lines posters stages posts (k 0)
   pub in_order : moves ≡ grouped_by_key (λ (r : StageReply). r.stage) (suc stages) moves
+  pub none_of_zero : AllByRecursion (λ (r : StageReply). 1 ≤ r.stage) moves
   pub moved : (i : ℕ) → i < stages → StageFollows (x i) (x (suc i)) lines posters stages (suc i) (moves_of (suc i) moves) (k i) (k (suc i))
   pub outs_are : outs ≡ jobs_of false ((x stages).history (k stages))
+  pub caller_took : outs ≡ jobs_by false 0 ((x stages).history (k stages))
 
 -- of pipelines over these queues: where each job found a place at each stage, all jobs come out, in the order in which they were put
 abbrev pub AllComeOut : {A : Type 0} → (ℕ → View A QueueEntry QueueRefused) → Type 0

@@ -63,9 +63,10 @@ pub record Ran {A : Type 0} (x : ℕ → View A QueueEntry QueueRefused) (lines 
   pub outs_ended : LastIsEmpty 0 ((x stages).history (k stages)) ⊎ (length lines ≤ length outs)
 
 -- such runs over these queues form pipelines, whose replies of stages are those of the workers and then the caller's, stage by stage
+-- from 1 on
 abbrev pub RunsArePipelines : {A : Type 0} → (ℕ → View A QueueEntry QueueRefused) → Type 0
 RunsArePipelines {A = A} x =
     (lines : List Line) (posters stages : ℕ) (posts : List PostReply) (work own : ℕ → List StageReply) (moves : List StageReply) (outs : List ℕ)
     (k : ℕ → List A) → 1 ≤ posters → length lines ≤ 65535 → Ran x lines posters stages posts work own outs k
-    → moves ≡ grouped_by_key (λ (r : StageReply). r.stage) (suc stages) moves → ((i : ℕ) → i < stages → moves_of (suc i) moves ≡ work i ++ own i)
+    → moves ≡ grouped_by_key (λ (r : StageReply). r.stage) (suc stages) moves → AllByRecursion (λ (r : StageReply). 1 ≤ r.stage) moves → ((i : ℕ) → i < stages → moves_of (suc i) moves ≡ work i ++ own i)
     → IsPipeline x lines posters stages posts moves outs k

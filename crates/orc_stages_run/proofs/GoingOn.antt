@@ -41,6 +41,8 @@ module _ {A : Type 0} where
     by_worker = f.by_worker;
     by_caller = f.by_caller;
     are = f.are;
+    worker_took = ap (jobs_by false (posters + stage)) s.same ∙ f.worker_took;
+    caller_took = ap (jobs_by false 0) s.same ∙ f.caller_took;
     worker = record {
       shares = f.worker.shares;
       table = f.worker.table;
@@ -70,6 +72,7 @@ module _ {A : Type 0} where
     posted = posters_more (y 0) lines posters stages posts (k 0) (l 0) (s 0 (omega arith))
         (subst (λ (v : View A QueueEntry QueueRefused). PostersFollow v lines posters stages posts (k 0)) (e 0 (omega arith)) p.posted);
     in_order = p.in_order;
+    none_of_zero = p.none_of_zero;
     moved = λ i low.
         let here : i ≤ stages = omega (arith, low) in
         let next : suc i ≤ stages = omega (arith, low) in
@@ -81,4 +84,8 @@ module _ {A : Type 0} where
         p.outs_are
         ∙ (ap (λ (v : View A QueueEntry QueueRefused). jobs_of false (v.history (k stages))) (e stages (omega arith))
         ∙ ap (jobs_of false) (sym (s stages (omega arith)).same));
+    caller_took =
+        p.caller_took
+        ∙ (ap (λ (v : View A QueueEntry QueueRefused). jobs_by false 0 (v.history (k stages))) (e stages (omega arith))
+        ∙ ap (jobs_by false 0) (sym (s stages (omega arith)).same));
   }
