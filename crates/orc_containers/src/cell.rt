@@ -1,9 +1,10 @@
 //! A cell of two parts and its passes.
 
-ghost use Rattle.std.specs.Prelude.{◌≡◌, ◌+◌, ◌*◌, ◌<◌, ◌≤◌, ◌^◌, ℕ, [], All, IfOk, length, slice_index_or};
+ghost use Rattle.std.specs.Prelude.{◌≡◌, ◌+◌, ◌*◌, ◌<◌, ◌≤◌, ℕ, [], All, IfErr, IfOk, length, min, slice_index_or};
 ghost use Rattle.orc_cell.specs.CellCalls.{IsUsable, history};
 ghost use Rattle.orc_heap.specs.Domains.{agent};
-ghost use Rattle.orc_words.specs.Bounds.{Bounds, bounds_of};
+ghost use Rattle.orc_containers.specs.Unmade.{IsCauseOf, asked};
+ghost use Rattle.orc_words.specs.Bounds.{bounds_of};
 
 use crate::unmade::Unmade;
 use orc_any_domain::Domain;
@@ -11,8 +12,11 @@ use orc_cell::Cell;
 use orc_fault::NoMemory;
 use orc_heap::Seed;
 use orc_pairs_rule::Pairs;
-use orc_words::{HIGHEST_LIMIT, Shape, ShapeFault};
+use orc_words::{HIGHEST_LIMIT, Shape};
 use std::alloc::Global;
+
+/// How many agents a domain has at most.
+const MOST_AGENTS: u32 = 16;
 
 /// A cell over a domain of this shape, whose rows have two links and which has 1 + 2 × agents roots, and a pass for each agent, in
 /// order. It starts as (0, 0).
@@ -43,7 +47,7 @@ pub fn cell_over<L: Domain<Rule = Pairs>>(
 ///
 /// # Errors
 ///
-/// * `Shape` with a number that is out of range.
+/// * `Shape` with the first number that is out of range.
 /// * `NoMemory` where memory is refused.
 pub fn new_cell<L: Domain<Rule = Pairs>>(
     alloc: Global,
@@ -57,13 +61,11 @@ pub fn new_cell<L: Domain<Rule = Pairs>>(
     ensures few { IfOk result (λ made. agents ≤ 16) }
     ensures fresh { IfOk result (λ made. All (λ p. history L.Links made.0.links p ≡ []) made.1.items) }
     ensures all { IfOk result (λ made. L.agents made.0.links ≡ agents) }
-    ensures bounds { let asked : Bounds = record { rows = rows; roots = 1 + 2 * agents; agents = agents; limit = 2 ^ 39; links = 2 } in
-        IfOk result (λ made. L.bounds made.0.links ≡ asked) }
+    ensures bounds { IfOk result (λ made. L.bounds made.0.links ≡ asked rows 2 (1 + 2 * agents) agents) }
+    ensures refused { IfErr result (IsCauseOf (asked rows 2 (1 + 2 * min agents 16) agents)) }
 {
-    if agents > 16 {
-        return Err(Unmade::Shape(ShapeFault::Agents(agents)));
-    }
-    let shape = Shape::with_links(rows, 1 + 2 * agents, agents, HIGHEST_LIMIT, 2)?;
+    let roots = 1 + 2 * agents.min(MOST_AGENTS);
+    let shape = Shape::with_links(rows, roots, agents, HIGHEST_LIMIT, 2)?;
     let made = cell_over(alloc, &shape)?;
     Ok(made)
 }

@@ -1,9 +1,10 @@
 //! A queue and its passes.
 
-ghost use Rattle.std.specs.Prelude.{◌≡◌, ◌<◌, ◌≤◌, ◌^◌, ℕ, [], All, IfOk, length, slice_index_or};
+ghost use Rattle.std.specs.Prelude.{◌≡◌, ◌<◌, ◌≤◌, ◌^◌, ℕ, [], All, IfErr, IfOk, length, slice_index_or};
 ghost use Rattle.orc_fifo_rule.specs.declared.fifo.FifoNote.TheVariants.{Begin};
 ghost use Rattle.orc_heap.specs.{Seeds.{opening_events}, declared.seed.Seed.TheVariants.{Dummy}};
-ghost use Rattle.orc_words.specs.Bounds.{Bounds, bounds_of};
+ghost use Rattle.orc_containers.specs.Unmade.{IsCauseOf, asked};
+ghost use Rattle.orc_words.specs.Bounds.{bounds_of};
 
 use crate::unmade::Unmade;
 use orc_any_domain::Domain;
@@ -68,8 +69,8 @@ pub fn new_queue<L: Domain<Rule = Fifo>>(
         (⟦<Queue<L> as SharedQueue>⟧.journal p) ≡ []) made.1.items) }
     ensures all { IfOk result (λ made. ⟦<Queue<L> as LearnQueue>⟧.agents made.0 ≡ agents) }
     ensures first { IfOk result (λ made. ⟦<Queue<L> as SharedQueue>⟧.first made.0 ≡ 0) }
-    ensures bounds { let asked : Bounds = record { rows = rows; roots = 2; agents = agents; limit = 2 ^ 39; links = 1 } in
-        IfOk result (λ made. L.bounds made.0.links ≡ asked) }
+    ensures bounds { IfOk result (λ made. L.bounds made.0.links ≡ asked rows 1 2 agents) }
+    ensures refused { IfErr result (IsCauseOf (asked rows 1 2 agents)) }
 {
     let shape = Shape::new(rows, 2, agents, HIGHEST_LIMIT)?;
     let made = queue_over(alloc, &shape, 0)?;

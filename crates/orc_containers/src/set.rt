@@ -1,7 +1,8 @@
 //! A set of sorted lists and its passes; one list is a set with one bucket.
 
-ghost use Rattle.std.specs.Prelude.{◌≡◌, ◌<◌, ◌≤◌, ◌^◌, ℕ, [], All, IfOk, length, slice_index_or};
-ghost use Rattle.orc_words.specs.Bounds.{Bounds, bounds_of};
+ghost use Rattle.std.specs.Prelude.{◌≡◌, ◌<◌, ◌≤◌, ℕ, [], All, IfErr, IfOk, length, slice_index_or};
+ghost use Rattle.orc_containers.specs.Unmade.{IsCauseOf, asked};
+ghost use Rattle.orc_words.specs.Bounds.{bounds_of};
 
 use crate::unmade::Unmade;
 use orc_any_domain::Domain;
@@ -59,8 +60,8 @@ pub fn new_set<L: Domain<Rule = Chain>>(
     ensures fresh { IfOk result (λ made. All (λ p. ⟦<Set<L> as SharedSet>⟧.history made.0
         (⟦<Set<L> as SharedSet>⟧.journal p) ≡ []) made.1.items) }
     ensures all { IfOk result (λ made. ⟦<Set<L> as LearnSet>⟧.agents made.0 ≡ agents) }
-    ensures bounds { let asked : Bounds = record { rows = rows; roots = buckets; agents = agents; limit = 2 ^ 39; links = 1 } in
-        IfOk result (λ made. L.bounds made.0.list.links ≡ asked) }
+    ensures bounds { IfOk result (λ made. L.bounds made.0.list.links ≡ asked rows 1 buckets agents) }
+    ensures refused { IfErr result (IsCauseOf (asked rows 1 buckets agents)) }
 {
     let shape = Shape::new(rows, buckets, agents, HIGHEST_LIMIT)?;
     let made = set_over(alloc, &shape)?;
@@ -85,8 +86,8 @@ pub fn new_list<L: Domain<Rule = Chain>>(
     ensures fresh { IfOk result (λ made. All (λ p. ⟦<Set<L> as SharedSet>⟧.history made.0
         (⟦<Set<L> as SharedSet>⟧.journal p) ≡ []) made.1.items) }
     ensures all { IfOk result (λ made. ⟦<Set<L> as LearnSet>⟧.agents made.0 ≡ agents) }
-    ensures bounds { let asked : Bounds = record { rows = rows; roots = 1; agents = agents; limit = 2 ^ 39; links = 1 } in
-        IfOk result (λ made. L.bounds made.0.list.links ≡ asked) }
+    ensures bounds { IfOk result (λ made. L.bounds made.0.list.links ≡ asked rows 1 1 agents) }
+    ensures refused { IfErr result (IsCauseOf (asked rows 1 1 agents)) }
 {
     new_set(alloc, rows, agents, 1)
 }

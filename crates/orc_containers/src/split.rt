@@ -1,8 +1,9 @@
 //! A split-ordered set and its passes.
 
-ghost use Rattle.std.specs.Prelude.{◌≡◌, ◌+◌, ◌<◌, ◌≤◌, ◌^◌, ℕ, [], All, IfOk, length, slice_index_or};
+ghost use Rattle.std.specs.Prelude.{◌≡◌, ◌+◌, ◌<◌, ◌≤◌, ℕ, [], All, IfErr, IfOk, length, slice_index_or};
 ghost use Rattle.orc_split_rule.specs.SplitDiscipline.{IsSize};
-ghost use Rattle.orc_words.specs.Bounds.{Bounds, bounds_of};
+ghost use Rattle.orc_containers.specs.Unmade.{IsCauseOf, asked};
+ghost use Rattle.orc_words.specs.Bounds.{bounds_of};
 
 use crate::unmade::Unmade;
 use orc_any_domain::Domain;
@@ -63,8 +64,8 @@ pub fn new_split_set<L: Domain<Rule = Split>>(
     ensures fresh { IfOk result (λ made. All (λ p. ⟦<SplitSet<L> as SharedSet>⟧.history made.0
         (⟦<SplitSet<L> as SharedSet>⟧.journal p) ≡ []) made.1.items) }
     ensures all { IfOk result (λ made. ⟦<SplitSet<L> as LearnSet>⟧.agents made.0 ≡ agents) }
-    ensures bounds { let asked : Bounds = record { rows = rows; roots = greatest + 1; agents = agents; limit = 2 ^ 39; links = 1 } in
-        IfOk result (λ made. L.bounds made.0.links ≡ asked) }
+    ensures bounds { IfOk result (λ made. L.bounds made.0.links ≡ asked rows 1 (greatest + 1) agents) }
+    ensures refused { IfErr result (IsCauseOf (asked rows 1 (greatest + 1) agents)) }
 {
     let shape = Shape::new(rows, greatest + 1, agents, HIGHEST_LIMIT)?;
     let made = split_set_over(alloc, &shape, greatest)?;
