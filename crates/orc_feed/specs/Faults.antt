@@ -5,11 +5,11 @@ use Rattle.std.specs.Prelude.{◌≡◌, ℕ, ◌+◌, ◌-◌, ◌^◌, ◌<◌
 abbrev pub one_more : ℕ → ℕ
 one_more count = min (count + 1) (2 ^ 64 - 1)
 
--- the count rose, or it stands at its last value
+-- the count rose by one, or it stands at its last value
 abbrev pub Rose : ℕ → ℕ → Type 0
-Rose before now = one_more before ≤ now
+Rose before now = now ≡ one_more before
 
--- the count never falls: a call that answers leaves it, and it rises where the call fails
+-- the count never falls: a call that answers leaves it, and it rises by one where the call fails
 pub record CountsFaults {T E : Type 0} (before now : ℕ) (result : Result T E) : Type 0 where
   pub later : before ≤ now
   pub answered : OnOk result (now ≡ before)
@@ -20,5 +20,5 @@ pub record CountsWriteFaults {E : Type 0} (bytes : List ℕ) (before now : ℕ) 
   pub later : before ≤ now
   pub moved : IfOk result (λ n. 0 < n → now ≡ before)
   pub none : bytes ≡ [] → OnOk result (now ≡ before)
-  pub stuck : IfOk result (λ n. n ≡ 0 → 0 < length bytes → now ≡ one_more before)
+  pub stuck : IfOk result (λ n. n ≡ 0 → 0 < length bytes → Rose before now)
   pub failed : OnErr result (Rose before now)

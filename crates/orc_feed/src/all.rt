@@ -1,7 +1,7 @@
 ghost use Rattle.std.specs.Prelude.{◌≡◌, ◌+◌, ◌^◌, ◌<◌, ◌≤◌, List, IfErr, IfOk, OnErr, OnOk, length, Some, ℕ};
 ghost use Rattle.std.specs.Io.KnownBytes.{Appends, Consumes, IsAtEnd};
 ghost use Rattle.orc_feed.specs.{
-  declared.all.ReadAll.TheVariants.{NoMemory},
+  declared.all.ReadAllError.TheVariants.{NoMemory},
   Faults.{CountsFaults, Rose},
   Whole.{AppendsPrefix, TakesAtMost, TakesWhole},
 };
@@ -12,16 +12,16 @@ use std::alloc::{AllocError, Global};
 
 /// Why not all bytes of a source were taken.
 #[derive(Clone, Copy, Debug, PartialEq, Eq, Drop)]
-pub enum ReadAll {
+pub enum ReadAllError {
     Failed,
     NoMemory,
 }
 
-impl From<AllocError> for ReadAll {
+impl From<AllocError> for ReadAllError {
     ghost from_gives = { λ _ e. e ≡ NoMemory };
 
-    fn from(_refused: AllocError) -> ReadAll {
-        ReadAll::NoMemory
+    fn from(_refused: AllocError) -> ReadAllError {
+        ReadAllError::NoMemory
     }
 }
 
@@ -30,7 +30,11 @@ const CHUNK: usize = 4096;
 /// Takes all bytes of a source, or one more than `limit` bytes of it where there are more. A read
 /// asks for 4,096 bytes, or for what is missing up to `limit + 1` where that is less. An `Err` has
 /// taken some bytes, which are lost.
-pub fn read_all<S: Source>(alloc: Global, source: &mut S, limit: u64) -> Result<Vec<u8>, ReadAll>
+pub fn read_all<S: Source>(
+    alloc: Global,
+    source: &mut S,
+    limit: u64,
+) -> Result<Vec<u8>, ReadAllError>
     requires { limit < 2 ^ 32 }
     ensures bytes { IfOk result (λ v. Consumes (S.left source.old) (S.left source.new) v.items) }
     ensures all { IfOk result (λ v. length v.items ≤ limit → IsAtEnd (S.left source.new)) }
@@ -42,8 +46,8 @@ pub fn read_all<S: Source>(alloc: Global, source: &mut S, limit: u64) -> Result<
 
     // It ends at the first read that fails, so that no other answer has seen one.
     ensures answered { OnOk result (S.faults source.new ≡ S.faults source.old) }
-    ensures memory { IfErr result (λ e. e ≡ ReadAll.NoMemory → S.faults source.new ≡ S.faults source.old) }
-    ensures failed { IfErr result (λ e. e ≡ ReadAll.Failed
+    ensures memory { IfErr result (λ e. e ≡ ReadAllError.NoMemory → S.faults source.new ≡ S.faults source.old) }
+    ensures failed { IfErr result (λ e. e ≡ ReadAllError.Failed
         → Rose (S.faults source.old) (S.faults source.new)) }
 {
     let most = limit as usize + 1;
@@ -52,7 +56,7 @@ pub fn read_all<S: Source>(alloc: Global, source: &mut S, limit: u64) -> Result<
     while all.len() < most {
         let wanted = CHUNK.min(most - all.len());
         let Ok(count) = source.read(&mut chunk[..wanted]) else {
-            return Err(ReadAll::Failed);
+            return Err(ReadAllError::Failed);
         };
         if count == 0 {
             return Ok(all);

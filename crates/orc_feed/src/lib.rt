@@ -10,7 +10,7 @@ mod sink;
 mod source;
 mod std_stream;
 
-pub use all::{ReadAll, read_all, write_all};
+pub use all::{ReadAllError, read_all, write_all};
 pub use memory_sink::MemorySink;
 pub use memory_source::MemorySource;
 pub use sink::Sink;

@@ -1,7 +1,7 @@
-ghost use Rattle.std.specs.Prelude.{Contains, IfOk, IsErr, OnErr, ◌≡◌, ◌-◌, ◌^◌, ◌<◌, ◌≤◌, ◌↔◌, [], length, Some};
+ghost use Rattle.std.specs.Prelude.{Contains, IfOk, IsErr, ◌≡◌, ◌-◌, ◌^◌, ◌<◌, ◌≤◌, ◌↔◌, [], length, Some};
 ghost use Rattle.std.specs.Io.{WritesAtMost};
 ghost use Rattle.std.specs.Io.KnownBytes.{WriteAppends};
-ghost use Rattle.orc_feed.specs.{Faults.{CountsWriteFaults, one_more}, InMemory.{moved_count, new_plan, next_plan}};
+ghost use Rattle.orc_feed.specs.{Faults.{CountsWriteFaults}, InMemory.{moved_count, new_plan, next_plan}};
 
 use crate::Sink;
 use crate::plan::Plan;
@@ -72,7 +72,6 @@ impl Sink for MemorySink {
             (self.old.room - length self.old.written)) }
         ensures plan { self.new.plan ≡ next_plan self.old.plan }
         ensures room { self.new.room ≡ self.old.room }
-        ensures one { OnErr result (self.new.faults ≡ one_more self.old.faults) }
     {
         let faults = self.faults;
         if self.plan.call_fails() {

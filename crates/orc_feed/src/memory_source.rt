@@ -1,7 +1,7 @@
-ghost use Rattle.std.specs.Prelude.{Contains, IfOk, IsErr, OnErr, ◌≡◌, ◌^◌, ◌<◌, ◌≤◌, ◌↔◌, length, Some};
+ghost use Rattle.std.specs.Prelude.{Contains, IfOk, IsErr, ◌≡◌, ◌^◌, ◌<◌, ◌≤◌, ◌↔◌, length, Some};
 ghost use Rattle.std.specs.Io.{ReadsAtMost};
 ghost use Rattle.std.specs.Io.KnownBytes.{ReadConsumes};
-ghost use Rattle.orc_feed.specs.{Faults.{CountsFaults, one_more}, InMemory.{moved_count, new_plan, next_plan}};
+ghost use Rattle.orc_feed.specs.{Faults.{CountsFaults}, InMemory.{moved_count, new_plan, next_plan}};
 
 use crate::Source;
 use crate::plan::Plan;
@@ -69,7 +69,6 @@ impl Source for MemorySource {
         ensures count { IfOk result (λ n. n
             ≡ moved_count self.old.plan (length to.new) (length self.old.left)) }
         ensures plan { self.new.plan ≡ next_plan self.old.plan }
-        ensures one { OnErr result (self.new.faults ≡ one_more self.old.faults) }
     {
         let faults = self.faults;
         if self.plan.call_fails() {

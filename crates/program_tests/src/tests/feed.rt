@@ -7,17 +7,18 @@ ghost use Rattle.orc_feed.specs.{
 };
 
 use orc_fault::{Failed, NoMemory};
-use orc_feed::{MemorySink, MemorySource, ReadAll, Sink, Source, read_all, write_all};
+use orc_feed::{MemorySink, MemorySource, ReadAllError, Sink, Source, read_all, write_all};
 use std::alloc::Global;
 use std::process::Abort;
 use std::test::Fail;
 
-// A count rises by one at least, but for its last value, where it stays.
+// A count rises by one, but for its last value, where it stays.
 fn counts_by_hand()
     ensures more { one_more 3 ≡ 4 }
     ensures full { one_more (2 ^ 64 - 1) ≡ 2 ^ 64 - 1 }
     ensures rose { Rose 3 4 }
     ensures stood { ¬ Rose 3 3 }
+    ensures twice { ¬ Rose 3 5 }
     ensures last { Rose (2 ^ 64 - 1) (2 ^ 64 - 1) }
 {}
 
@@ -60,7 +61,7 @@ fn taken<R: Abort>(
     piece: u64,
     fails: &[u64],
     limit: u64,
-    wanted: Result<&[u8], ReadAll>,
+    wanted: Result<&[u8], ReadAllError>,
 ) -> Result<(), Fail>
     requires some { 1 ≤ piece }
     requires small { limit < 2 ^ 32 }
@@ -81,8 +82,8 @@ fn reads_in_pieces(rt: HostRuntime) -> Result<(), Fail> {
     taken(&rt, rt.alloc(), 4, &[], 5, Ok(b"post,7"))?;
     // The sixth call sees the end, and no seventh is made.
     taken(&rt, rt.alloc(), 4, &[6], 19, Ok(FILE))?;
-    taken(&rt, rt.alloc(), 4, &[5], 19, Err(ReadAll::Failed))?;
-    taken(&rt, rt.alloc(), 4, &[1], 19, Err(ReadAll::Failed))
+    taken(&rt, rt.alloc(), 4, &[5], 19, Err(ReadAllError::Failed))?;
+    taken(&rt, rt.alloc(), 4, &[1], 19, Err(ReadAllError::Failed))
 }
 
 // What `write_all` leaves of a text of two lines in a room.

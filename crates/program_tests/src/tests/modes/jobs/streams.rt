@@ -1,8 +1,7 @@
 //! A reader and a writer of std, as source and sink, of which one call fails.
 
 use orc_fault::Failed;
-use orc_feed::{Sink, Source};
-use orc_program::{StdSink, StdSource};
+use orc_feed::{Sink, Source, StdSink, StdSource};
 use std::io;
 use std::io::{Read, Write};
 use std::test::Fail;
