@@ -1,5 +1,5 @@
-//! Works through a job file and writes the report, writes a generated job file, or plays a trace and writes what it leaves:
-//! from standard input to standard output.
+//! Works through a job file and writes the report, or does what another mode of the words asks: from standard input to
+//! standard output.
 #![tactic(auto)]
 
 use orc_board::OpenGate;

@@ -67,6 +67,7 @@ pub record AreInRange (s : Settings) : Type 0 where
   pub some_buckets : ranges.buckets.low ≤ s.buckets
   pub few_buckets : s.buckets ≤ ranges.buckets.high
   pub some_seed : ranges.seed.low ≤ s.seed
+  pub few_seed : s.seed ≤ ranges.seed.high
   pub some_lines : ranges.lines.low ≤ s.lines
   pub few_lines : s.lines ≤ ranges.lines.high
 

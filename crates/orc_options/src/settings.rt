@@ -131,7 +131,8 @@ fn says_yes(word: Option<&str>) -> bool
 
 // What an error of clap means here.
 fn refused_by(kind: ErrorKind) -> Refused
-    ensures { result ≡ Refused.Words → kind ≢ ErrorKind.OutOfMemory }
+    ensures words { result ≡ Refused.Words → kind ≢ ErrorKind.OutOfMemory }
+    ensures memory { result ≡ Refused.NoMemory → kind ≡ ErrorKind.OutOfMemory }
 {
     match kind {
         ErrorKind::OutOfMemory => Refused::NoMemory,
@@ -144,7 +145,7 @@ fn refused_by(kind: ErrorKind) -> Refused
 ///
 /// # Errors
 ///
-/// * `Words` exactly where `clap` refuses the words for another cause than memory; help and a version count as refused.
+/// * `Words` where `clap` refuses the words for another cause than memory; help and a version count as refused.
 /// * `NoMemory` where memory is refused.
 pub fn settings_of(alloc: Global, words: &CommandWords) -> Result<Settings, Refused>
     ensures gives { IfOk result (GivesSettings words.now) }

@@ -1,14 +1,18 @@
 -- What has ended was left by a run, so its rows were reused safely, and none leaked.
 use Rattle.std.proofs.Common.{◌≡◌, List, [], ◌∷◌, ℕ, inl, inr, subst, sym}
 use Rattle.orc_watch.specs.declared.line.WatchLine.{WatchLine}
-use Rattle.orc_watch_domain.specs.Runs.{WatchedThrough}
+use Rattle.orc_watch_domain.specs.Runs.{WatchedThrough, watch_bounds}
 use Rattle.orc_watch_domain.specs.declared.watch.WatchFinished.{WatchFinished}
 use Rattle.orc_words.specs.Bounds.{Bounds}
 use Rattle.std.specs.List.{AllByRecursion}
 use Rattle.orc_core.specs.declared.records.Agent.{Agent}
 use Rattle.orc_fifo_rule.specs.declared.fifo.Fifo.{Fifo}
 use Rattle.orc_fifo_rule.specs.declared.fifo.FifoNote.{FifoNote}
+use Rattle.orc_heap.specs.Heap.{HeapNumbers}
 use Rattle.orc_heap.specs.declared.discipline.Discipline as discipline
+use Rattle.orc_heap.specs.declared.events.Event.{Event}
+use Rattle.orc_heap.specs.declared.seed.Seed.{Seed}
+use Rattle.orc_at_rest.specs.Journals.{HasJournal}
 use Rattle.orc_machine_board.specs.declared.machine.MachineShape.{MachineShape}
 use Rattle.orc_machine_board.specs.declared.machine.Reclaiming.{Reclaiming}
 use Rattle.orc_machine_board.specs.declared.machine.Request.{Request}
@@ -44,23 +48,31 @@ kept_so ended what is h = subst (λ (e : Ended). EndsSafely e) (sym is) h
 pub of_none : (ended : Ended) → ended ≡ end.Nothing → EndsSafely ended
 of_none ended is = kept_so ended end.Nothing is tt
 
+-- a domain at rest whose journal is the actual one, by which rows were reused safely and none leaked
+module _ {D N : Type 0} {d : discipline.Ghosts D N} {m : machine.Ghosts Reclaiming N (MachineShape N) Request (Step N) Agent Agent} where
+  rests : {may : HeapNumbers → List (Event N) → Event N → Type 0} {seed : Seed N} (b : Bounds) (r : OrcRest D N d m) → HasJournal may b seed r
+      → ReusesRowsSafely b r → EndsWithoutLeak b r → RestsSafely r
+  rests b r journal reuse leak = record {
+    shown = journal.shown;
+    reuse = subst (λ (c : Bounds). ReusesRowsSafely c r) (sym journal.sizes) reuse;
+    rest = subst (λ (c : Bounds). EndsWithoutLeak c r) (sym journal.sizes) leak;
+  }
+
 of_set : (which : SetChoice) (b : Bounds) (rest : SetRest) → HasSetJournal which b rest → SetReusesSafely b rest → SetLeaksNothing b rest
     → SetRestsSafely rest
-of_set (choice.Lists buckets) b (at_rest.Lists r) journal reuse leak = subst (λ (c : Bounds). ReusesRowsSafely c r × EndsWithoutLeak c r) (sym journal.sizes) (reuse, leak)
+of_set (choice.Lists buckets) b (at_rest.Lists r) journal reuse leak = rests b r journal reuse leak
 of_set (choice.Lists buckets) b (at_rest.Split r) journal reuse leak = absurd journal
 of_set choice.Split b (at_rest.Lists r) journal reuse leak = absurd journal
-of_set choice.Split b (at_rest.Split r) journal reuse leak = subst (λ (c : Bounds). ReusesRowsSafely c r × EndsWithoutLeak c r) (sym journal.sizes) (reuse, leak)
+of_set choice.Split b (at_rest.Split r) journal reuse leak = rests b r journal reuse leak
 
 of_run : (lines : List Line) (s : Settings) (f : Finished) → WorkedThrough lines s f → EndsSafely (end.Run f)
 of_run lines s f run = (
-  λ rush. subst (λ (b : Bounds). ReusesRowsSafely b (pick f.queue f.rush rush) × EndsWithoutLeak b (pick f.queue f.rush rush))
-      (sym (run.queue_journals rush).sizes) (run.queues_reuse rush, run.queues_rest rush),
+  λ rush. rests (queue_bounds s.posters s.takers s.rows) (pick f.queue f.rush rush) (run.queue_journals rush) (run.queues_reuse rush) (run.queues_rest rush),
   of_set (set_of s) (set_bounds s.posters s.takers s.rows (set_of s)) f.set run.set_journal run.set_reuse run.set_rest,
 )
 
 of_watch : (lines : List WatchLine) (s : Settings) (f : WatchFinished) → WatchedThrough lines s.posters s.rows f → EndsSafely (end.Watch f)
-of_watch lines s f run =
-    subst (λ (b : Bounds). ReusesRowsSafely b f.cell × EndsWithoutLeak b f.cell) (sym run.journal.sizes) (run.reuse, run.rest)
+of_watch lines s f run = rests (watch_bounds s.posters s.rows) f.cell run.journal run.reuse run.rest
 
 -- of each of several domains of these sizes
 module _ {d : discipline.Ghosts Fifo FifoNote}
@@ -71,7 +83,7 @@ module _ {d : discipline.Ghosts Fifo FifoNote}
         → AllByRecursion (λ r. RestsSafely r) rs
     each_by_domain b [] journals reuse leak = tt
     each_by_domain b (r ∷ rs) journals reuse leak = (
-      subst (λ (c : Bounds). ReusesRowsSafely c r × EndsWithoutLeak c r) (sym journals.0.sizes) (reuse.0, leak.0),
+      rests b r journals.0 reuse.0 leak.0,
       each_by_domain b rs journals.1 reuse.1 leak.1,
     )
 

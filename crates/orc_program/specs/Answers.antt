@@ -14,7 +14,7 @@ use Rattle.orc_trace.specs.declared.answers.TraceFault.TheVariants as trace
 use Rattle.orc_trace.specs.Answers.{audit_lines, fault_line, replay_line}
 use Rattle.orc_trace.specs.Audit.{IsAudit}
 use Rattle.orc_trace.specs.Replay.{IsReplay, RefusesTrace}
-use Rattle.orc_options.specs.Settings.{GivesSettings, RefusesWords as RefusesWords}
+use Rattle.orc_options.specs.Settings.{GivesSettings, RefusesWords}
 use Rattle.orc_options.specs.declared.settings.Mode.{Mode}
 use Rattle.orc_options.specs.declared.settings.Mode.TheVariants as mode
 use Rattle.orc_options.specs.declared.settings.Settings.{Settings}

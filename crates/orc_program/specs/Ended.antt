@@ -15,7 +15,7 @@ use Rattle.orc_machine_board.specs.declared.machine.MachineShape.{MachineShape}
 use Rattle.orc_machine_board.specs.declared.machine.Reclaiming.{Reclaiming}
 use Rattle.orc_machine_board.specs.declared.machine.Request.{Request}
 use Rattle.orc_domain.specs.Passes.{domain_bounds}
-use Rattle.orc_domain.specs.Rest.{rest_domain, rest_journal}
+use Rattle.orc_domain.specs.Rest.{IsShown, rest_domain, rest_journal}
 use Rattle.orc_domain.specs.declared.at_rest.OrcRest.{OrcRest}
 use Rattle.orc_rest.specs.Reuse.{given, reused, rows_out}
 use Rattle.orc_run.specs.Runs.{EndsWithoutLeak, ReusesRowsSafely}
@@ -41,8 +41,10 @@ use Rattle.orc_program.specs.Headline.{Headline, WorkedThrough}
 -- The domain is at rest, and by its actual journal no row was used again while it was linked or held, nor twice; and at the end what
 -- was given was freed or is linked.
 module _ {D N : Type 0} {d : discipline.Ghosts D N} {m : machine.Ghosts Reclaiming N (MachineShape N) Request (Step N) Agent Agent} where
-  abbrev pub RestsSafely : OrcRest D N d m → Type 0
-  RestsSafely r = ReusesRowsSafely (domain_bounds (rest_domain r)) r × EndsWithoutLeak (domain_bounds (rest_domain r)) r
+  pub record RestsSafely (r : OrcRest D N d m) : Type 0 where
+    pub shown : IsShown r
+    pub reuse : ReusesRowsSafely (domain_bounds (rest_domain r)) r
+    pub rest : EndsWithoutLeak (domain_bounds (rest_domain r)) r
 
 -- of the domain of a run's set, whichever it was
 abbrev pub SetRestsSafely : SetRest → Type 0

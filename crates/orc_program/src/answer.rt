@@ -1,5 +1,5 @@
 //! What the program answers to the bytes of an input.
-ghost use Rattle.std.specs.Prelude.{◌≡◌, IfErr, IfOk, Ok};
+ghost use Rattle.std.specs.Prelude.{◌≡◌, IfErr, IfOk, IsErr, Ok};
 ghost use Rattle.orc_options.specs.Settings.{AreInRange};
 ghost use Rattle.orc_program.specs.Answers.{ProgramAnswers};
 
@@ -32,14 +32,14 @@ pub(crate) struct Answer {
     pub(crate) text: Text,
 }
 
-// Answers with this text, and leaves what has ended; where there is no text, nothing has.
+// Answers with this text, and leaves what has ended; where there is no text, `ended` stays.
 pub(crate) fn leave(
     what: Ended,
     text: Result<Text, NoMemory>,
     ended: &mut Ended,
 ) -> Result<Answer, NoMemory>
     ensures answered { IfOk result (λ a. (a.status ≡ 0) × (ended.new ≡ what) × (text ≡ Ok a.text)) }
-    ensures unanswered { IfErr result (λ _. ended.new ≡ ended.old) }
+    ensures unanswered { IsErr result → IsErr text × (ended.new ≡ ended.old) }
 {
     let text = text?;
     *ended = what;

@@ -20,8 +20,8 @@ mod writing;
 
 pub use ended::Ended;
 pub use laws::{inputs_are_read_whole, inputs_have_one_answer};
-pub use orc_feed::{StdSink, StdSource, StdStream};
-pub use orc_options::{CommandWords, Mode, SetKind, Settings};
+pub use orc_feed::{StdSink, StdSource};
+pub use orc_options::CommandWords;
 pub use orc_run::{Finished, SetRest};
 pub use orc_stages_run::StagesFinished;
 pub use orc_watch_domain::WatchFinished;

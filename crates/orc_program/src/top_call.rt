@@ -12,7 +12,7 @@ use crate::writing::{refuse_words, write_text};
 use crate::{CommandWords, Ended};
 use orc_board::Gate;
 use orc_fault::NoMemory;
-use orc_feed::{ReadAll, Sink, Source};
+use orc_feed::{ReadAllError, Sink, Source};
 use orc_jobs::MOST_BYTES;
 use orc_options::{Mode, Refused, settings_of};
 use std::alloc::Global;
@@ -86,8 +86,8 @@ pub fn orc_main<R: Threads + Wait + Sync, S: Source, K: Sink, G: Gate + Sync>(
     };
     let bytes = match read_input(alloc, settings.mode, source) {
         Ok(bytes) => bytes,
-        Err(ReadAll::Failed) => return 4,
-        Err(ReadAll::NoMemory) => return 7,
+        Err(ReadAllError::Failed) => return 4,
+        Err(ReadAllError::NoMemory) => return 7,
     };
     let setup = Setup {
         rt,

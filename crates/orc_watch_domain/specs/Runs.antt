@@ -1,8 +1,7 @@
 -- What a watch leaves: the one journal of its cell, and replies that follow it.
 use Rattle.std.specs.Prelude.{List, ℕ, ◌+◌}
-use Rattle.orc_at_rest.specs.Journals.{HasJournal}
-use Rattle.orc_at_rest.specs.Reuse.{LeaksNothing, ReusesSafely}
-use Rattle.orc_heap.specs.declared.seed.Seed.TheVariants.{Empty}
+use Rattle.orc_at_rest.specs.Domains.{empty_seed}
+use Rattle.orc_at_rest.specs.Journals.{EndsWithoutLeak, HasJournal, ReusesRowsSafely}
 use Rattle.orc_pairs_rule.specs.PairsDiscipline.{PairsMay}
 use Rattle.orc_domain.specs.Rest.{rest_journal}
 use Rattle.orc_watch.specs.declared.line.WatchLine.{WatchLine}
@@ -20,7 +19,7 @@ watch_bounds workers rows = cell_bounds rows (1 + workers)
 -- worker's own entries are those that its replies stand for, in file order, and the caller's read is the last entry. No row was used
 -- again while it was linked or held, nor twice; and at the end what was given was freed or is linked.
 pub record WatchedThrough (lines : List WatchLine) (workers rows : ℕ) (f : WatchFinished) : Type 0 where
-  pub journal : HasJournal PairsMay (watch_bounds workers rows) Empty f.cell
+  pub journal : HasJournal PairsMay (watch_bounds workers rows) empty_seed f.cell
   pub replies : WatchRepliesFollow (cell_over (watch_bounds workers rows)) lines workers f.replies.items f.now_left f.now_right (rest_journal f.cell)
-  pub reuse : ReusesSafely (watch_bounds workers rows) (rest_journal f.cell)
-  pub rest : LeaksNothing (watch_bounds workers rows) (rest_journal f.cell)
+  pub reuse : ReusesRowsSafely (watch_bounds workers rows) f.cell
+  pub rest : EndsWithoutLeak (watch_bounds workers rows) f.cell

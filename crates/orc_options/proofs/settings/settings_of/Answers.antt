@@ -26,7 +26,7 @@ returns-in-Err-clause-refuses c e =
       app = app;
       is_command = is;
       refused = λ none. elim (rw words at (c.in-Err.ensures.kinds (command_free app is))) [
-        | inl oom ↦ absurd (c.refused_by.ensures e (c.kind.ensures ∙ oom))
+        | inl oom ↦ absurd (c.refused_by.ensures.words e (c.kind.ensures ∙ oom))
         | inr among ↦ absurd (rw none at among)
       ];
     }
