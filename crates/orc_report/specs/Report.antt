@@ -66,12 +66,13 @@ by_position takes = grouped_by_key (λ (r : TakeReply). r.at) (length takes) tak
 abbrev pub queue_lines : Bool → List Line → List TakeReply → List ℕ
 queue_lines rush lines takes = flat_map (board_line lines) (by_position (takes_with rush takes))
 
--- some line is a Rush
+-- the line is a Rush
 abbrev pub is_rush : Line → Bool
 is_rush (line.Post id op text) = false
 is_rush (line.Rush id op text) = true
 is_rush (line.Drop id) = false
 
+-- some line is
 abbrev pub has_rush : List Line → Bool
 has_rush lines = list_any is_rush lines
 
@@ -79,7 +80,7 @@ has_rush lines = list_any is_rush lines
 abbrev pub if_rush : List Line → List ℕ → List ℕ
 if_rush lines text = if has_rush lines then text else []
 
--- how many nodes a container was given, had reused, and has linked at rest
+-- how many rows a container gave and freed, each as often as it did, and how many are linked at rest
 abbrev pub rest_line : List ℕ → ℕ → ℕ → ℕ → List ℕ
 rest_line name given reused linked = name ++ codes " given " ++ decimal given ++ codes " reused " ++ decimal reused ++ codes " linked "
     ++ decimal linked ++ codes "\n"

@@ -15,7 +15,7 @@ use orc_fault::NoMemory;
 use orc_jobs::{Line, Lines, Text};
 use std::alloc::{AllocError, Global};
 
-/// How many nodes each container was given, how many of these had been freed before, and how many are linked at rest.
+/// How many rows each container gave and freed, each as often as it did, and how many are linked at rest.
 #[derive(Clone, Copy, Drop)]
 pub struct RestNumbers {
     pub queue_given: u64,
@@ -125,7 +125,7 @@ fn takes_with(alloc: Global, rush: bool, takes: &[TakeReply]) -> Result<Vec<Take
 }
 
 // These take replies, that of position 0 first.
-pub(crate) fn in_position_order(mut takes: Vec<TakeReply>) -> Result<Vec<TakeReply>, AllocError>
+fn in_position_order(mut takes: Vec<TakeReply>) -> Result<Vec<TakeReply>, AllocError>
     requires { AllByRecursion (λ r. r.at < length takes.items) takes.items }
     ensures { IfOk result (λ v. v.items ≡ by_position takes.items) }
 {

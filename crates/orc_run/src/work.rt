@@ -1,6 +1,6 @@
 //! The work on both queues, whatever the set.
 
-ghost use Rattle.std.specs.Prelude.{◌≡◌, ◌<◌, ◌≤◌, ℕ, [], All, IfOk, length, slice_index_or};
+ghost use Rattle.std.specs.Prelude.{◌≡◌, ◌<◌, ℕ, [], All, IfOk, length, slice_index_or};
 ghost use Rattle.orc_jobs.specs.GoodLines.{AreGood};
 ghost use Rattle.orc_at_rest.specs.Domains.{agents_of};
 ghost use Rattle.orc_run.specs.Over.{WorkedOver};
