@@ -2,8 +2,9 @@
  *
  * A container has a fixed number of rows. A row is one node at a time, and is given again once nothing links that node
  * and nobody holds it. Who calls at the same time are agents, 1 to 16 of them, each with a pass of its own: a thread
- * calls with its pass, and with no other. A make fills one pass for each agent and takes all the memory there is to
- * take. Every call returns, after a bounded number of tries; none takes a lock, waits or starts a thread.
+ * calls with its pass, and with no other. A make fills one pass for each agent and takes the memory of the container.
+ * Every call returns, after a bounded number of tries; none waits or starts a thread. None but make, drop and close calls
+ * malloc or free, which may lock; the last close takes a list of the passes.
  *
  *     struct mooringakee_pass passes[2] = {{0}};
  *     if (mooringakee_queue_make(1024, 64, passes, 2) == MOORINGAKEE_OK)
@@ -28,7 +29,7 @@
  *     and what it owned would be lost.
  *
  * Values and keys are numbers of 64 bits without a limit. Where a value is a pointer, what it points to stays the
- * caller's: no container reads or frees it.
+ * caller's: no container reads or frees it. What a thread wrote before it put a value is seen by who takes that value.
  *
  * What is proved of these functions, and what is not, stands in docs/C.md. */
 #ifndef MOORINGAKEE_H
@@ -51,7 +52,7 @@ struct mooringakee_pass {
 /* What the functions answer. */
 enum mooringakee_code {
     MOORINGAKEE_OK = 0,        /* done */
-    MOORINGAKEE_AGAIN = 1,     /* all turns were lost to calls of others: call again */
+    MOORINGAKEE_AGAIN = 1,     /* a link moved in each turn: call again; with 2 turns or more never where nobody disturbs */
     MOORINGAKEE_FULL = 2,      /* no row was free */
     MOORINGAKEE_POSITIONS = 3, /* 2^62 values were put, so no more can be */
     MOORINGAKEE_EMPTY = 4,     /* the queue was empty */
@@ -60,10 +61,10 @@ enum mooringakee_code {
     MOORINGAKEE_NO_PASS = 7,   /* the pass is empty: zeroed or dropped */
     MOORINGAKEE_LIVE = 8,      /* a pass for a make is live */
     MOORINGAKEE_NULL = 9,      /* a null pointer */
-    MOORINGAKEE_KIND = 10,     /* a queue's call with a pass of a set, or the other way round; or `buckets` of another one */
-    MOORINGAKEE_SPENT = 11,    /* a row has been given or linked as often as can be */
+    MOORINGAKEE_KIND = 10,     /* a queue's call with a pass of a set, or the other way round; or mooringakee_buckets with a pass of another kind */
+    MOORINGAKEE_SPENT = 11,    /* a row has been linked as often as can be */
     MOORINGAKEE_OTHERS = 12,   /* other passes of the container are live */
-    MOORINGAKEE_KEPT = 13      /* rows are left that this pass had to work through */
+    MOORINGAKEE_KEPT = 13      /* rows are left that this pass had to work through; of a close, a pass was missing */
 };
 
 enum {
@@ -101,7 +102,7 @@ int32_t mooringakee_set_make(uint32_t rows, uint32_t buckets, uint64_t turns, st
                              size_t agents);
 
 /* Makes an empty split-ordered set over 2 to 65,535 rows, which begins with one bucket and doubles them as keys come, up to
- * `buckets`: 1, 2, 4 and so on, at most 256. Fills the passes as mooringakee_queue_make does. Besides the keys, a row is taken
+ * `buckets`, a power of two up to 256. Fills the passes as mooringakee_queue_make does. Besides the keys, a row is taken
  * by each bucket but the first once it is used, and by the number of buckets once they were doubled; they stay so to the end.
  * OK; SHAPE, NO_MEMORY, LIVE, NULL, where nothing was made. */
 int32_t mooringakee_split_set_make(uint32_t rows, uint32_t buckets, uint64_t turns, struct mooringakee_pass *passes,
@@ -125,7 +126,7 @@ int32_t mooringakee_buckets(struct mooringakee_pass *pass, uint32_t *buckets);
 
 /* Works through the rows that wait for this pass, so that they may be given again. Each call on the container does so at
  * its end.
- * OK; KEPT, where rows are left since others called meanwhile; NO_PASS, NULL. */
+ * OK; KEPT, where rows may be left since others called meanwhile; NO_PASS, NULL. */
 int32_t mooringakee_settle(struct mooringakee_pass *pass);
 
 /* Tells how many rows the pass has still to work through.
@@ -134,7 +135,8 @@ int32_t mooringakee_backlog(struct mooringakee_pass *pass, uint32_t *rows);
 
 /* Settles, and empties the pass. The container stays, with what is in it, as long as it has passes: the last one that is
  * dropped or closed frees it.
- * OK; KEPT, where the pass was dropped all the same, and its rows are lost to the other passes; NO_PASS, NULL. */
+ * OK; KEPT, where the pass was dropped all the same, and its rows are lost to the other passes; NO_PASS, NULL. After OK,
+ * too, another agent in the middle of a call may hand up to eight rows to the dropped one; they are lost until the end. */
 int32_t mooringakee_drop(struct mooringakee_pass *pass);
 
 /* What a container tells of its rows at its end. As many rows were given as were freed and are linked. */
@@ -149,9 +151,9 @@ struct mooringakee_counts {
 /* Empties the pass. Where it is the last live one of its container, works through all that any pass had left, tells how
  * many rows were given, freed and are still linked, and frees the container. All passes may be closed, by several threads at
  * once: the last one, and that one alone, is told.
- * OK, where it was the last one. OTHERS, where other passes were live. KEPT and NO_MEMORY, where it was the last one, but not
- * all passes were there any more, or malloc gave none: nothing is told. In each of these cases the pass is empty. NO_PASS,
- * NULL. */
+ * OK, where it was the last one. OTHERS, where other passes were live. NO_MEMORY, where it was the last one, but malloc gave
+ * none; KEPT, where a pass was missing, which isn't known to come: nothing is told, and the container is freed all the same.
+ * In each of these cases the pass is empty. NO_PASS, NULL. */
 int32_t mooringakee_close(struct mooringakee_pass *pass, struct mooringakee_counts *counts);
 
 /* The same as mooringakee_drop. */

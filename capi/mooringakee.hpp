@@ -221,7 +221,7 @@ public:
         : left_(detail::raw_pass::made(
               agents, [=](mooringakee_pass *all) { return mooringakee_set_make(rows, buckets, turns, all, agents); })) {}
 
-    // A split-ordered set, which doubles its one bucket as keys come, up to so many: 1, 2, 4 and so on, at most 256.
+    // A split-ordered set, which doubles its one bucket as keys come, up to so many, a power of two up to 256.
     static set split_ordered(std::uint32_t rows, std::uint32_t buckets, std::size_t agents,
                              std::uint64_t turns = MOORINGAKEE_TURNS) {
         return set(detail::raw_pass::made(

@@ -2,7 +2,8 @@
 //!
 //! A container hands out its passes, one for each agent, 1 to 16. Each thread calls with a pass of its own: a pass goes
 //! from thread to thread as a value, and a call takes it as `&mut`. A container takes all its memory when it is made;
-//! only the boxes of the queue's values come and go. No call waits or takes a lock.
+//! only the boxes of the queue's values come and go, and the last pass that is closed takes a list of the passes. No call
+//! waits.
 //!
 //! ```
 //! use mooringakee::Queue;

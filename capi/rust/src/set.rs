@@ -148,7 +148,7 @@ impl fmt::Debug for SetPass {
 pub enum NotInserted {
     /// No row is free.
     Full,
-    /// A row has been given or linked as often as can be.
+    /// A row has been linked as often as can be.
     Spent,
 }
 
