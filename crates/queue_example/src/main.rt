@@ -3,8 +3,8 @@
 
 ghost use Rattle.std.specs.Prelude.{◌≡◌, ◌<◌, ℕ, All, length, slice_index_or, true};
 
-use orc_containers::{new_queue, queue_at_rest};
-use orc_domain::{OrcDomain, OrcPass};
+use orc_containers::{Domain, new_queue, queue_at_rest};
+use orc_domain::OrcDomain;
 use orc_fifo_rule::Fifo;
 use orc_history::SharedQueue;
 use orc_queue::Queue;
@@ -12,12 +12,6 @@ use std::alloc::Global;
 use std::process::ExitCode;
 use std::sync::atomic::{AtomicU64, Ordering};
 use std::thread::{Threads, for_each_mut};
-
-// A queue whose rows are given again.
-type JobQueue = Queue<OrcDomain<Fifo>>;
-
-// A thread's pass to it.
-type JobPass = OrcPass<Fifo>;
 
 // What all threads did: the sums of the jobs that were put, and of those that were taken, and how many jobs a thread took
 // from a lower position than the job before.
@@ -101,9 +95,10 @@ where
 }
 
 // Whether the passes are in order of agent.
-fn are_in_order(queue: &JobQueue, passes: &[JobPass]) -> bool
-    ensures { result ≡ true → (i : ℕ) (p : _) → i < length passes.now
-        → ⟦<JobQueue as SharedQueue>⟧.agent_of queue.now (slice_index_or passes.now i p) ≡ i }
+fn are_in_order<Q: SharedQueue>(queue: &Q, passes: &[Q::Pass]) -> bool
+    requires { All (λ p. Q.usable queue.now p) passes.now }
+    ensures { result ≡ true → (i : ℕ) (p : Q.Pass) → i < length passes.now
+        → Q.agent_of queue.now (slice_index_or passes.now i p) ≡ i }
 {
     for place in 0..passes.len() {
         if queue.agent(&passes[place]) as usize != place {
@@ -113,9 +108,15 @@ fn are_in_order(queue: &JobQueue, passes: &[JobPass]) -> bool
     true
 }
 
-// Makes a queue over 64 rows, lets two agents work, and brings the queue's domain to rest.
-fn run<R: Threads + Sync>(rt: &R, alloc: Global) -> Option<Ending> {
-    let Ok((queue, mut passes)) = new_queue::<OrcDomain<Fifo>>(alloc, 64, 2) else {
+// Makes a queue over 64 rows of any domain, lets two agents work, and brings the domain to rest.
+fn run<L: Domain<Rule = Fifo> + Sync + Drop, R: Threads + Sync>(
+    rt: &R,
+    alloc: Global,
+) -> Option<Ending>
+where
+    L::Pass: Send,
+{
+    let Ok((queue, mut passes)) = new_queue::<L>(alloc, 64, 2) else {
         return None;
     };
     let work = Work::new();
@@ -126,12 +127,12 @@ fn run<R: Threads + Sync>(rt: &R, alloc: Global) -> Option<Ending> {
     Some(Ending {
         all_taken: work.put.load(Ordering::SeqCst) == work.taken.load(Ordering::SeqCst),
         in_order: work.misplaced.load(Ordering::SeqCst) == 0,
-        linked: queue_at_rest(queue, passes).linked(),
+        linked: L::counts(&queue_at_rest(queue, passes)).linked,
     })
 }
 
 fn main(rt: HostRuntime) -> ExitCode {
-    let Some(outcome) = run(&rt, rt.alloc()) else {
+    let Some(outcome) = run::<OrcDomain<Fifo>, _>(&rt, rt.alloc()) else {
         return ExitCode::FAILURE;
     };
     let Ending {
