@@ -1,6 +1,7 @@
 //! What each domain offers from its making to its rest.
 
 ghost use Rattle.std.specs.Prelude.{◌≡◌, ◌+◌, ℕ, [], All, IfOk, List};
+ghost use mathlib.Core.List.{IsPrefix};
 ghost use Rattle.orc_any_domain.specs.Domains.{AreAllIdle, heap_numbers};
 ghost use Rattle.orc_heap.specs.Seeds.{SeedAllowed, opening_events};
 ghost use Rattle.orc_words.specs.Bounds.{Bounds, bounds_of};
@@ -28,6 +29,9 @@ pub trait Domain: Links {
 
     // this is what is left of the domain at rest, which had these passes
     ghost rests: { Self → List Self.Pass → Self.Rest → Type 0 };
+
+    // the steps that the domain at rest has shown
+    ghost left: { Self.Rest → List Self.Step };
 
     /// A domain of this shape, and one pass an agent, in order. Its journal begins with the seed's events, of agent 0, and no pass
     /// has seen more.
@@ -61,6 +65,10 @@ pub trait Domain: Links {
     fn counts(rest: &Self::Rest) -> RowCounts
         ensures balance { (domain : Self) (passes : List Self.Pass) → rests domain passes rest.now
             → result.given ≡ result.reused + result.linked };
+
+    // what each pass had seen is a beginning of what is left
+    ghost goes_on: { (d : Self) (passes : List Self.Pass) (r : Self.Rest) → rests d passes r
+        → All (λ p. IsPrefix (Self.journal p) (left r)) passes };
 
     // the heap's numbers, the agents and the rows are those of the sizes
     ghost numbers_are: { (d : Self) → Self.numbers d ≡ heap_numbers (bounds d) };

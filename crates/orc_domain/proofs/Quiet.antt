@@ -31,6 +31,11 @@ module _ {N : Type 0} (b : Bounds) where
       ap (project b) (sym (append_assoc j (gate_looks a n) (does a (GateLook n) None ∷ [])))
       ∙ (one_look (j ++ gate_looks a n) a n ∙ looks_quiet j a n)
 
+-- what goes on to this list goes on to what comes after it
+pub goes_on_by : {N : Type 0} (before whole after looks : List (Step N)) → after ≡ whole ++ looks → IsPrefix before whole → IsPrefix before after
+goes_on_by before whole after looks is p =
+    (p.0 ++ looks, sym (append_assoc before p.0 looks) ∙ (ap (λ z. z ++ looks) p.1 ∙ sym is))
+
 module _ {D N : Type 0} {d : discipline.Ghosts D N} {m : machine.Ghosts Reclaiming N (MachineShape N) Request (Step N) Agent Agent} where
   first_seen : (ps : List (OrcPass D N d m)) (seen : List (Step N)) → 0 < length ps
       → All (λ p. journal_of p ≡ seen) ps → whole_journal ps ≡ seen
@@ -42,8 +47,6 @@ module _ {D N : Type 0} {d : discipline.Ghosts D N} {m : machine.Ghosts Reclaimi
       → 0 < length ps → All (λ p. journal_of p ≡ seen) ps → IsPrefix (whole_journal ps) (whole_journal qs)
       → project b (whole_journal qs) ≡ project b seen → after ≡ whole_journal qs ++ gate_looks 0 n → GoesOnQuietly b seen after
   rests_quietly b ps qs seen after n some same later quiet is = record {
-    later =
-        let p = subst (λ z. IsPrefix z (whole_journal qs)) (first_seen ps seen some same) later in
-        (p.0 ++ gate_looks 0 n, sym (append_assoc seen p.0 (gate_looks 0 n)) ∙ (ap (λ z. z ++ gate_looks 0 n) p.1 ∙ sym is));
+    later = goes_on_by seen (whole_journal qs) after (gate_looks 0 n) is (subst (λ z. IsPrefix z (whole_journal qs)) (first_seen ps seen some same) later);
     quiet = ap (project b) is ∙ (looks_quiet b (whole_journal qs) 0 n ∙ quiet);
   }

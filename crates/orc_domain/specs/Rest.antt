@@ -55,7 +55,7 @@ module _ {D N : Type 0} {d : discipline.Ghosts D N} {m : machine.Ghosts Reclaimi
     pub counts_are : CountsOf (domain_bounds domain) (rest_journal rest) counts
 
   -- this is the domain at rest, which had these passes: its board has shown one whole journal, in which what was given was freed or
-  -- is out, and on which what all passes had seen goes on without an event
+  -- is out, which goes on from what each pass had seen, and without an event from what all had seen
   pub record IsRestOf (domain : OrcDomain D N) (passes : List (OrcPass D N d m))
       (r : OrcRest D N d m) : Type 0 where
     pub domain_is : rest_domain r ≡ domain
@@ -63,4 +63,5 @@ module _ {D N : Type 0} {d : discipline.Ghosts D N} {m : machine.Ghosts Reclaimi
     pub at_rest : IsAtRest (run_of (domain_bounds domain) (rest_journal r))
     pub balance : given (new_machine (domain_bounds domain)) (plain (rest_journal r))
         ≡ reused (plain (rest_journal r)) + rows_out (run_of (domain_bounds domain) (rest_journal r))
+    pub heard : All (λ p. IsPrefix (journal_of p) (rest_journal r)) passes
     pub journal : (seen : List (Step N)) → All (λ p. journal_of p ≡ seen) passes → GoesOnQuietly (domain_bounds domain) seen (rest_journal r)

@@ -8,7 +8,7 @@ ghost use Rattle.orc_machine_board.specs.Rules.{run_of};
 ghost use Rattle.orc_machine_rest.specs.Ends.{CountsOf};
 ghost use Rattle.orc_domain.specs.{
   Ends.{AddsNoEvents, AreAll, SawAll, whole_journal},
-  Passes.{domain_bounds, domain_opening, seat_of},
+  Passes.{domain_bounds, domain_opening, journal_of, seat_of},
   Rest.{IsRestOf, rest_domain, rest_journal},
 };
 ghost use Rattle.orc_rest.specs.Rest.{IsAtRest};
@@ -29,6 +29,7 @@ fn drain_passes<D: Discipline>(domain: &OrcDomain<D>, passes: &mut Vec<OrcPass<D
     ensures own { SawAll passes.new.items }
     ensures rest { IsAtRest (run_of (domain_bounds domain.now) (whole_journal passes.new.items)) }
     ensures later { IsPrefix (whole_journal passes.old.items) (whole_journal passes.new.items) }
+    ensures heard { All (λ p. IsPrefix (journal_of p) (whole_journal passes.new.items)) passes.old.items }
     ensures quiet { AddsNoEvents domain.now passes.old.items passes.new.items }
 {
     domain.drain_all(passes.as_mut_slice());
@@ -40,6 +41,8 @@ impl<D: Discipline> Domain for OrcDomain<D> {
     ghost bounds = { λ d. domain_bounds d };
 
     ghost rests = { λ d passes r. IsRestOf d passes r };
+
+    ghost left = { λ r. rest_journal r };
 
     fn make(alloc: Global, shape: &Shape, seed: Seed<D::Note>) -> MadeOrcDomain<D>
         requires holds { D.holds (heap_numbers (bounds_of shape.now)) [] }
@@ -72,6 +75,8 @@ impl<D: Discipline> Domain for OrcDomain<D> {
     {
         rest.counts
     }
+
+    ghost goes_on = { λ d passes r h. h.heard };
 
     ghost numbers_are = { λ d. refl };
 

@@ -12,4 +12,5 @@ pub mod Giving
 pub mod Learning
 pub mod Making
 pub mod Draining
+pub mod Hearing
 pub mod Resting

@@ -1,5 +1,5 @@
 -- Domains at rest: one pass has taken in all others.
-use Rattle.std.specs.Prelude.{List, ℕ, ◌<◌, ◌≡◌, ◌⊎◌}
+use Rattle.std.specs.Prelude.{All, List, ℕ, ◌<◌, ◌≡◌, ◌⊎◌}
 use Rattle.std.specs.List.{AllByRecursion}
 use Rattle.orc_heap.specs.Allowed.{events_by}
 use Rattle.orc_heap.specs.declared.discipline.Discipline as discipline
@@ -12,8 +12,9 @@ use Rattle.orc_plain_board.specs.declared.machine.Plain.{Plain}
 use Rattle.orc_plain_board.specs.declared.machine.PlainOp.{PlainOp}
 use Rattle.orc_plain_board.specs.declared.machine.PlainStep.{PlainStep}
 use Rattle.orc_plain_board.specs.declared.shape.PlainShape.{PlainShape}
-use Rattle.orc_plain_domain.specs.Passes.{IsPassOf, domain_bounds, seat_of}
+use Rattle.orc_plain_domain.specs.Passes.{IsPassOf, domain_bounds, journal_of, seat_of}
 use Rattle.orc_plain_domain.specs.declared.domain.PlainDomain.{PlainDomain}
+use Rattle.orc_plain_domain.specs.declared.domain.PlainPass.{PlainPass}
 use Rattle.orc_plain_domain.specs.declared.domain.PlainRest.{PlainRest}
 
 module _ {N : Type 0} where
@@ -43,7 +44,10 @@ module _ {D N : Type 0} {d : discipline.Ghosts D N} {m : machine.Ghosts Plain N 
     pub belongs : IsPassOf r.domain r.pass
     pub all : CoversAll (domain_bounds r.domain).agents (shows r.domain.board r.pass.pass)
 
-  -- this is the domain at rest, whose board has shown one whole list of events
-  pub record IsRestOf (domain : PlainDomain D N) (r : PlainRest D N d m) : Type 0 where
+  -- this is the domain at rest, which had these passes: its board has shown one whole list of events, which goes on from what each
+  -- pass had seen
+  pub record IsRestOf (domain : PlainDomain D N) (passes : List (PlainPass D N (PlainShape N) PlainOp (PlainStep N) (Unit {0}) (Unit {0}) d m))
+      (r : PlainRest D N d m) : Type 0 where
     pub domain_is : rest_domain r ≡ domain
     pub shown : IsShown r
+    pub heard : All (λ p. IsPrefix (journal_of p) (rest_journal r)) passes

@@ -1,11 +1,12 @@
 //! The domain from its making to its rest, as each domain offers it.
 
 ghost use Rattle.std.specs.Prelude.{◌≡◌, ◌+◌, [], All, IfOk, refl};
+ghost use mathlib.Core.List.{IsPrefix};
 ghost use Rattle.orc_any_domain.specs.Domains.{AreAllIdle, heap_numbers};
 ghost use Rattle.orc_heap.specs.{Moves.{gives_in}, Seeds.{SeedAllowed, opening_events}};
 ghost use Rattle.orc_plain_domain.specs.{
-  Ends.{AreAll, FirstSawAll},
-  Passes.{domain_bounds, domain_opening, seat_of},
+  Ends.{AreAll, FirstSawAll, first_seen},
+  Passes.{domain_bounds, domain_opening, journal_of, seat_of},
   Rest.{IsRestOf, rest_journal},
 };
 ghost use Rattle.orc_words.specs.Bounds.{bounds_of};
@@ -22,6 +23,7 @@ fn drain_passes<D: Discipline>(domain: &PlainDomain<D>, passes: &mut Vec<PlainPa
     requires { AreAllIdle ⟦<PlainDomain<D> as Links>⟧ domain.now passes.old.items }
     ensures all { AreAll domain.now passes.new.items }
     ensures own { FirstSawAll domain.now passes.new.items }
+    ensures heard { All (λ p. IsPrefix (journal_of p) (first_seen domain.now passes.new.items)) passes.old.items }
 {
     domain.drain_all(passes.as_mut_slice());
 }
@@ -31,7 +33,9 @@ impl<D: Discipline> Domain for PlainDomain<D> {
 
     ghost bounds = { λ d. domain_bounds d };
 
-    ghost rests = { λ d passes r. IsRestOf d r };
+    ghost rests = { λ d passes r. IsRestOf d passes r };
+
+    ghost left = { λ r. rest_journal r };
 
     fn make(alloc: Global, shape: &Shape, seed: Seed<D::Note>) -> MadePlainDomain<D>
         requires holds { D.holds (heap_numbers (bounds_of shape.now)) [] }
@@ -51,7 +55,7 @@ impl<D: Discipline> Domain for PlainDomain<D> {
 
     fn end(self, passes: Vec<PlainPass<D>>) -> PlainRest<D>
         requires { AreAllIdle ⟦<PlainDomain<D> as Links>⟧ self passes.items }
-        ensures { IsRestOf self result }
+        ensures { IsRestOf self passes.items result }
     {
         let mut all = passes;
         drain_passes(&self, &mut all);
@@ -70,6 +74,8 @@ impl<D: Discipline> Domain for PlainDomain<D> {
             linked: rest.linked(),
         }
     }
+
+    ghost goes_on = { λ d passes r h. h.heard };
 
     ghost numbers_are = { λ d. refl };
 

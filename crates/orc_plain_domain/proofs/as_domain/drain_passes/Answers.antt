@@ -1,6 +1,8 @@
--- The passes are all passes of their domain, and idle.
-use Rattle.std.proofs.Common.{subst, sym}
-use Rattle.orc_plain_domain.specs.Ends.{AreAll, AreIdle}
+-- The passes are all passes of their domain, and idle, and each has been heard.
+use Rattle.std.proofs.Common.{rules, subst, sym}
+use Rattle.std.proofs.lemmas.List.{places, with_items_is}
+use Rattle.orc_plain_domain.specs.Ends.{AllHear, AreAll, AreIdle}
+use Rattle.orc_plain_domain.proofs.Hearing.{each_heard}
 use Rattle.orc_plain_domain.proofs.as_domain.drain_passes.Goals as goal
 
 pub drain_all-requires-clause-all : goal.drain_all-requires-clause-all
@@ -13,3 +15,11 @@ drain_all-requires-clause-all g c = subst (AreAll c.args.domain.now) (sym c.as_m
 pub drain_all-requires-clause-idle : goal.drain_all-requires-clause-idle
 drain_all-requires-clause-idle g c =
     subst (AreIdle c.args.domain.now) (sym c.as_mut_slice.ensures.value) (λ i p low. (c.requires.each i p low).1)
+
+pub returns-clause-heard : goal.returns-clause-heard
+returns-clause-heard g c =
+    let before = c.args.passes.now.items in
+    let heard : AllHear c.args.domain.now before c.drain_all.new.passes =
+    subst (λ ps. AllHear c.args.domain.now ps c.drain_all.new.passes) c.as_mut_slice.ensures.value c.drain_all.ensures.learned in
+    rw (with_items_is c.args.passes.now c.drain_all.new.passes (search (rules, places)))
+    (each_heard c.args.domain.now before c.drain_all.new.passes (λ i p low. (c.requires.each i p low).0) heard)

@@ -1,4 +1,4 @@
-use Rattle.orc_domain.proofs.Quiet.{rests_quietly}
+use Rattle.orc_domain.proofs.Quiet.{goes_on_by, rests_quietly}
 use Rattle.orc_domain.proofs.Resting.{all_passes, some_passes}
 use Rattle.orc_domain.specs.Passes.{domain_bounds}
 use Rattle.orc_domain.proofs.as_domain.OrcDomainDomain.end.Goals as goal
@@ -12,6 +12,7 @@ returns g c =
       shown = c.rest.ensures.shown;
       at_rest = c.rest.ensures.rest;
       balance = c.rest.ensures.balance;
+      heard = λ i p low. goes_on_by _ _ _ _ c.rest.ensures.journal (c.drain_passes.ensures.heard i p low);
       journal = λ seen same.
           rests_quietly (domain_bounds domain) c.args.passes.items c.drain_passes.new.passes.items seen _ (domain_bounds domain).rows
           (some_passes domain c.args.passes.items all) same c.drain_passes.ensures.later (c.drain_passes.ensures.quiet seen same) c.rest.ensures.journal;
