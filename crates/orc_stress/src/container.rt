@@ -7,7 +7,7 @@ use crate::load::Ask;
 use crate::tally::Answer;
 
 /// What a call did.
-#[derive(Clone, Copy, PartialEq, Eq, Drop)]
+#[derive(Clone, Copy, Drop)]
 pub enum Outcome {
     /// A job went in, with its position.
     Put(u64, u64),

@@ -97,6 +97,34 @@ impl Ask {
             ask => ask,
         }
     }
+
+    // The key that a call of a set names.
+    pub(crate) fn key(&self) -> Option<u64> {
+        match self {
+            Ask::Give(key)
+            | Ask::GiveAndStop(key)
+            | Ask::Take(key)
+            | Ask::TakeAndStop(key)
+            | Ask::Read(key) => Some(*key),
+            Ask::Left(_) | Ask::Right(_) | Ask::Both(_) | Ask::See => None,
+        }
+    }
+
+    // Whether it puts something in.
+    pub(crate) fn gives(&self) -> bool {
+        match self {
+            Ask::Give(_) | Ask::GiveAndStop(_) => true,
+            _ => false,
+        }
+    }
+
+    // Whether it takes something out.
+    pub(crate) fn takes(&self) -> bool {
+        match self {
+            Ask::Take(_) | Ask::TakeAndStop(_) => true,
+            _ => false,
+        }
+    }
 }
 
 // Of how many calls one stops, and which: of calls that put and take in turn it puts.

@@ -116,7 +116,7 @@ fn find_keys<C: Container>(container: &C, p: &mut C::Pass, plan: &Plan) -> Rest
     let mut agree = true;
     let mut swept = plan.sweeps;
     for key in 0..u64::from(plan.load.keys) {
-        if container.call(p, &Ask::Read(key)) == Outcome::Found {
+        if let Outcome::Found = container.call(p, &Ask::Read(key)) {
             items.add(key, 0);
         } else if plan.sweeps {
             let tried = insert_and_remove(container, p, key);
@@ -160,10 +160,13 @@ fn take_jobs<C: Container>(container: &C, p: &mut C::Pass, plan: &Plan, waiting:
         let follows = seen.follows(&outcome);
         in_order = in_order && follows;
     }
-    let last = take_one(container, p);
+    let is_empty = match take_one(container, p) {
+        Outcome::Empty => true,
+        _ => false,
+    };
     Rest {
         items,
-        in_order: in_order && last == Outcome::Empty,
+        in_order: in_order && is_empty,
         rows: DUMMY,
         ..Rest::new()
     }

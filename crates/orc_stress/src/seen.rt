@@ -65,40 +65,43 @@ impl Own {
             .wrapping_add(FIRST)
     }
 
+    // The number of the key that a call of a set names, among the agent's own.
+    fn place_of(&self, ask: &Ask) -> Option<u64> {
+        let (owner, place) = self.owner(ask.key()?)?;
+        if owner == self.agent {
+            Some(place)
+        } else {
+            None
+        }
+    }
+
     // Whether an answer about a key of its own is the one that the agent's calls before this one have left; that of a queue's or a
     // cell's call is about none. A refused call has changed nothing.
     pub(crate) fn is_true(&mut self, ask: &Ask, outcome: &Outcome) -> bool {
-        let (Ask::Give(key)
-        | Ask::GiveAndStop(key)
-        | Ask::Take(key)
-        | Ask::TakeAndStop(key)
-        | Ask::Read(key)) = ask
-        else {
+        let Some(place) = self.place_of(ask) else {
             return true;
-        };
-        let place = match self.owner(*key) {
-            Some((owner, place)) if owner == self.agent => place,
-            _ => return true,
         };
         let bit = 1 << (place % 64);
         let word = &mut self.are_in[(place / 64 % 16) as usize];
         let was_in = *word & bit != 0;
-        match (ask, outcome) {
-            (Ask::Give(key) | Ask::GiveAndStop(key), Outcome::Inserted(put)) => {
-                *word |= bit;
-                !was_in && key == put
-            }
-            (Ask::Take(key) | Ask::TakeAndStop(key), Outcome::Removed(taken)) => {
-                *word &= !bit;
-                was_in && key == taken
-            }
-            (Ask::Give(_) | Ask::GiveAndStop(_), Outcome::Unchanged)
-            | (Ask::Read(_), Outcome::Found) => was_in,
-            (Ask::Take(_) | Ask::TakeAndStop(_) | Ask::Read(_), Outcome::Unchanged) => !was_in,
-            (_, Outcome::Refused(_) | Outcome::Put(..) | Outcome::Taken(..) | Outcome::Empty) =>
-                true,
-            _ => false,
+        match outcome {
+            Outcome::Inserted(_) => *word |= bit,
+            Outcome::Removed(_) => *word &= !bit,
+            _ => {}
         }
+        answers(ask, was_in, outcome)
+    }
+}
+
+// Whether a call with a key that is in, or isn't, can have this outcome.
+fn answers(ask: &Ask, was_in: bool, outcome: &Outcome) -> bool {
+    match outcome {
+        Outcome::Inserted(key) => !was_in && ask.gives() && ask.key() == Some(*key),
+        Outcome::Removed(key) => was_in && ask.takes() && ask.key() == Some(*key),
+        Outcome::Found => was_in && !ask.gives() && !ask.takes(),
+        Outcome::Unchanged => was_in == ask.gives(),
+        Outcome::Refused(_) | Outcome::Put(..) | Outcome::Taken(..) | Outcome::Empty => true,
+        Outcome::Published(..) | Outcome::Saw(..) => false,
     }
 }
 

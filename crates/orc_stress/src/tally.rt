@@ -9,7 +9,7 @@ use crate::seen::Seen;
 
 /// How a call ended: by an answer, one that there was no job to take among them apart, or refused. `Again`: its turns were used
 /// up; `NoNode`: no row was left; `Spent`: a row was linked too often; `Positions`: a queue's positions were used up.
-#[derive(Clone, Copy, PartialEq, Eq)]
+#[derive(Clone, Copy)]
 pub enum Answer {
     Ok,
     Empty,
