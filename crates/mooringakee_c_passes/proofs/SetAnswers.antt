@@ -5,16 +5,11 @@ use Rattle.orc_history.specs.SetHistory.{IsLegalSet, agent_of_set_entry}
 use Rattle.orc_history.specs.declared.set.ListRefused.{ListRefused}
 use Rattle.orc_history.specs.declared.set.SetEntry.{SetEntry}
 use Rattle.orc_history.specs.declared.set.SharedSet.{Ghosts as SetOf}
-use Rattle.mooringakee_c_passes.specs.SetCalls.{SetCallView, view_over}
+use Rattle.mooringakee_c_passes.specs.SetCalls.{view_over}
 use Rattle.mooringakee_c_passes.specs.Views.{GoesOn, RefusesCall}
 
-module _ {S P J : Type 0} (m : SetOf S P J) (turns : ℕ) (old new : P) where
-  -- what is told of a set is told of the same one by its owner's name
-  pub named : (x y : S) → x ≡ y → (Claim : SetCallView → SetCallView → Type 0) → Claim (view_over m x turns old) (view_over m x turns new)
-      → Claim (view_over m y turns old) (view_over m y turns new)
-  named x y is Claim = subst (λ (s : S). Claim (view_over m s turns old) (view_over m s turns new)) is
-
-  module _ (set : S) (legal : IsLegalSet (m.history set (m.journal new))) (agent : m.agent_of set new ≡ m.agent_of set old) where
+module _ {S P J : Type 0} (m : SetOf S P J) (turns : ℕ) (old new : P) (set : S) (legal : IsLegalSet (m.history set (m.journal new))) (agent : m.agent_of set new ≡ m.agent_of set old)
+  where
     pub entered : (own : List SetEntry)
         → Adds agent_of_set_entry (m.crowd set) (m.agent_of set old) (m.history set (m.journal old)) own (m.history set (m.journal new))
         → GoesOn (view_over m set turns old) own (view_over m set turns new)

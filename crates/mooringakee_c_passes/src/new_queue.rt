@@ -5,16 +5,30 @@ ghost use Rattle.orc_fifo_rule.specs.{declared.fifo.{Fifo.{Fifo}, FifoNote.{Fifo
 ghost use Rattle.orc_domain.specs.{Passes.{domain_bounds}, declared.domain.OrcDomain.{OrcDomain}};
 ghost use Rattle.orc_shared_words.specs.Lists.{EachAt};
 ghost use Rattle.orc_words.specs.Bounds.{bounds_of};
-ghost use Rattle.mooringakee_c_passes.specs.Making.{IsNewQueueSeat};
+ghost use Rattle.mooringakee_c_passes.specs.{Making.{IsNewQueueSeat}, declared.seat.Seat.{Seat}};
 
+use crate::ending::Places;
+use crate::on_domain::ReclaimingQueue;
+use crate::queue::QueuePlace;
 use crate::seat::Seat;
-use crate::seating::{new_domain, seat_all};
+use crate::seating::{HasSeats, new_domain, seat_all};
+use orc_domain::OrcPass;
 use orc_fault::NoMemory;
-use orc_fifo_rule::FifoNote;
+use orc_fifo_rule::{Fifo, FifoNote};
 use orc_heap::Seed;
 use orc_queue::Queue;
 use orc_words::Shape;
 use std::alloc::Global;
+
+impl HasSeats<Places<Fifo>, OrcPass<Fifo>> for ReclaimingQueue {
+    ghost seat_of = { λ place. Seat.Queue place };
+
+    fn seat(place: QueuePlace) -> Seat
+        ensures { result ≡ Seat.Queue place }
+    {
+        Seat::Queue(place)
+    }
+}
 
 /// A new queue of this shape, as a place for each agent, in order.
 pub fn queue_seats(alloc: Global, shape: &Shape, turns: u64) -> Result<Vec<Box<Seat>>, NoMemory>
@@ -28,12 +42,6 @@ pub fn queue_seats(alloc: Global, shape: &Shape, turns: u64) -> Result<Vec<Box<S
         begin: FifoNote::Begin,
     };
     let (domain, passes, places) = new_domain(alloc, shape, seed)?;
-    seat_all(
-        alloc,
-        Queue::new(domain),
-        places,
-        passes,
-        turns,
-        &|place| Seat::Queue(place),
-    )
+    let queue = Queue::new(domain);
+    seat_all(alloc, ReclaimingQueue { queue }, places, passes, turns)
 }

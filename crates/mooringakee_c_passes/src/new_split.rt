@@ -5,15 +5,30 @@ ghost use Rattle.orc_split_rule.specs.{declared.split.{Split.{Split}, SplitNote.
 ghost use Rattle.orc_domain.specs.{Passes.{domain_bounds}, declared.domain.OrcDomain.{OrcDomain}};
 ghost use Rattle.orc_shared_words.specs.Lists.{EachAt};
 ghost use Rattle.orc_words.specs.Bounds.{bounds_of};
-ghost use Rattle.mooringakee_c_passes.specs.Making.{IsNewSplitSeat};
+ghost use Rattle.mooringakee_c_passes.specs.{Making.{IsNewSplitSeat}, declared.seat.Seat.{Seat}};
 
+use crate::ending::Places;
+use crate::on_domain::ReclaimingSplit;
 use crate::seat::Seat;
-use crate::seating::{new_domain, seat_all};
+use crate::seating::{HasSeats, new_domain, seat_all};
+use crate::split::SplitSetPlace;
+use orc_domain::OrcPass;
 use orc_fault::NoMemory;
 use orc_heap::Seed;
+use orc_split_rule::Split;
 use orc_split_set::SplitSet;
 use orc_words::Shape;
 use std::alloc::Global;
+
+impl HasSeats<Places<Split>, OrcPass<Split>> for ReclaimingSplit {
+    ghost seat_of = { λ place. Seat.Split place };
+
+    fn seat(place: SplitSetPlace) -> Seat
+        ensures { result ≡ Seat.Split place }
+    {
+        Seat::Split(place)
+    }
+}
 
 /// A new set of this shape, which grows to so many buckets, as a place for each agent, in order.
 pub fn split_seats(
@@ -30,12 +45,5 @@ pub fn split_seats(
 {
     let (domain, passes, places) = new_domain(alloc, shape, Seed::Empty)?;
     let set = SplitSet::new(domain, buckets);
-    seat_all(
-        alloc,
-        set,
-        places,
-        passes,
-        turns,
-        &|place| Seat::Split(place),
-    )
+    seat_all(alloc, ReclaimingSplit { set }, places, passes, turns)
 }

@@ -20,35 +20,45 @@ pub trait OnDomain<L> {
         ensures { result.now ≡ domain_of self.now };
 }
 
-/// Michael and Scott's queue over a domain whose rows are reclaimed.
-pub(crate) type ReclaimingQueue = Queue<OrcDomain<Fifo>>;
+/// Michael and Scott's queue over a domain whose rows are reclaimed. Like the two sets below it has no parameters, which keeps the
+/// proofs of what has it small.
+#[derive(Drop)]
+pub struct ReclaimingQueue {
+    pub(crate) queue: Queue<OrcDomain<Fifo>>,
+}
 
 /// The bucketed set over a domain whose rows are reclaimed.
-pub(crate) type ReclaimingSet = Set<OrcDomain<Chain>>;
+#[derive(Drop)]
+pub struct ReclaimingSet {
+    pub(crate) set: Set<OrcDomain<Chain>>,
+}
 
 /// The split-ordered set over a domain whose rows are reclaimed.
-pub(crate) type ReclaimingSplit = SplitSet<OrcDomain<Split>>;
+#[derive(Drop)]
+pub struct ReclaimingSplit {
+    pub(crate) set: SplitSet<OrcDomain<Split>>,
+}
 
 impl OnDomain<OrcDomain<Fifo>> for ReclaimingQueue {
-    ghost domain_of = { λ c. c.links };
+    ghost domain_of = { λ c. c.queue.links };
 
     fn domain(&self) -> &OrcDomain<Fifo> {
-        self.links()
+        self.queue.links()
     }
 }
 
 impl OnDomain<OrcDomain<Chain>> for ReclaimingSet {
-    ghost domain_of = { λ c. c.list.links };
+    ghost domain_of = { λ c. c.set.list.links };
 
     fn domain(&self) -> &OrcDomain<Chain> {
-        self.links()
+        self.set.links()
     }
 }
 
 impl OnDomain<OrcDomain<Split>> for ReclaimingSplit {
-    ghost domain_of = { λ c. c.links };
+    ghost domain_of = { λ c. c.set.links };
 
     fn domain(&self) -> &OrcDomain<Split> {
-        self.links()
+        self.set.links()
     }
 }

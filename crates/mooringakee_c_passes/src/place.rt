@@ -1,21 +1,15 @@
 //! One agent's place at a container.
 
-ghost use Rattle.std.specs.Prelude.{◌≡◌, ◌⊎◌, IfOk, IfSome};
-ghost use Rattle.mooringakee_c_passes.specs.{
-  Ending.{TellsRows},
-  Places.{IsUsablePlace, SettlesPlace, backlog_of},
-  SetCalls.{AnswersCall, view_over},
-};
+ghost use Rattle.std.specs.Prelude.{◌≡◌, IfOk, IfSome};
+ghost use Rattle.mooringakee_c_passes.specs.{Ending.{TellsRows}, Places.{IsUsablePlace, SettlesPlace, backlog_of}};
 
 use crate::answer::Answer;
 use crate::ending::{Places, close, leave};
 use crate::on_domain::OnDomain;
-use crate::set_calls::{KeyCall, make_call};
 use given_back::Unfinished;
 use orc_any_domain::RowCounts;
 use orc_domain::{OrcDomain, OrcPass};
 use orc_heap::Discipline;
-use orc_history::SharedSet;
 use std::alloc::Global;
 use std::sync::Arc;
 
@@ -83,19 +77,5 @@ impl<D: Discipline, C: OnDomain<OrcDomain<D>> + Drop> AgentPlaceOn<D, C> {
             turns: _,
         } = self;
         close(alloc, container.domain(), places, pass)
-    }
-}
-
-impl<S: SharedSet, G> AgentPlace<S, G, S::Pass> {
-    // Makes a call with a key.
-    pub(crate) fn call(&mut self, call: KeyCall, key: u64, yes: &mut bool) -> Answer
-        requires { S.usable self.old.container.value self.old.pass }
-        ensures place { self.new ≡ record self.old { pass = self.new.pass } }
-        ensures usable { S.usable self.old.container.value self.new.pass }
-        ensures answer { AnswersCall call key yes.new (view_over S.SharedSet self.old.container.value self.old.turns self.old.pass) result
-            (view_over S.SharedSet self.old.container.value self.old.turns self.new.pass) }
-        ensures kept { (result ≡ Answer.Done) ⊎ (yes.new ≡ yes.old) }
-    {
-        make_call(&self.container, &mut self.pass, self.turns, call, key, yes)
     }
 }

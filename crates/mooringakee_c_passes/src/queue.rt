@@ -19,7 +19,11 @@ impl QueuePlace {
         ensures seat { IsSeat (Seat.Queue self.new) }
         ensures answer { AtQueue (AnswersPut value) (Seat.Queue self.old) result (Seat.Queue self.new) }
     {
-        match self.container.enqueue(&mut self.pass, value, self.turns) {
+        match self
+            .container
+            .queue
+            .enqueue(&mut self.pass, value, self.turns)
+        {
             Ok(_) => Answer::Done,
             Err(QueueRefused::Again) => Answer::Again,
             Err(QueueRefused::NoNode) => Answer::Full,
@@ -34,7 +38,7 @@ impl QueuePlace {
         ensures answer { AtQueue (AnswersTake value.new) (Seat.Queue self.old) result (Seat.Queue self.new) }
         ensures kept { (result ≡ Answer.Done) ⊎ (value.new ≡ value.old) }
     {
-        match self.container.dequeue(&mut self.pass, self.turns) {
+        match self.container.queue.dequeue(&mut self.pass, self.turns) {
             Ok(Some((taken, _))) => {
                 *value = taken;
                 Answer::Done

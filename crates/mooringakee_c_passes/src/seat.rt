@@ -13,7 +13,7 @@ use crate::answer::Answer;
 use crate::on_domain::ReclaimingSet;
 use crate::place::AgentPlaceOn;
 use crate::queue::QueuePlace;
-use crate::set_calls::KeyCall;
+use crate::set_calls::{KeyCall, call_bucketed, call_split};
 use crate::split::SplitSetPlace;
 use given_back::Unfinished;
 use orc_any_domain::RowCounts;
@@ -63,8 +63,22 @@ impl Seat {
     {
         match self {
             Seat::Queue(_) => Answer::Kind,
-            Seat::Set(place) => place.call(call, key, yes),
-            Seat::Split(place) => place.call(call, key, yes),
+            Seat::Set(place) => call_bucketed(
+                &place.container.set,
+                &mut place.pass,
+                place.turns,
+                call,
+                key,
+                yes,
+            ),
+            Seat::Split(place) => call_split(
+                &place.container.set,
+                &mut place.pass,
+                place.turns,
+                call,
+                key,
+                yes,
+            ),
         }
     }
 

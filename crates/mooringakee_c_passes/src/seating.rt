@@ -7,7 +7,11 @@ ghost use Rattle.orc_projection.specs.Mirror.{numbers_of};
 ghost use Rattle.orc_domain.specs.Passes.{domain_bounds, domain_opening, seat_of};
 ghost use Rattle.orc_shared_words.specs.Lists.{EachAt};
 ghost use Rattle.orc_words.specs.Bounds.{bounds_of};
-ghost use Rattle.mooringakee_c_passes.specs.{Places.{GetsPlace}, Usable.{CanBeUsed}};
+ghost use Rattle.mooringakee_c_passes.specs.{
+  Places.{GetsPlace},
+  Usable.{CanBeUsed},
+  declared.{place.AgentPlace.{AgentPlace}, seat.Seat.{Seat}},
+};
 
 use crate::ending::Places;
 use crate::place::AgentPlace;
@@ -39,21 +43,30 @@ pub(crate) fn new_domain<D: Discipline>(
     Ok((domain, passes, places))
 }
 
+/// A container of which an agent's place is one at a container of any kind.
+pub(crate) trait HasSeats<G, P>: Sized {
+    // the place as such a one
+    ghost seat_of: { AgentPlace Self G P → Seat };
+
+    // The place as such a one.
+    fn seat(place: AgentPlace<Self, G, P>) -> Seat
+        ensures { result ≡ seat_of place };
+}
+
 // Has the check show that a value may go to another thread.
 fn may_cross<T: Send>(_value: &T) {}
 
 // The places of all passes to a container, in their order, each as a seat.
-pub(crate) fn seat_all<C: Drop, G: Drop, P: Drop, F: Fn(AgentPlace<C, G, P>) -> Seat>(
+pub(crate) fn seat_all<C: HasSeats<G, P> + Drop, G: Drop, P: Drop>(
     alloc: Global,
     container: C,
     places: G,
     passes: Vec<P>,
     turns: u64,
-    seat: &F,
 ) -> Result<Vec<Box<Seat>>, NoMemory>
-    requires { F.IsAlwaysCallable seat.now }
     ensures many { IfOk result (λ seats. length seats.items ≡ length passes.items) }
-    ensures places { IfOk result (λ seats. EachAt (λ i b. GetsPlace (F.post seat.now) container places passes.items turns i b.value) seats.items) }
+    ensures places { IfOk result (λ seats. EachAt (λ i b. GetsPlace (λ place seat. seat ≡ C.seat_of place) container places passes.items
+        turns i b.value) seats.items) }
 {
     let container = Arc::new(alloc, container)?;
     let places = Arc::new(alloc, places)?;
@@ -65,7 +78,7 @@ pub(crate) fn seat_all<C: Drop, G: Drop, P: Drop, F: Fn(AgentPlace<C, G, P>) -> 
             pass,
             turns,
         };
-        let made = seat(place);
+        let made = C::seat(place);
         may_cross(&made);
         seats.push(Box::new(alloc, made)?)?;
     }

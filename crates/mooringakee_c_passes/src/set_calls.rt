@@ -4,9 +4,12 @@ ghost use Rattle.std.specs.Prelude.{◌≡◌, ◌⊎◌};
 ghost use Rattle.mooringakee_c_passes.specs.SetCalls.{AnswersCall, AnswersQuestion, AnswersInsert, AnswersRemove, view_over};
 
 use crate::answer::Answer;
+use orc_chain_rule::Chain;
+use orc_heap::Links;
 use orc_history::{ListRefused, SharedSet};
-use std::alloc::Global;
-use std::sync::Arc;
+use orc_set::Set;
+use orc_split_rule::Split;
+use orc_split_set::SplitSet;
 
 /// A call of a set with a key.
 #[derive(Clone, Copy)]
@@ -21,16 +24,16 @@ pub enum KeyCall {
 
 // Adds a key, and tells whether it was absent.
 fn insert_key<S: SharedSet>(
-    set: &Arc<S, Global>,
+    set: &S,
     p: &mut S::Pass,
     turns: u64,
     key: u64,
     absent: &mut bool,
 ) -> Answer
-    requires { S.usable set.now.value p.old }
-    ensures usable { S.usable set.now.value p.new }
-    ensures answer { AnswersInsert key absent.new (view_over S.SharedSet set.now.value turns p.old) result
-        (view_over S.SharedSet set.now.value turns p.new) }
+    requires { S.usable set.now p.old }
+    ensures usable { S.usable set.now p.new }
+    ensures answer { AnswersInsert key absent.new (view_over S.SharedSet set.now turns p.old) result
+        (view_over S.SharedSet set.now turns p.new) }
     ensures kept { (result ≡ Answer.Done) ⊎ (absent.new ≡ absent.old) }
 {
     match set.insert(p, key, turns) {
@@ -46,16 +49,16 @@ fn insert_key<S: SharedSet>(
 
 // Takes a key out, and tells whether it was present.
 fn remove_key<S: SharedSet>(
-    set: &Arc<S, Global>,
+    set: &S,
     p: &mut S::Pass,
     turns: u64,
     key: u64,
     present: &mut bool,
 ) -> Answer
-    requires { S.usable set.now.value p.old }
-    ensures usable { S.usable set.now.value p.new }
-    ensures answer { AnswersRemove key present.new (view_over S.SharedSet set.now.value turns p.old) result
-        (view_over S.SharedSet set.now.value turns p.new) }
+    requires { S.usable set.now p.old }
+    ensures usable { S.usable set.now p.new }
+    ensures answer { AnswersRemove key present.new (view_over S.SharedSet set.now turns p.old) result
+        (view_over S.SharedSet set.now turns p.new) }
     ensures kept { (result ≡ Answer.Done) ⊎ (present.new ≡ present.old) }
 {
     let Ok(yes) = set.remove(p, key, turns) else {
@@ -67,16 +70,16 @@ fn remove_key<S: SharedSet>(
 
 // Tells whether a key is present.
 fn find_key<S: SharedSet>(
-    set: &Arc<S, Global>,
+    set: &S,
     p: &mut S::Pass,
     turns: u64,
     key: u64,
     present: &mut bool,
 ) -> Answer
-    requires { S.usable set.now.value p.old }
-    ensures usable { S.usable set.now.value p.new }
-    ensures answer { AnswersQuestion key present.new (view_over S.SharedSet set.now.value turns p.old) result
-        (view_over S.SharedSet set.now.value turns p.new) }
+    requires { S.usable set.now p.old }
+    ensures usable { S.usable set.now p.new }
+    ensures answer { AnswersQuestion key present.new (view_over S.SharedSet set.now turns p.old) result
+        (view_over S.SharedSet set.now turns p.new) }
     ensures kept { (result ≡ Answer.Done) ⊎ (present.new ≡ present.old) }
 {
     let Ok(yes) = set.contains(p, key, turns) else {
@@ -87,18 +90,18 @@ fn find_key<S: SharedSet>(
 }
 
 // Makes a call with a key.
-pub(crate) fn make_call<S: SharedSet>(
-    set: &Arc<S, Global>,
+fn make_call<S: SharedSet>(
+    set: &S,
     p: &mut S::Pass,
     turns: u64,
     call: KeyCall,
     key: u64,
     yes: &mut bool,
 ) -> Answer
-    requires { S.usable set.now.value p.old }
-    ensures usable { S.usable set.now.value p.new }
-    ensures answer { AnswersCall call key yes.new (view_over S.SharedSet set.now.value turns p.old) result
-        (view_over S.SharedSet set.now.value turns p.new) }
+    requires { S.usable set.now p.old }
+    ensures usable { S.usable set.now p.new }
+    ensures answer { AnswersCall call key yes.new (view_over S.SharedSet set.now turns p.old) result
+        (view_over S.SharedSet set.now turns p.new) }
     ensures kept { (result ≡ Answer.Done) ⊎ (yes.new ≡ yes.old) }
 {
     match call {
@@ -106,4 +109,40 @@ pub(crate) fn make_call<S: SharedSet>(
         KeyCall::Remove => remove_key(set, p, turns, key, yes),
         KeyCall::Contains => find_key(set, p, turns, key, yes),
     }
+}
+
+// Makes a call with a key at a bucketed set over any domain.
+pub(crate) fn call_bucketed<L: Links<Rule = Chain>>(
+    set: &Set<L>,
+    p: &mut L::Pass,
+    turns: u64,
+    call: KeyCall,
+    key: u64,
+    yes: &mut bool,
+) -> Answer
+    requires { ⟦<Set<L> as SharedSet>⟧.usable set.now p.old }
+    ensures usable { ⟦<Set<L> as SharedSet>⟧.usable set.now p.new }
+    ensures answer { AnswersCall call key yes.new (view_over ⟦<Set<L> as SharedSet>⟧ set.now turns p.old) result
+        (view_over ⟦<Set<L> as SharedSet>⟧ set.now turns p.new) }
+    ensures kept { (result ≡ Answer.Done) ⊎ (yes.new ≡ yes.old) }
+{
+    make_call(set, p, turns, call, key, yes)
+}
+
+// Makes a call with a key at a split-ordered set over any domain.
+pub(crate) fn call_split<L: Links<Rule = Split>>(
+    set: &SplitSet<L>,
+    p: &mut L::Pass,
+    turns: u64,
+    call: KeyCall,
+    key: u64,
+    yes: &mut bool,
+) -> Answer
+    requires { ⟦<SplitSet<L> as SharedSet>⟧.usable set.now p.old }
+    ensures usable { ⟦<SplitSet<L> as SharedSet>⟧.usable set.now p.new }
+    ensures answer { AnswersCall call key yes.new (view_over ⟦<SplitSet<L> as SharedSet>⟧ set.now turns p.old) result
+        (view_over ⟦<SplitSet<L> as SharedSet>⟧ set.now turns p.new) }
+    ensures kept { (result ≡ Answer.Done) ⊎ (yes.new ≡ yes.old) }
+{
+    make_call(set, p, turns, call, key, yes)
 }

@@ -19,7 +19,7 @@ impl SplitSetPlace {
         ensures answer { AtSplit (CountsBuckets count.new) (Seat.Split self.old) result (Seat.Split self.new) }
         ensures kept { (result ≡ Answer.Done) ⊎ (count.new ≡ count.old) }
     {
-        let Ok(size) = self.container.size(&mut self.pass, self.turns) else {
+        let Ok(size) = self.container.set.size(&mut self.pass, self.turns) else {
             return Answer::Again;
         };
         *count = size;

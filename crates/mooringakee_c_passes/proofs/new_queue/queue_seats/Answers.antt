@@ -1,5 +1,5 @@
 -- The queue stands on the new domain, and each pass of that gets its place.
-use Rattle.std.proofs.Common.{Option, None, Some, ap, arith, is_some, refl, subst, suc, sym, true, zero, ℕ, rules, ◌∙◌, ◌≡◌}
+use Rattle.std.proofs.Common.{Option, None, Some, ap, arith, is_some, refl, subst, suc, sym, true, zero, ℕ, ◌∙◌, ◌≡◌}
 use Rattle.std.specs.List.{slice_get}
 use Rattle.orc_domain.specs.Passes.{domain_numbers}
 use Rattle.orc_fifo_rule.proofs.Later.{nothing_yet}
@@ -15,6 +15,7 @@ use Rattle.orc_queue.specs.Turns.{HasDummy}
 use Rattle.orc_words.specs.Bounds.{bounds_of}
 use Rattle.mooringakee_c_passes.specs.Kinds.{queue}
 use Rattle.mooringakee_c_passes.specs.Making.{IsNewQueueSeat}
+use Rattle.mooringakee_c_passes.specs.declared.on_domain.ReclaimingQueue.{ReclaimingQueue}
 use Rattle.mooringakee_c_passes.specs.declared.seat.Seat.TheVariants.{Queue}
 use Rattle.mooringakee_c_passes.proofs.NewPlaces.{new_seats}
 use Rattle.mooringakee_c_passes.proofs.Results.{if_ok, if_ok_both}
@@ -31,8 +32,8 @@ new_domain-requires-clause-holds c = nothing_yet (numbers_of (bounds_of c.args.s
 pub new_domain-requires-clause-seed : goal.new_domain-requires-clause-seed
 new_domain-requires-clause-seed c = dummy_allowed (numbers_of (bounds_of c.args.shape.now)) 0 (omega (arith, c.requires.roots)) (omega arith)
 
-pub new-requires : goal.new-requires
-new-requires c =
+pub new-queue-requires : goal.new-queue-requires
+new-queue-requires c =
     let n = domain_numbers c.in_ok-domain.domain in
     subst (λ es. HasDummy n es) (sym c.in_ok-domain.ensures.opening) (record { begun = refl; filled = λ id node there linked. filled n id node there })
 
@@ -44,12 +45,13 @@ returns-clause-places c =
     let made = c.in_ok-domain.ensures in
     let domain = c.in_ok-domain.domain in
     let zero_first : position_of (run_heap (domain_numbers domain) (opening_events (Dummy 0 Begin))) 0 ≡ 0 = refl in
+    let queue_is : ReclaimingQueue = record { queue = c.new-queue.result } in
     let zero = subst (λ es. position_of (run_heap (domain_numbers domain) es) 0 ≡ 0) (sym made.opening) zero_first in
     if_ok_both c.seat_all.result _ _ _ c.seat_all.ensures.many c.seat_all.ensures.places
     (λ seats many each. (
       domain,
       made.bounds,
-      new_seats queue c.new.result (λ q. q.links) domain c.new.ensures c.in_ok-domain.places c.args.turns (λ place. Queue place)
+      new_seats queue queue_is (λ q. q.queue.links) domain c.new-queue.ensures c.in_ok-domain.places c.args.turns (λ place. Queue place)
           (λ agent seat. IsNewQueueSeat domain c.args.turns agent seat) c.in_ok-domain.passes.items seats.items many made.usable made.agents
-          (λ k p low. ap entries_of (made.seen k p low)) _ each (λ place s is. search rules) (λ agent place new. (new, zero)),
+          (λ k p low. ap entries_of (made.seen k p low)) _ each (λ place s is. is) (λ agent place new. (new, zero)),
     ))

@@ -21,7 +21,7 @@ loop-pass-preserved g c =
     let more : length c.push.new.self.items ≡ length seats + 1 = ap length items ∙ length-append seats (box ∷ []) in
     let long : length rest ≡ suc (length xs) = ap length head in
     let Gets : ℕ → Seat → Type 0 =
-    λ i s. GetsPlace (λ place t. g.F.Fn.post c.args.seat.now (place, tt) t) c.args.container c.args.places all c.args.turns i s in
+    λ i s. GetsPlace (λ place seat. seat ≡ g.C.HasSeats.seat_of place) c.args.container c.args.places all c.args.turns i s in
     let got : Gets (length seats) c.seat-made.result = record {
       place = record { container = c.in_ok-clone.field-0; places = c.in_ok-clone-2.field-0; pass = x; turns = c.args.turns };
       is = c.seat-made.ensures;
