@@ -2,6 +2,7 @@
 #![tactic(auto)]
 
 mod cell;
+mod over;
 mod watch;
 
 pub use watch::{WatchFinished, watch_new_cell};

@@ -3,14 +3,12 @@
 ghost use Rattle.std.specs.Prelude.{◌≤◌, IfOk, length};
 ghost use Rattle.orc_watch_domain.specs.Runs.{WatchedThrough};
 
-use crate::cell::make_cell;
+use crate::over::{Left, watch_over};
 use orc_board::Gate;
-use orc_containers::cell_at_rest;
-use orc_domain::OrcRest;
+use orc_domain::{OrcDomain, OrcRest};
 use orc_fault::NoMemory;
 use orc_pairs_rule::Pairs;
 use orc_watch::{WatchLines, WatchList};
-use orc_watch_run::{Watched, run_watch};
 use std::alloc::Global;
 use std::sync::Wait;
 use std::thread::Threads;
@@ -44,14 +42,14 @@ pub fn watch_new_cell<R: Threads + Wait + Sync, G: Gate + Sync>(
     requires rows { (2 ≤ rows) × (rows ≤ 65535) }
     ensures { IfOk result (λ f. WatchedThrough lines.now workers rows f) }
 {
-    let (cell, mut passes) = make_cell(alloc, rows, 1 + workers)?;
-    let Watched {
+    let Left {
+        cell,
         replies,
         now_left,
         now_right,
-    } = run_watch(rt, alloc, lines, workers, &cell, &mut passes, gate)?;
+    } = watch_over::<R, OrcDomain<Pairs>, G>(rt, alloc, lines, workers, rows, gate)?;
     Ok(WatchFinished {
-        cell: cell_at_rest(cell, passes),
+        cell,
         replies,
         now_left,
         now_right,
