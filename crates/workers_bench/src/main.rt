@@ -14,7 +14,11 @@ mod races;
 
 use lines::falling;
 use options::{Options, command, options_of};
+use orc_chain_rule::Chain;
+use orc_containers::Domain;
+use orc_fifo_rule::Fifo;
 use orc_jobs::{Lines, make_lines};
+use orc_plain_domain::PlainDomain;
 use races::{jobs_of_run, race_on};
 use std::alloc::Global;
 use std::env;
@@ -28,20 +32,22 @@ use std::time::{Clock, Instant};
 const FAILED: u8 = 1;
 
 // Races on so many threads, and answers whether there was memory for them.
-fn race_on_threads<R: Threads + Wait + Clock + Print + Eprint + Sync>(
-    rt: &R,
-    alloc: Global,
-    lines: &Lines,
-    options: &Options,
-    threads: u32,
-) -> anyhow::Result<bool>
+fn race_on_threads<
+    R: Threads + Wait + Clock + Print + Eprint + Sync,
+    F: Domain<Rule = Fifo> + Sync + Drop,
+    C: Domain<Rule = Chain> + Sync + Drop,
+>(rt: &R, alloc: Global, lines: &Lines, options: &Options, threads: u32) -> anyhow::Result<bool>
+where
+    F::Pass: Send,
+    C::Pass: Send,
     requires good { AreGood lines.now }
     requires threads { (1 ≤ threads) × (threads ≤ 8) }
 {
     let mut jobs: u64 = 0;
     let mut bare: u64 = 0;
     for round in 0..options.rounds {
-        let Some((workers, calls)) = race_on(rt, alloc, lines, options, threads, round)? else {
+        let Some((workers, calls)) = race_on::<R, F, C>(rt, alloc, lines, options, threads, round)?
+        else {
             return Ok(false);
         };
         eprintln!(rt;
@@ -56,17 +62,21 @@ fn race_on_threads<R: Threads + Wait + Clock + Print + Eprint + Sync>(
 }
 
 // Races on 1, 2 and 4 threads.
-fn race<R: Threads + Wait + Clock + Print + Eprint + Sync>(
-    rt: &R,
-    alloc: Global,
-    options: &Options,
-) -> anyhow::Result<ExitCode> {
+fn race<
+    R: Threads + Wait + Clock + Print + Eprint + Sync,
+    F: Domain<Rule = Fifo> + Sync + Drop,
+    C: Domain<Rule = Chain> + Sync + Drop,
+>(rt: &R, alloc: Global, options: &Options) -> anyhow::Result<ExitCode>
+where
+    F::Pass: Send,
+    C::Pass: Send,
+{
     let Ok(lines) = falling(alloc, options.lines) else {
         return Ok(ExitCode::from(FAILED));
     };
-    let all = race_on_threads(rt, alloc, &lines, options, 1)?
-        && race_on_threads(rt, alloc, &lines, options, 2)?
-        && race_on_threads(rt, alloc, &lines, options, 4)?;
+    let all = race_on_threads::<R, F, C>(rt, alloc, &lines, options, 1)?
+        && race_on_threads::<R, F, C>(rt, alloc, &lines, options, 2)?
+        && race_on_threads::<R, F, C>(rt, alloc, &lines, options, 4)?;
     Ok(if all {
         ExitCode::SUCCESS
     } else {
@@ -75,11 +85,14 @@ fn race<R: Threads + Wait + Clock + Print + Eprint + Sync>(
 }
 
 // One run of generated lines, timed with the making of its domains.
-fn run<R: Threads + Wait + Clock + Print + Eprint + Sync>(
-    rt: &R,
-    alloc: Global,
-    options: &Options,
-) -> anyhow::Result<ExitCode>
+fn run<
+    R: Threads + Wait + Clock + Print + Eprint + Sync,
+    F: Domain<Rule = Fifo> + Sync + Drop,
+    C: Domain<Rule = Chain> + Sync + Drop,
+>(rt: &R, alloc: Global, options: &Options) -> anyhow::Result<ExitCode>
+where
+    F::Pass: Send,
+    C::Pass: Send,
     requires lines { (1 ≤ options.now.lines) × (options.now.lines ≤ 60000) }
     requires posters { (1 ≤ options.now.posters) × (options.now.posters ≤ 8) × (options.now.takers ≤ 7) }
     requires buckets { (1 ≤ options.now.buckets) × (options.now.buckets ≤ 256) }
@@ -88,12 +101,32 @@ fn run<R: Threads + Wait + Clock + Print + Eprint + Sync>(
         return Ok(ExitCode::from(FAILED));
     };
     let start = Instant::now(rt)?;
-    let Some(jobs) = jobs_of_run(rt, alloc, &lines, options)? else {
+    let Some(jobs) = jobs_of_run::<R, F, C>(rt, alloc, &lines, options)? else {
         return Ok(ExitCode::from(FAILED));
     };
     eprintln!(rt; "run {}", start.elapsed(rt)?.as_micros())?;
     println!(rt; "{jobs} jobs")?;
     Ok(ExitCode::SUCCESS)
+}
+
+// Times one run or races, over domains of these types where the options name plain ones.
+fn measure<
+    R: Threads + Wait + Clock + Print + Eprint + Sync,
+    F: Domain<Rule = Fifo> + Sync + Drop,
+    C: Domain<Rule = Chain> + Sync + Drop,
+>(rt: &R, alloc: Global, options: &Options) -> anyhow::Result<ExitCode>
+where
+    F::Pass: Send,
+    C::Pass: Send,
+    requires lines { (1 ≤ options.now.lines) × (options.now.lines ≤ 60000) }
+    requires posters { (1 ≤ options.now.posters) × (options.now.posters ≤ 8) × (options.now.takers ≤ 7) }
+    requires buckets { (1 ≤ options.now.buckets) × (options.now.buckets ≤ 256) }
+{
+    if options.one_run {
+        run::<R, F, C>(rt, alloc, options)
+    } else {
+        race::<R, F, C>(rt, alloc, options)
+    }
 }
 
 fn main(rt: HostRuntime) -> anyhow::Result<ExitCode> {
@@ -106,10 +139,5 @@ fn main(rt: HostRuntime) -> anyhow::Result<ExitCode> {
             return Ok(ExitCode::from(error.exit_code() as u8));
         }
     };
-    let options = options_of(&matches);
-    if options.one_run {
-        run(&rt, alloc, &options)
-    } else {
-        race(&rt, alloc, &options)
-    }
+    measure::<_, PlainDomain<Fifo>, PlainDomain<Chain>>(&rt, alloc, &options_of(&matches))
 }

@@ -1,4 +1,4 @@
-//! Laps over plain domains, and runs over either domain.
+//! Laps over domains of any type, and runs over them or over reclaiming domains.
 
 ghost use Rattle.std.specs.Prelude.{◌≤◌};
 ghost use Rattle.orc_jobs.specs.GoodLines.{AreGood};
@@ -10,17 +10,12 @@ use orc_chain_rule::Chain;
 use orc_containers::{Domain, new_queue, new_set};
 use orc_fifo_rule::Fifo;
 use orc_jobs::Lines;
-use orc_plain_domain::PlainDomain;
 use orc_run::{SetChoice, run_lines};
 use std::alloc::Global;
 use std::io;
 use std::sync::Wait;
 use std::thread::Threads;
 use std::time::Clock;
-
-type Queues = PlainDomain<Fifo>;
-
-type Sets = PlainDomain<Chain>;
 
 // A lap by bare calls of a queue and a set over domains of these types.
 fn lap_over<
@@ -42,13 +37,15 @@ where
     lap_of_calls(rt, posts, threads, (queue, set, queue_passes, set_passes))
 }
 
-// How many jobs a run takes over the domains that the options name, which it makes.
-pub(crate) fn jobs_of_run<R: Threads + Wait + Clock + Sync>(
-    rt: &R,
-    alloc: Global,
-    lines: &Lines,
-    options: &Options,
-) -> io::Result<Option<u64>>
+// How many jobs a run takes over the domains that the options name, which it makes: reclaiming ones, or ones of these types.
+pub(crate) fn jobs_of_run<
+    R: Threads + Wait + Clock + Sync,
+    F: Domain<Rule = Fifo> + Sync + Drop,
+    C: Domain<Rule = Chain> + Sync + Drop,
+>(rt: &R, alloc: Global, lines: &Lines, options: &Options) -> io::Result<Option<u64>>
+where
+    F::Pass: Send,
+    C::Pass: Send,
     requires good { AreGood lines.now }
     requires posters { (1 ≤ options.now.posters) × (options.now.posters ≤ 8) × (options.now.takers ≤ 7) }
     requires buckets { (1 ≤ options.now.buckets) × (options.now.buckets ≤ 256) }
@@ -66,13 +63,17 @@ pub(crate) fn jobs_of_run<R: Threads + Wait + Clock + Sync>(
             Err(_) => Ok(None),
         }
     } else {
-        let lap = lap_of_workers::<R, Queues, Sets>(rt, alloc, lines, buckets, posters, takers)?;
+        let lap = lap_of_workers::<R, F, C>(rt, alloc, lines, buckets, posters, takers)?;
         Ok(lap.map(|lap| lap.jobs))
     }
 }
 
 // A lap by workers and one by bare calls, which takes turns with it at being the first.
-pub(crate) fn race_on<R: Threads + Wait + Clock + Sync>(
+pub(crate) fn race_on<
+    R: Threads + Wait + Clock + Sync,
+    F: Domain<Rule = Fifo> + Sync + Drop,
+    C: Domain<Rule = Chain> + Sync + Drop,
+>(
     rt: &R,
     alloc: Global,
     lines: &Lines,
@@ -80,17 +81,20 @@ pub(crate) fn race_on<R: Threads + Wait + Clock + Sync>(
     threads: u32,
     round: u32,
 ) -> io::Result<Option<(Lap, Lap)>>
+where
+    F::Pass: Send,
+    C::Pass: Send,
     requires good { AreGood lines.now }
     requires threads { (1 ≤ threads) × (threads ≤ 8) }
 {
     let (posts, buckets) = (options.lines, options.buckets);
     if round % 2 == 0 {
-        let workers = lap_of_workers::<R, Queues, Sets>(rt, alloc, lines, buckets, threads, 0)?;
-        let calls = lap_over::<R, Queues, Sets>(rt, alloc, posts, buckets, threads)?;
+        let workers = lap_of_workers::<R, F, C>(rt, alloc, lines, buckets, threads, 0)?;
+        let calls = lap_over::<R, F, C>(rt, alloc, posts, buckets, threads)?;
         Ok(workers.zip(calls))
     } else {
-        let calls = lap_over::<R, Queues, Sets>(rt, alloc, posts, buckets, threads)?;
-        let workers = lap_of_workers::<R, Queues, Sets>(rt, alloc, lines, buckets, threads, 0)?;
+        let calls = lap_over::<R, F, C>(rt, alloc, posts, buckets, threads)?;
+        let workers = lap_of_workers::<R, F, C>(rt, alloc, lines, buckets, threads, 0)?;
         Ok(workers.zip(calls))
     }
 }
