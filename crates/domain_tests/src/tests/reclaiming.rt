@@ -1,5 +1,8 @@
 //! Over the domain whose rows are reclaimed.
 
+ghost use Rattle.std.specs.Prelude.{IfSome};
+ghost use Rattle.orc_any_domain.specs.Domains.{IsIdlePass};
+
 use super::moving::{Change, Found};
 use super::nodes::held_meanwhile;
 use super::rests::{
@@ -12,6 +15,7 @@ use orc_heap::AnyFit;
 use orc_plain_domain::twins::Twins;
 use std::alloc::Global;
 use std::test::Fail;
+use std::thread::Threads;
 
 // At rest both rows have been freed: the second one's two links were counted twice for the first, and both were taken out.
 #[test]
@@ -25,29 +29,54 @@ fn both_links_of_a_freed_row_are_taken_out(rt: HostRuntime) {
 }
 
 // What is told over a domain that reclaims its rows: of three nodes that were released; of rows that were reused, the first value, and
-// whether all others were seen and the two agents learned; and of looks by a hold.
+// whether all others were seen and the two agents learned; of looks by a hold, and of looks beside a reuse.
 #[derive(Drop)]
 struct Reclaimed {
     gives: Option<(bool, RowCounts)>,
     reuses: Option<(Option<u64>, bool, bool)>,
     looks: Option<TwoLooks>,
+    beside: Option<(bool, bool)>,
 }
 
-fn over_reclaimed_rows<L: Domain<Rule = AnyFit> + Drop>(alloc: Global) -> Reclaimed {
-    Reclaimed {
+// What is told, and a domain in which one held a node while the other agent used rows again, the pass of the one, and what it saw.
+fn over_reclaimed_rows<R: Threads + Sync, L: Domain<Rule = AnyFit> + Sync + Drop>(
+    rt: &R,
+    alloc: Global,
+) -> (Reclaimed, Option<(L, L::Pass, Option<(u64, u64, bool)>)>)
+where
+    L::Pass: Send,
+    ensures idle { IfSome result.1 (λ held. IsIdlePass L.Links held.0 held.1) }
+{
+    let told = Reclaimed {
         gives: gives_and_rests::<L>(alloc, 3),
         reuses: reuses::<L>(alloc),
         looks: looks_twice::<L>(alloc, Change::Mark),
-    }
+        beside: looks_beside_a_reuse::<R, L>(rt, alloc),
+    };
+    (told, holds_meanwhile::<L>(alloc))
+}
+
+// One agent of a new domain holds a node while the other one unlinks it and gives two more. Answers the domain, the pass of the one,
+// and what it saw.
+fn holds_meanwhile<L: Domain<Rule = AnyFit> + Drop>(
+    alloc: Global,
+) -> Option<(L, L::Pass, Option<(u64, u64, bool)>)>
+    ensures idle { IfSome result (λ held. IsIdlePass L.Links held.0 held.1) }
+{
+    let (domain, mut one, mut two) = two_rows_and_a_node::<L>(alloc)?;
+    let seen = held_meanwhile(&domain, &mut one, &mut two);
+    Some((domain, one, seen))
 }
 
 // Both rows are given, and released unlinked. No third is had while they wait; at rest both have been freed, and none is out.
 // Two rows serve five nodes in turn, and each is seen with its own value. A hold moves on to another node, and the row that it gave up
-// was handed over beside its slot, and is taken in at the release; it stays where the link has a mark.
+// was handed over beside its slot, and is taken in at the release; it stays where the link has a mark. The row that one holds stays its
+// node while the other uses the other row twice, and is handed over to it.
 #[test]
-fn rows_are_used_again_and_a_hold_moves_on_to_an_unmarked_node(rt: HostRuntime) {
-    let told = over_reclaimed_rows::<OrcDomain<AnyFit>>(rt.alloc());
-    let beside = looks_beside_a_reuse::<_, OrcDomain<AnyFit>>(&rt, rt.alloc());
+fn rows_are_used_again_and_a_hold_moves_on_or_keeps_its_values(
+    rt: HostRuntime,
+) -> Result<(), Fail> {
+    let (told, held) = over_reclaimed_rows::<_, OrcDomain<AnyFit>>(&rt, rt.alloc());
     let counts = RowCounts {
         given: 2,
         reused: 2,
@@ -61,17 +90,10 @@ fn rows_are_used_again_and_a_hold_moves_on_to_an_unmarked_node(rt: HostRuntime) 
         second: Some((true, Found::Stays(9, Some(9)))),
     };
     assert!(rt; told.looks == Some(looks));
-    assert_eq!(rt; beside, Some((true, true)));
-}
-
-// The row that one holds stays its node while the other uses the other row twice, and is handed over to it.
-#[test]
-fn a_hold_keeps_its_values_and_a_release_takes_in_the_row(rt: HostRuntime) -> Result<(), Fail> {
-    let Some((domain, mut one, mut two)) = two_rows_and_a_node::<OrcDomain<AnyFit>>(rt.alloc())
-    else {
+    assert_eq!(rt; told.beside, Some((true, true)));
+    let Some((domain, mut one, seen)) = held else {
         panic!(rt; "two passes")
     };
-    let seen = held_meanwhile(&domain, &mut one, &mut two);
     let waiting = domain.backlog(&one);
     domain.drain(&mut one);
     assert_eq!(rt; seen, Some((8, 8, true)));
