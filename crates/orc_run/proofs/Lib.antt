@@ -1,3 +1,4 @@
 pub mod DeskPasses
 pub mod Growing
 pub mod AtRest
+pub mod Chosen

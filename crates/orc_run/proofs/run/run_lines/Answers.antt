@@ -15,19 +15,21 @@ use Rattle.orc_run.specs.Containers.{set_over, split_over}
 use Rattle.orc_at_rest.specs.Domains.{agents_of, empty_seed, queue_bounds, queue_seed, run_bounds}
 use Rattle.orc_run.specs.Sets.{most_buckets}
 use Rattle.orc_run.proofs.AtRest.{first_is, of_choice, ran_at_rest}
+use Rattle.orc_run.proofs.Chosen.{of_lists, of_split}
 use Rattle.orc_run.proofs.run.run_lines.Goals as goal
 
-pub returns-in_ok-queue-in-Lists : goal.returns-in_ok-queue-in-Lists
-returns-in_ok-queue-in-Lists g c =
-    let w = c.in_ok-queue-in-Lists.ensures in
+pub returns-in-Lists : goal.returns-in-Lists
+returns-in-Lists g c =
+    let chose = of_lists _ _ _ _ _ _ _ _ _ _ _ _ _ _ _ _ c.args.set c.in_ok-queue.field-0.set _ c.in-Lists.is c.in_ok-queue.ensures in
+    let w = chose.2 in
     let q = w.queues in
     let posters = c.args.posters in
     let takers = c.args.takers in
     let b = queue_bounds posters takers c.args.rows in
-    let s = run_bounds c.args.rows c.in-Lists.buckets (agents_of posters takers) in
+    let s = run_bounds c.args.rows chose.0 (agents_of posters takers) in
     let left = λ (rush : Bool). left_of _ _ _ _ (q.left rush).is (q.left rush).saw in
     let set_left = left_of _ _ _ _ w.set_is.is w.set_is.saw in
-    of_choice _ _ _ c.in-Lists.is record {
+    of_choice _ _ _ chose.1 record {
       queue_journals = λ rush. left_journal _ _ _ (left rush) b (q.made rush).sizes queue_seed (seed_told _ queue_seed (q.made rush).begins);
       set_journal = left_journal _ _ _ set_left s w.set_made.sizes empty_seed (seed_told _ empty_seed w.set_made.begins);
       replies = ran_at_rest (set_over (domain_bounds w.set)) (set_over s) w.set_seen _ c.args.lines.now posters takers _ _ q.seen _
@@ -41,9 +43,10 @@ returns-in_ok-queue-in-Lists g c =
       set_rest = left_rest _ _ _ set_left s w.set_made.sizes chain_rank chain_rises;
     }
 
-pub returns-in_ok-queue-in-Split : goal.returns-in_ok-queue-in-Split
-returns-in_ok-queue-in-Split g c =
-    let w = c.in_ok-queue-in-Split.ensures in
+pub returns-in-Split : goal.returns-in-Split
+returns-in-Split g c =
+    let chose = of_split _ _ _ _ _ _ _ _ _ _ _ _ _ _ _ _ c.args.set c.in_ok-queue.field-0.set _ c.in-Split.is c.in_ok-queue.ensures in
+    let w = chose.1 in
     let q = w.queues in
     let posters = c.args.posters in
     let takers = c.args.takers in
@@ -51,7 +54,7 @@ returns-in_ok-queue-in-Split g c =
     let s = run_bounds c.args.rows (most_buckets + 1) (agents_of posters takers) in
     let left = λ (rush : Bool). left_of _ _ _ _ (q.left rush).is (q.left rush).saw in
     let set_left = left_of _ _ _ _ w.set_is.is w.set_is.saw in
-    of_choice _ _ _ c.in-Split.is record {
+    of_choice _ _ _ chose.0 record {
       queue_journals = λ rush. left_journal _ _ _ (left rush) b (q.made rush).sizes queue_seed (seed_told _ queue_seed (q.made rush).begins);
       set_journal = left_journal _ _ _ set_left s w.set_made.sizes empty_seed (seed_told _ empty_seed w.set_made.begins);
       replies = ran_at_rest (split_over (domain_bounds w.set)) (split_over s) w.set_seen _ c.args.lines.now posters takers _ _ q.seen _
