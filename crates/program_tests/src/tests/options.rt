@@ -3,6 +3,7 @@
 use orc_fault::NoMemory;
 use orc_options::{CommandWords, Mode, Refused, SetKind, Settings, settings_of};
 use std::alloc::Global;
+use std::process::Abort;
 use std::test::Fail;
 
 // The words of a command line.
@@ -28,111 +29,101 @@ const DEFAULTS: Settings = Settings {
     lines: 20000,
 };
 
+// The settings of a mode that no other words say.
+fn of_mode(mode: Mode) -> Settings {
+    Settings { mode, ..DEFAULTS }
+}
+
+// Asks whether the words of each row give its settings.
+fn give<R: Abort>(rt: &R, alloc: Global, rows: &[(&[&str], Settings)]) -> Result<(), Fail> {
+    for (words, settings) in rows {
+        let got = settings_of(alloc, &words_of(alloc, words)?);
+        assert!(rt; got == Ok(*settings));
+    }
+    Ok(())
+}
+
 #[test]
-fn words_give_settings(rt: HostRuntime) -> Result<(), Fail> {
-    let given: [(&[&str], Settings); 17] = [
+fn words_give_modes(rt: HostRuntime) -> Result<(), Fail> {
+    let rows: [(&[&str], Settings); 6] = [
         (
             &["--mode=stages", "--stages=6"],
             Settings {
-                mode: Mode::Stages,
                 stages: 6,
-                ..DEFAULTS
+                ..of_mode(Mode::Stages)
             },
         ),
         (
             &["--mode=make", "--seed=4294967295", "--lines", "60000"],
             Settings {
-                mode: Mode::Make,
                 seed: 4294967295,
                 lines: 60000,
-                ..DEFAULTS
+                ..of_mode(Mode::Make)
             },
         ),
-        (
-            &["--lines=1", "--seed", "1"],
-            Settings {
-                lines: 1,
-                ..DEFAULTS
-            },
-        ),
-        (&[], DEFAULTS),
-        (
-            &["--mode", "replay"],
-            Settings {
-                mode: Mode::Replay,
-                ..DEFAULTS
-            },
-        ),
-        (
-            &["--mode=audit"],
-            Settings {
-                mode: Mode::Audit,
-                ..DEFAULTS
-            },
-        ),
-        (
-            &["--mode=trial"],
-            Settings {
-                mode: Mode::Trial,
-                ..DEFAULTS
-            },
-        ),
+        (&["--mode", "replay"], of_mode(Mode::Replay)),
+        (&["--mode=audit"], of_mode(Mode::Audit)),
+        (&["--mode=trial"], of_mode(Mode::Trial)),
         (&["--mode=run"], DEFAULTS),
-        (
-            &["--set=split", "--buckets", "7"],
-            Settings {
-                set: SetKind::Split,
-                buckets: 7,
-                ..DEFAULTS
-            },
-        ),
-        (&["--set", "list"], DEFAULTS),
-        (
-            &["--posters=8", "--takers", "7", "--rows=8"],
-            Settings {
-                posters: 8,
-                takers: 7,
-                rows: 8,
-                ..DEFAULTS
-            },
-        ),
-        (&["--posters", "1", "--takers=0", "--rows=65535"], DEFAULTS),
-        (
-            &["--buckets=1", "--rest", "yes"],
-            Settings {
-                buckets: 1,
-                rest: true,
-                ..DEFAULTS
-            },
-        ),
-        (
-            &["--rest=no", "--buckets", "256"],
-            Settings {
-                buckets: 256,
-                ..DEFAULTS
-            },
-        ),
-        (&["--buckets=16", "--rest=no"], DEFAULTS),
-        (
-            &["--takers", "+7"],
-            Settings {
-                takers: 7,
-                ..DEFAULTS
-            },
-        ),
-        (
-            &["--rows", "0008"],
-            Settings {
-                rows: 8,
-                ..DEFAULTS
-            },
-        ),
     ];
-    for (words, settings) in given {
-        let got = settings_of(rt.alloc(), &words_of(rt.alloc(), words)?);
-        assert!(rt; got == Ok(settings));
-    }
-    Ok(())
+    give(&rt, rt.alloc(), rows.as_slice())
+}
+
+#[test]
+fn words_give_numbers(rt: HostRuntime) -> Result<(), Fail> {
+    let one_line = Settings {
+        lines: 1,
+        ..DEFAULTS
+    };
+    let most_workers = Settings {
+        posters: 8,
+        takers: 7,
+        rows: 8,
+        ..DEFAULTS
+    };
+    let seven_takers = Settings {
+        takers: 7,
+        ..DEFAULTS
+    };
+    let eight_rows = Settings {
+        rows: 8,
+        ..DEFAULTS
+    };
+    let rows: [(&[&str], Settings); 6] = [
+        (&["--lines=1", "--seed", "1"], one_line),
+        (&[], DEFAULTS),
+        (&["--posters=8", "--takers", "7", "--rows=8"], most_workers),
+        (&["--posters", "1", "--takers=0", "--rows=65535"], DEFAULTS),
+        (&["--takers", "+7"], seven_takers),
+        (&["--rows", "0008"], eight_rows),
+    ];
+    give(&rt, rt.alloc(), rows.as_slice())
+}
+
+#[test]
+fn words_give_sets(rt: HostRuntime) -> Result<(), Fail> {
+    let split = Settings {
+        set: SetKind::Split,
+        buckets: 7,
+        ..DEFAULTS
+    };
+    let one_bucket = Settings {
+        buckets: 1,
+        rest: true,
+        ..DEFAULTS
+    };
+    let most_buckets = Settings {
+        buckets: 256,
+        ..DEFAULTS
+    };
+    let rows: [(&[&str], Settings); 5] = [
+        (&["--set=split", "--buckets", "7"], split),
+        (&["--set", "list"], DEFAULTS),
+        (&["--buckets=1", "--rest", "yes"], one_bucket),
+        (&["--rest=no", "--buckets", "256"], most_buckets),
+        (&["--buckets=16", "--rest=no"], DEFAULTS),
+    ];
+    give(&rt, rt.alloc(), rows.as_slice())
 }
 
 #[test]
