@@ -2,24 +2,14 @@
 use Rattle.std.proofs.Common.{All, ◌≡◌, ℕ, suc, List, [], ◌∷◌, ◌++◌, length, ap, sym, ◌∙◌, subst, arith, append-nil, append_assoc}
 use Rattle.std.proofs.lemmas.List.Elements.{All-from_recursion}
 use Rattle.std.specs.List.{AllByRecursion}
-use Rattle.orc_core.specs.declared.records.Agent.{Agent}
-use Rattle.orc_sound.specs.declared.steps.Step.{Step}
-use Rattle.orc_heap.specs.declared.discipline.Discipline as discipline
+use Rattle.orc_heap.specs.declared.links.Links.{Ghosts as LinksOf}
 use Rattle.orc_history.specs.declared.queue.SharedQueue.{Ghosts as QueueOf}
-use Rattle.orc_shared_words.specs.declared.machine.Machine as machine
-use Rattle.orc_machine_board.specs.declared.machine.MachineShape.{MachineShape}
-use Rattle.orc_machine_board.specs.declared.machine.Reclaiming.{Reclaiming}
-use Rattle.orc_machine_board.specs.declared.machine.Request.{Request}
-use Rattle.orc_fifo_rule.specs.declared.fifo.Fifo.{Fifo}
 use Rattle.orc_fifo_rule.specs.declared.fifo.FifoNote.{FifoNote}
-use Rattle.orc_domain.specs.declared.at_rest.OrcRest.{OrcRest}
 use Rattle.orc_stages.specs.Run.{AreIdle, HaveSeen, StandAhead, TookFirst}
 use Rattle.orc_stages.specs.declared.replies.StageDesk.{StageDesk}
 use Rattle.orc_stages.proofs.Taken.{ahead_many, taken_passes, taken_seen}
 use Rattle.orc_at_rest.proofs.Passes.{ArePasses}
-use Rattle.orc_at_rest.specs.Journals.{IsLeftAtRest}
-use Rattle.orc_stages_run.specs.declared.queue.RunQueue.{RunQueue}
-use Rattle.orc_stages_run.specs.Queues.{AreLeft, LeavesMore}
+use Rattle.orc_stages_run.specs.Queues.{AreLeft, IsLeftOf, LeavesMore}
 
 module _ {Q P A : Type 0} (q : QueueOf Q P A) (queue : Q) (rest all : List Q) (before ps : List P) (old new : List (StageDesk P)) (is : all ≡ queue ∷ rest)
     (none : before ≡ []) (t : TookFirst before old ps new)
@@ -56,34 +46,34 @@ of_first {X} P all rest x is h = (subst (λ (xs : List X). AllByRecursion P xs) 
 pub of_others : {X : Type 0} (P : X → Type 0) (all rest : List X) (x : X) → all ≡ x ∷ rest → AllByRecursion P all → AllByRecursion P rest
 of_others {X} P all rest x is h = (subst (λ (xs : List X). AllByRecursion P xs) is h).1
 
-module _ {d : discipline.Ghosts Fifo FifoNote}
-    {m : machine.Ghosts Reclaiming FifoNote (MachineShape FifoNote) Request (Step FifoNote) Agent Agent}
-  where
-    nothing_more : (queues : List RunQueue) (k : ℕ → List (Step FifoNote)) (rs : List (OrcRest Fifo FifoNote d m)) → length queues ≡ 0
-        → LeavesMore queues k rs rs
-    nothing_more [] k rs none = record { more = []; is = sym (append-nil rs); left = tt }
-    nothing_more (q ∷ qs) k rs none = absurd (omega (arith, none))
+-- where there are as many agents as before, each queue is for as many
+pub as_few : {Q : Type 0} (agents_in : Q → ℕ) (n m : ℕ) (qs : List Q) → m ≡ n → AllByRecursion (λ q. n ≡ agents_in q) qs → AllByRecursion (λ q. m ≡ agents_in q) qs
+as_few agents_in n m qs is h = subst (λ (x : ℕ). AllByRecursion (λ q. x ≡ agents_in q) qs) (sym is) h
 
-    -- of no queue nothing is left
-    pub none_more : (queues : List RunQueue) (k : ℕ → List (Step FifoNote)) (rs after : List (OrcRest Fifo FifoNote d m)) → length queues ≡ 0 → after ≡ rs
-        → LeavesMore queues k rs after
-    none_more queues k rs after none same =
-        subst (λ (xs : List (OrcRest Fifo FifoNote d m)). LeavesMore queues k rs xs) (sym same) (nothing_more queues k rs none)
+module _ {Q L D P S R : Type 0} (domain_of : Q → L) (members : LinksOf L D P S FifoNote) (rests : L → List P → R → Type 0) where
+  nothing_more : (queues : List Q) (k : ℕ → List S) (rs : List R) → length queues ≡ 0 → LeavesMore domain_of members rests queues k rs rs
+  nothing_more [] k rs none = record { more = []; is = sym (append-nil rs); left = tt }
+  nothing_more (q ∷ qs) k rs none = absurd (omega (arith, none))
 
-    -- what is left of the first queue, and then of the others
-    pub one_more : (q : RunQueue) (rest all : List RunQueue) (k : ℕ → List (Step FifoNote)) (r : OrcRest Fifo FifoNote d m)
-        (before mid after : List (OrcRest Fifo FifoNote d m)) → all ≡ q ∷ rest → mid ≡ before ++ r ∷ [] → IsLeftAtRest q.queue.links (k 0) r
-        → LeavesMore rest (λ i. k (suc i)) mid after → LeavesMore all k before after
-    one_more q rest all k r before mid after is m left h = record {
-      more = r ∷ h.more;
-      is = h.is ∙ (ap (λ xs. xs ++ h.more) m ∙ append_assoc before (r ∷ []) h.more);
-      left =
-          let both : AreLeft (q ∷ rest) k (r ∷ h.more) = (left, h.left) in
-          subst (λ (qs : List RunQueue). AreLeft qs k (r ∷ h.more)) (sym is) both;
-    }
+  -- of no queue nothing is left
+  pub none_more : (queues : List Q) (k : ℕ → List S) (rs after : List R) → length queues ≡ 0 → after ≡ rs → LeavesMore domain_of members rests queues k rs after
+  none_more queues k rs after none same =
+      subst (λ (xs : List R). LeavesMore domain_of members rests queues k rs xs) (sym same) (nothing_more queues k rs none)
 
-    -- what was put behind nothing is all
-    pub all_left : (queues : List RunQueue) (k : ℕ → List (Step FifoNote)) (before rs : List (OrcRest Fifo FifoNote d m)) → before ≡ []
-        → LeavesMore queues k before rs → AreLeft queues k rs
-    all_left queues k before rs none h =
-        subst (λ (xs : List (OrcRest Fifo FifoNote d m)). AreLeft queues k xs) (sym (h.is ∙ ap (λ xs. xs ++ h.more) none)) h.left
+  -- what is left of the first queue, and then of the others
+  pub one_more : (q : Q) (rest all : List Q) (k : ℕ → List S) (r : R) (before mid after : List R) → all ≡ q ∷ rest → mid ≡ before ++ r ∷ []
+      → IsLeftOf domain_of members rests q (k 0) r → LeavesMore domain_of members rests rest (λ i. k (suc i)) mid after
+      → LeavesMore domain_of members rests all k before after
+  one_more q rest all k r before mid after is m left h = record {
+    more = r ∷ h.more;
+    is = h.is ∙ (ap (λ xs. xs ++ h.more) m ∙ append_assoc before (r ∷ []) h.more);
+    left =
+        let both : AreLeft domain_of members rests (q ∷ rest) k (r ∷ h.more) = (left, h.left) in
+        subst (λ (qs : List Q). AreLeft domain_of members rests qs k (r ∷ h.more)) (sym is) both;
+  }
+
+  -- what was put behind nothing is all
+  pub all_left : (queues : List Q) (k : ℕ → List S) (before rs : List R) → before ≡ [] → LeavesMore domain_of members rests queues k before rs
+      → AreLeft domain_of members rests queues k rs
+  all_left queues k before rs none h =
+      subst (λ (xs : List R). AreLeft domain_of members rests queues k xs) (sym (h.is ∙ ap (λ xs. xs ++ h.more) none)) h.left

@@ -1,3 +1,5 @@
 mod Ends
 mod GoingOn
 mod Left
+mod Rows
+mod Went

@@ -2,17 +2,17 @@
 
 ghost use Rattle.std.specs.Prelude.{◌≡◌, ◌<◌, ◌≤◌, ◌∷◌, ℕ, [], List, IfOk, length, vec_capacity};
 ghost use Rattle.std.specs.List.{AllByRecursion};
-ghost use Rattle.orc_fifo_rule.specs.declared.fifo.FifoNote.{FifoNote};
-ghost use Rattle.orc_sound.specs.declared.steps.Step.{Step};
 ghost use Rattle.orc_stages.specs.Run.{AreIdle, HaveSeen};
-ghost use Rattle.orc_stages_run.specs.Queues.{IsFor, LeavesMore};
+ghost use Rattle.orc_stages_run.specs.Queues.{LeavesMore};
 
-use crate::queue::{QueuePass, RunQueue};
+use orc_any_domain::Domain;
 use orc_board::ReplyList;
+use orc_containers::queue_at_rest;
 use orc_domain::OrcRest;
 use orc_fault::NoMemory;
 use orc_fifo_rule::Fifo;
-use orc_history::SharedQueue;
+use orc_history::{LearnQueue, SharedQueue};
+use orc_queue::Queue;
 use orc_stages::{StageDesk, take_first};
 use std::alloc::Global;
 
@@ -20,11 +20,11 @@ use std::alloc::Global;
 pub type RestList = ReplyList<OrcRest<Fifo>>;
 
 // Room for the passes of so many agents to each of so many queues.
-pub(crate) fn room_for_passes(
+pub(crate) fn room_for_passes<A: Drop>(
     alloc: Global,
     queues: usize,
     agents: usize,
-) -> Result<Vec<Vec<QueuePass>>, NoMemory>
+) -> Result<Vec<Vec<A>>, NoMemory>
     ensures rooms { IfOk result (λ rooms. AllByRecursion (λ room. (room.items ≡ []) × (agents ≤ vec_capacity room)) rooms.items) }
     ensures all { IfOk result (λ rooms. length rooms.items ≡ queues) }
 {
@@ -37,19 +37,19 @@ pub(crate) fn room_for_passes(
 
 // Takes the passes of one queue after another from the desks, brings its domain to rest, and puts what is left behind those that are
 // there. It takes no memory.
-pub(crate) fn end_queues(
-    mut queues: Vec<RunQueue>,
-    desks: &mut [StageDesk<QueuePass>],
-    mut rooms: Vec<Vec<QueuePass>>,
-    rests: &mut RestList,
+pub(crate) fn end_queues<L: Domain<Rule = Fifo> + Drop>(
+    mut queues: Vec<Queue<L>>,
+    desks: &mut [StageDesk<L::Pass>],
+    mut rooms: Vec<Vec<L::Pass>>,
+    rests: &mut ReplyList<L::Rest>,
 )
-    requires idle { AreIdle ⟦<RunQueue as SharedQueue>⟧ queues.items 0 desks.old }
-    requires agents { AllByRecursion (IsFor (length desks.old)) queues.items }
+    requires idle { AreIdle ⟦<Queue<L> as SharedQueue>⟧ queues.items 0 desks.old }
+    requires agents { AllByRecursion (λ queue. length desks.old ≡ ⟦<Queue<L> as LearnQueue>⟧.agents queue) queues.items }
     requires rooms { AllByRecursion (λ room. (room.items ≡ []) × (length desks.old ≤ vec_capacity room)) rooms.items }
     requires all { length rooms.items ≡ length queues.items }
     requires room { length queues.items ≤ rests.old.spare }
-    ensures left { (k : ℕ → List (Step FifoNote)) → HaveSeen ⟦<RunQueue as SharedQueue>⟧ k desks.old
-        → LeavesMore queues.items k rests.old.items rests.new.items }
+    ensures left { (k : ℕ → List L.Step) → HaveSeen ⟦<Queue<L> as SharedQueue>⟧ k desks.old
+        → LeavesMore (λ queue. queue.links) L.Links L.rests queues.items k rests.old.items rests.new.items }
 {
     if queues.is_empty() {
         return;
@@ -57,7 +57,7 @@ pub(crate) fn end_queues(
     let queue = take_front(&mut queues);
     let mut passes = take_front(&mut rooms);
     take_first(desks, &mut passes);
-    rests.push(queue.at_rest(passes));
+    rests.push(queue_at_rest(queue, passes));
     end_queues(queues, desks, rooms, rests);
 }
 

@@ -3,7 +3,7 @@
 
 mod ending;
 mod making;
-mod queue;
+mod over;
 mod run;
 
 pub use ending::RestList;

@@ -4,12 +4,14 @@ ghost use Rattle.std.specs.Prelude.{◌≤◌, IfOk};
 ghost use Rattle.orc_jobs.specs.GoodLines.{AreGood};
 ghost use Rattle.orc_stages_run.specs.Runs.{WentThrough};
 
-use crate::ending::{RestList, end_queues, room_for_passes};
-use crate::making::{Row, make_row};
+use crate::ending::RestList;
+use crate::over::{Left, run_over};
 use orc_board::Gate;
+use orc_domain::OrcDomain;
 use orc_fault::NoMemory;
+use orc_fifo_rule::Fifo;
 use orc_jobs::Lines;
-use orc_stages::{StagesDone, run_stages};
+use orc_stages::StagesDone;
 use std::alloc::Global;
 use std::sync::Wait;
 use std::thread::Threads;
@@ -43,23 +45,8 @@ pub fn run_pipeline<R: Threads + Wait + Sync, G: Gate + Sync>(
     requires rows { (2 ≤ rows) × (rows ≤ 65535) }
     ensures { IfOk result (λ f. WentThrough lines.now posters stages rows f) }
 {
-    let agents = 1 + posters + stages;
-    let many = stages as usize + 1;
-    let Row { queues, mut desks } = make_row(alloc, many, rows, agents)?;
-    let rooms = room_for_passes(alloc, many, agents as usize)?;
-    let mut rests = RestList::new(alloc, many)?;
-    let done = run_stages(
-        rt,
-        alloc,
-        lines,
-        posters,
-        queues.as_slice(),
-        &mut desks,
-        gate,
+    let Left { queues, done } = run_over::<R, OrcDomain<Fifo>, G>(
+        rt, alloc, lines, posters, stages, rows, gate,
     )?;
-    end_queues(queues, desks.as_mut_slice(), rooms, &mut rests);
-    Ok(StagesFinished {
-        queues: rests,
-        done,
-    })
+    Ok(StagesFinished { queues, done })
 }
