@@ -1,20 +1,22 @@
 -- What a worker's replies stand for grows reply by reply.
 use Rattle.std.proofs.Common.{◌≡◌, ◌≢◌, ℕ, zero, suc, ◌+◌, ◌≤◌, ◌<◌, slice_get, ◌-◌, ◌%◌, List, [], ◌∷◌, ◌++◌, length, map, Bool, true, false, cond, ◌==◌, filter, Some, None, refl, ap, sym, ◌∙◌, subst, arith, add-one, append-nil, length-append}
+use mathlib.Core.List.{Sublist as IsSublist, nil-sublist, sublist-append_left, sublist-append_right}
+use mathlib.Core.List.Sublist
 use Rattle.std.specs.List.{range_with_len}
 use Rattle.std.proofs.lemmas.List.{length-map, map-append}
 use Rattle.std.proofs.lemmas.List.Elements.{filter-append}
 use Rattle.orc_history.specs.declared.queue.QueueEntry.{QueueEntry}
-use Rattle.orc_history.specs.declared.queue.QueueEntry.TheVariants.{Empty}
+use Rattle.orc_history.specs.declared.queue.QueueEntry.TheVariants.{Empty, Took}
 use Rattle.orc_history.specs.declared.queue.QueueRefused.{QueueRefused}
 use Rattle.orc_history.specs.declared.set.SetEntry.{SetEntry}
 use Rattle.orc_history.specs.declared.set.ListRefused.{ListRefused}
 use Rattle.orc_jobs.specs.declared.line.Line.{Line}
 use Rattle.orc_board.specs.declared.replies.PostReply.{PostReply}
 use Rattle.orc_board.specs.declared.replies.TakeReply.{TakeReply}
-use Rattle.orc_board.specs.Stretches.{View, Row, Replied, empty_row, of_queue}
-use Rattle.orc_board.specs.Table.{PostRow, TakenRow, EndsWith, TakeEnds}
+use Rattle.orc_board.specs.Stretches.{View, Row, Replied, Stretch, empty_row, of_queue}
+use Rattle.orc_board.specs.Table.{PostRow, TakenRow, EndsWith, TakeEnds, taken_of}
 use Rattle.orc_history.specs.Lists.{Pairwise}
-use Rattle.orc_board.specs.Follows.{Posting, Taking, TakingRest, PosterRow, TakerRow, own_records}
+use Rattle.orc_board.specs.Follows.{AskedRush, Posting, Taking, TakingRest, PosterRow, TakerRow, own_records, rush_answer}
 use Rattle.orc_board.proofs.Shares.{Works-none, Works-row, Stands-empty, DidAll-stretch, own_of_rows}
 use Rattle.orc_board.proofs.CallStretches.{ends_later}
 use Rattle.orc_board.proofs.ListFacts.{eq-yes, eq-no}
@@ -103,21 +105,55 @@ module _ {T : Type 0} (line : T → ℕ) (posters poster i : ℕ) (replies : Lis
   own-spare n spare room low fits all none =
       omega (arith, none, own-room posters poster i n some low e, own-many line replies (own_records posters poster i) own, fits, all)
 
+-- the rush queue's answers to an agent stay, and those to its next reply join them
+module _ {A : Type 0} (q : View A QueueEntry QueueRefused) (agent : ℕ) (replies : List TakeReply) where
+  pub asked_later : (own : List QueueEntry) (j k : List A) → AskedRush q agent replies j → Stretch of_queue q agent own j k → AskedRush q agent replies k
+  asked_later own j k asked t =
+      subst (IsSublist (map (rush_answer agent) replies)) (sym t.is) (Sublist.trans asked (sublist-append_left (q.history j) t.part))
+
+  pub asked_more : (r : TakeReply) (j k : List A) → AskedRush q agent replies j → EndsWith q agent (rush_answer agent r) j k
+      → AskedRush q agent (replies ++ r ∷ []) k
+  asked_more r j k asked e =
+      let answer : QueueEntry = rush_answer agent r in
+      let last : IsSublist (answer ∷ []) (e.front ++ answer ∷ e.back) =
+      Sublist.trans (Sublist.cons-cons answer (nil-sublist e.back)) (sublist-append_right e.front (answer ∷ e.back)) in
+      rw (map-append (rush_answer agent) replies (r ∷ []))
+      (subst (IsSublist (map (rush_answer agent) replies ++ answer ∷ [])) (sym e.is) (Sublist.append asked last))
+
+-- the rush queue's last answer to a take with this reply
+pub rush_ends : {A : Type 0} (qs : Bool → View A QueueEntry QueueRefused) (agent : ℕ) (r : TakeReply) (j k : Bool → List A)
+    → TakeEnds qs agent (taken_of (Some r)) j k → EndsWith (qs true) agent (rush_answer agent r) (j true) (k true)
+rush_ends qs agent r j k last =
+    let cases : (b : Bool) → r.rush ≡ b → EndsWith (qs true) agent (cond b (Took agent r.line r.at) (Empty agent)) (j true) (k true) =
+    elim [
+      | true ↦ λ is. subst (λ (b : Bool). EndsWith (qs b) agent (Took agent r.line r.at) (j b) (k b)) is last.took
+      | false ↦ λ is. last.rush_first is
+    ] in
+    cases r.rush refl
+
 pub taking_none : {A B : Type 0} (qs : Bool → View A QueueEntry QueueRefused) (s : View B SetEntry ListRefused) (lines : List Line) (taker agent : ℕ)
     (replies : List TakeReply) (j : Bool → List A) (m : List B)
     → replies ≡ [] → Taking qs s lines taker agent replies j m j m
-taking_none qs s lines taker agent replies j m e = record { rows = []; table = rw e tt; works = Works-none qs s agent j m }
+taking_none qs s lines taker agent replies j m e = record {
+  rows = [];
+  table = rw e tt;
+  works = Works-none qs s agent j m;
+  rush_first = rw e (nil-sublist ((qs true).history (j true)));
+}
 
 pub taking_more : {A B : Type 0} (qs : Bool → View A QueueEntry QueueRefused) (s : View B SetEntry ListRefused) (lines : List Line) (taker agent now : ℕ)
     (replies : List TakeReply) (r : TakeReply) (j k k2 : Bool → List A) (m n n2 : List B)
     → Taking qs s lines taker agent replies j m k n → now ≡ agent → r.taker ≡ taker
-    → Replied qs s (TakenRow lines now (Some r)) now k n k2 n2 → Taking qs s lines taker agent (replies ++ r ∷ []) j m k2 n2
-taking_more qs s lines taker agent now replies r j k k2 m n n2 p e same replied =
+    → TakeEnds qs now (taken_of (Some r)) k k2 → Replied qs s (TakenRow lines now (Some r)) now k n k2 n2
+    → Taking qs s lines taker agent (replies ++ r ∷ []) j m k2 n2
+taking_more qs s lines taker agent now replies r j k k2 m n n2 p e same ends replied =
+    let last : TakeEnds qs agent (taken_of (Some r)) k k2 = subst (λ (x : ℕ). TakeEnds qs x (taken_of (Some r)) k k2) e ends in
     let done : Replied qs s (TakenRow lines agent (Some r)) agent k n k2 n2 = subst (λ (x : ℕ). Replied qs s (TakenRow lines x (Some r)) x k n k2 n2) e replied in
     record {
       rows = p.rows ++ done.row ∷ [];
       table = Pairwise-snoc (TakerRow lines taker agent) replies p.rows r done.row p.table (record { taker_is = same; table = done.is });
       works = Works-row qs s agent p.works done.stands;
+      rush_first = asked_more (qs true) agent replies r (k true) (k2 true) p.rush_first (rush_ends qs agent r k k2 last);
     }
 
 pub taking_end : {A B : Type 0} (qs : Bool → View A QueueEntry QueueRefused) (s : View B SetEntry ListRefused) (lines : List Line) (taker agent now : ℕ)

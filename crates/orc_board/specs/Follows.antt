@@ -1,10 +1,11 @@
 -- Replies follow three journals: the workers' own entries are those that their replies stand for, and there are no others.
-use Rattle.std.specs.Prelude.{◌≡◌, ◌≢◌, ℕ, suc, ◌+◌, ◌%◌, ◌<◌, ◌≤◌, List, [], ◌∷◌, ◌++◌, length, map, filter, ◌==◌, Bool, Some, None, slice_get}
+use Rattle.std.specs.Prelude.{◌≡◌, ◌≢◌, ℕ, suc, ◌+◌, ◌%◌, ◌<◌, ◌≤◌, List, [], ◌∷◌, ◌++◌, length, map, filter, ◌==◌, Bool, true, cond, Some, None, slice_get}
 use Rattle.std.specs.List.{range_with_len, AllByRecursion}
 use Rattle.std.proofs.Common.{zero}
+use mathlib.Core.List.{Sublist}
 use Rattle.orc_history.specs.Lists.{Pairwise}
 use Rattle.orc_history.specs.declared.queue.QueueEntry.{QueueEntry}
-use Rattle.orc_history.specs.declared.queue.QueueEntry.TheVariants.{Empty}
+use Rattle.orc_history.specs.declared.queue.QueueEntry.TheVariants.{Empty, Took}
 use Rattle.orc_history.specs.declared.queue.QueueRefused.{QueueRefused}
 use Rattle.orc_history.specs.declared.set.SetEntry.{SetEntry}
 use Rattle.orc_history.specs.declared.set.ListRefused.{ListRefused}
@@ -46,12 +47,21 @@ pub record Posting {A B : Type 0} (qs : Bool → View A QueueEntry QueueRefused)
   pub table : Pairwise (PosterRow lines poster) replies rows
   pub works : Works qs s poster rows j m k n
 
--- what a taker did between these journals is what these replies stand for, with jobs that it passed over
+-- what the rush queue, which is asked first, answered before this reply: its job, or else that it was empty
+abbrev pub rush_answer : ℕ → TakeReply → QueueEntry
+rush_answer agent r = cond r.rush (Took agent r.line r.at) (Empty agent)
+
+-- the agent asked the rush queue first for each of these replies: those answers stand in that queue's history, in the replies' order
+abbrev pub AskedRush : {A : Type 0} → View A QueueEntry QueueRefused → ℕ → List TakeReply → List A → Type 0
+AskedRush q agent replies k = Sublist (map (rush_answer agent) replies) (q.history k)
+
+-- what a taker did between these journals is what these replies stand for, with jobs that it passed over; it asked the rush queue first
 pub record Taking {A B : Type 0} (qs : Bool → View A QueueEntry QueueRefused) (s : View B SetEntry ListRefused) (lines : List Line) (taker agent : ℕ)
     (replies : List TakeReply) (j : Bool → List A) (m : List B) (k : Bool → List A) (n : List B) : Type 0 where
   pub rows : List Row
   pub table : Pairwise (TakerRow lines taker agent) replies rows
   pub works : Works qs s agent rows j m k n
+  pub rush_first : AskedRush (qs true) agent replies (k true)
 
 -- the same, and at last the jobs that it passed over before it found nothing
 pub record TakingRest {A B : Type 0} (qs : Bool → View A QueueEntry QueueRefused) (s : View B SetEntry ListRefused) (lines : List Line) (taker agent : ℕ)
@@ -61,12 +71,14 @@ pub record TakingRest {A B : Type 0} (qs : Bool → View A QueueEntry QueueRefus
   pub taking : Taking qs s lines taker agent replies j m queues set
   pub last : Replied qs s (TakenRow lines agent None) agent queues set k n
 
--- what a taker did between these journals is what these replies stand for, in their order, and it passed over no job
+-- what a taker did between these journals is what these replies stand for, in their order; it passed over no job, and asked the rush
+-- queue first
 pub record Claiming {A B : Type 0} (qs : Bool → View A QueueEntry QueueRefused) (s : View B SetEntry ListRefused) (lines : List Line) (taker agent : ℕ)
     (replies : List TakeReply) (j : Bool → List A) (m : List B) (k : Bool → List A) (n : List B) : Type 0 where
   pub rows : List Row
   pub table : Pairwise (TookRow lines taker agent) replies rows
   pub works : Works qs s agent rows j m k n
+  pub rush_first : AskedRush (qs true) agent replies (k true)
 
 -- the records below n that belong to this poster, in file order: record i belongs to poster 1 + (i mod P)
 abbrev pub own_records : ℕ → ℕ → ℕ → List ℕ

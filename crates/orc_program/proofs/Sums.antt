@@ -8,8 +8,8 @@ use Rattle.orc_history.specs.declared.set.SetEntry.{SetEntry}
 use Rattle.orc_jobs.specs.declared.line.Line.{Line}
 use Rattle.orc_options.specs.declared.settings.Settings.{Settings}
 use Rattle.orc_report.proofs.AllDone.{all_done, none_void}
-use Rattle.orc_report.proofs.NumberedLines.{generated-numbered, one-list}
-use Rattle.orc_report.specs.AllDone.{AreJobsOf, PostTheirNumbers, NoneRefused, NoneVoid}
+use Rattle.orc_report.proofs.NumberedLines.{PostTheirNumbers, generated-numbered, one-list}
+use Rattle.orc_report.specs.AllDone.{AreJobsOf, NoneRefused, NoneVoid}
 use Rattle.orc_report.specs.Summary.{done_jobs, summary_of}
 use Rattle.orc_run.specs.Containers.{queue_over, set_over, split_over}
 use Rattle.orc_run.specs.Runs.{Follow, FollowWith, queue_bounds, set_bounds}

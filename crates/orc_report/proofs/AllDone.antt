@@ -35,7 +35,8 @@ use Rattle.orc_board.specs.Reportable.{IsClaim, claim_of, is_side, posted_by, po
 use Rattle.orc_board.specs.Runs.{Ran}
 use Rattle.orc_board.proofs.ListFacts.{AllByRecursion-append, AllByRecursion-filter, AllByRecursion-left, AllByRecursion-map, AllByRecursion-right, eq-false, eq-no, eq-true, filter-none}
 use Rattle.orc_board.proofs.Orders.{each_line, same}
-use Rattle.orc_report.specs.AllDone.{AreJobsOf, PostTheirNumbers, IsJobOf, NoneRefused, NoneVoid}
+use Rattle.orc_report.specs.AllDone.{AreJobsOf, IsJobOf, NoneRefused, NoneVoid}
+use Rattle.orc_report.proofs.NumberedLines.{PostTheirNumbers}
 use Rattle.orc_report.specs.Summary.{done_as, done_in, done_jobs}
 use Rattle.orc_report.proofs.KeptKeys.{NotAdded, NotBusy, NotMissed, NotRemoved, legal-behind, never-added, never-busy, never-missed}
 use Rattle.orc_report.proofs.PositionOrder.{all_of, every_at}

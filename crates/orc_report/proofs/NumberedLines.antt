@@ -1,11 +1,21 @@
--- Generated lines post numbered jobs, and lines have one list of jobs.
+-- Lines that post numbered jobs, which generated lines do; and lines have one list of jobs.
 use Rattle.std.proofs.Common.{◌≡◌, ◌∙◌, ◌+◌, ◌∷◌, List, [], ℕ, zero, suc, Some, arith, slice_get, subst, sym}
 use Rattle.orc_jobs.specs.Generated.{behind_line, generated, line_from, lines_from}
 use Rattle.orc_jobs.specs.declared.line.Job.{Job}
 use Rattle.orc_jobs.specs.declared.line.Line.{Line}
 use Rattle.orc_jobs.specs.declared.line.Line.TheVariants as line
 use Rattle.orc_jobs.proofs.JobValues.{IsJobValue-unique}
-use Rattle.orc_report.specs.AllDone.{AreJobsOf, PostTheirNumbers, IsJobOf, PostsId}
+use Rattle.orc_report.specs.AllDone.{AreJobsOf, IsJobOf}
+
+-- the line posts a job with this id on the queue
+abbrev pub PostsId : ℕ → Line → Type 0
+PostsId i (line.Post id op text) = id ≡ i
+PostsId i (line.Rush id op text) = ⊥
+PostsId i (line.Drop id) = ⊥
+
+-- each line posts a job on the queue, whose id is the line's number
+abbrev pub PostTheirNumbers : List Line → Type 0
+PostTheirNumbers lines = (i : ℕ) (l : Line) → slice_get lines i ≡ Some l → PostsId i l
 
 numbered : (n a x i : ℕ) (l : Line) → slice_get (lines_from n a x) i ≡ Some l → PostsId (a + i) l
 numbered zero a x i l e = cc e

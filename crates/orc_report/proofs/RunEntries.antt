@@ -23,7 +23,7 @@ use Rattle.orc_board.proofs.ListFacts.{AllByRecursion-append, AllByRecursion-fil
 use Rattle.orc_board.proofs.Orders.{above_zero, no_posts, posters_in_range}
 use Rattle.orc_board.proofs.Wholes.{Works-set, set_of_rows}
 use Rattle.orc_board.proofs.WorkerCases.{worker_cases}
-use Rattle.orc_report.specs.AllDone.{PostTheirNumbers, PostsId}
+use Rattle.orc_report.proofs.NumberedLines.{PostTheirNumbers, PostsId}
 
 -- what holds of the items with each key holds of all
 pub by_keys : {X : Type 0} (key : X → ℕ) (P : X → Type 0) (n : ℕ) (xs : List X) → AllByRecursion (λ x. key x < n) xs

@@ -1,5 +1,5 @@
 -- When all jobs of lines are done.
-use Rattle.std.specs.Prelude.{◌≡◌, ◌≢◌, List, Some, ℕ, slice_get}
+use Rattle.std.specs.Prelude.{◌≡◌, ◌≢◌, List, ℕ}
 use Rattle.std.specs.List.{AllByRecursion}
 use Rattle.orc_jobs.specs.declared.line.Job.{Job}
 use Rattle.orc_jobs.specs.declared.line.Line.{Line}
@@ -10,16 +10,6 @@ use Rattle.orc_board.specs.declared.replies.PostReply.{PostReply}
 use Rattle.orc_board.specs.declared.replies.PostWord.TheVariants as post
 use Rattle.orc_board.specs.declared.replies.TakeReply.{TakeReply}
 use Rattle.orc_board.specs.declared.replies.TakeWord.TheVariants as take
-
--- the line posts a job with this id on the queue
-abbrev pub PostsId : ℕ → Line → Type 0
-PostsId i (line.Post id op text) = id ≡ i
-PostsId i (line.Rush id op text) = ⊥
-PostsId i (line.Drop id) = ⊥
-
--- each line posts a job on the queue, whose id is the line's number
-abbrev pub PostTheirNumbers : List Line → Type 0
-PostTheirNumbers lines = (i : ℕ) (l : Line) → slice_get lines i ≡ Some l → PostsId i l
 
 -- the operation of the line's job, and its value
 abbrev pub IsJobOf : Line → Job × ℕ → Type 0

@@ -68,5 +68,6 @@ abbrev pub RunsArePipelines : {A : Type 0} → (ℕ → View A QueueEntry QueueR
 RunsArePipelines {A = A} x =
     (lines : List Line) (posters stages : ℕ) (posts : List PostReply) (work own : ℕ → List StageReply) (moves : List StageReply) (outs : List ℕ)
     (k : ℕ → List A) → 1 ≤ posters → length lines ≤ 65535 → Ran x lines posters stages posts work own outs k
-    → moves ≡ grouped_by_key (λ (r : StageReply). r.stage) (suc stages) moves → AllByRecursion (λ (r : StageReply). 1 ≤ r.stage) moves → ((i : ℕ) → i < stages → moves_of (suc i) moves ≡ work i ++ own i)
+    → moves ≡ grouped_by_key (λ (r : StageReply). r.stage) (suc stages) moves → AllByRecursion (λ (r : StageReply). 1 ≤ r.stage) moves
+    → ((i : ℕ) → i < stages → moves_of (suc i) moves ≡ work i ++ own i)
     → IsPipeline x lines posters stages posts moves outs k

@@ -21,6 +21,7 @@ use Rattle.orc_board.specs.Runs.{Ran}
 use Rattle.orc_board.proofs.ListFacts.{AllByRecursion-append, AllByRecursion-left, AllByRecursion-right, AllByRecursion-filter, eq-yes}
 use Rattle.orc_board.proofs.Shares.{Works-more}
 use Rattle.orc_board.proofs.Wholes.{queue_of_rows, Works-queue}
+use Rattle.orc_board.proofs.Workers.{asked_later}
 use Rattle.orc_board.proofs.JobsTaken.{PutFits, TookFits, legal_tooks, rows_puts, took_rows_fit, skips_fit, no_skips, strict_rows}
 use Rattle.orc_board.proofs.WorkerCases.{own_whole, worker_cases}
 use Rattle.orc_workers.proofs.Resting.{resting_stretch}
@@ -84,6 +85,7 @@ strict_taker qs s lines taker agent rs k n new fits t =
       table = strict_rows lines taker agent rs t.taking.rows t.taking.table
           (λ b. AllByRecursion-left (TookFits lines b) (queue_of_rows b t.taking.rows) (t.last.row.queues b).own (all b));
       works = Works-more qs s agent t.taking.works silent;
+      rush_first = asked_later (qs true) agent rs [] (t.queues true) (k true) t.taking.rush_first (silent.queues true).stretch;
     }
 
 -- what all workers have done, where the journals k and n are those of a pass that learned from all others; q and s are already

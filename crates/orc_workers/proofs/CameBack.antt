@@ -62,6 +62,7 @@ rest_from qs s C lines taker agent takes i j k l m n f h before t = record {
     table = t.taking.table;
     works = Works-before (all_beside qs C) (beside s C) agent before
         (Works-beside qs s C f h agent t.taking.works);
+    rush_first = t.taking.rush_first;
   };
   last = record { row = t.last.row; is = t.last.is; stands = Stands-beside qs s C f h agent t.last.row t.queues k t.set n t.last.stands };
 }

@@ -1,6 +1,6 @@
 -- What a taker's answers stand for grows answer by answer, also after answers that found nothing.
 use Rattle.orc_history.specs.QueueHistory.{agent_of_entry}
-use Rattle.std.proofs.Common.{◌≡◌, ◌≢◌, ℕ, ◌-◌, ◌<◌, length, Bool, List, [], ◌∷◌, ◌++◌, Some, None, refl, ap, sym, ◌∙◌, subst, append_assoc}
+use Rattle.std.proofs.Common.{◌≡◌, ◌≢◌, ℕ, ◌-◌, ◌<◌, length, Bool, true, List, [], ◌∷◌, ◌++◌, Some, None, refl, ap, sym, ◌∙◌, subst, append_assoc}
 use Rattle.orc_history.specs.declared.queue.QueueEntry.{QueueEntry}
 use Rattle.orc_history.specs.declared.queue.QueueEntry.TheVariants.{Took, Empty}
 use Rattle.orc_history.specs.declared.queue.QueueRefused.{QueueRefused}
@@ -10,7 +10,7 @@ use Rattle.orc_history.specs.declared.set.ListRefused.{ListRefused}
 use Rattle.orc_jobs.specs.declared.line.Line.{Line}
 use Rattle.orc_board.specs.declared.replies.TakeReply.{TakeReply}
 use Rattle.orc_board.specs.Stretches.{View, Row, Share, Did, Stretch, Stands, Replied, just, nothing, of_queue, of_set}
-use Rattle.orc_board.specs.Table.{IsSkip, TakeRow, TakenRow, EndsWith, TakeEnds, in_its, claim_answer}
+use Rattle.orc_board.specs.Table.{IsSkip, TakeRow, TakenRow, EndsWith, TakeEnds, in_its, claim_answer, taken_of}
 use Rattle.orc_board.specs.Follows.{TakingRest, TakerRow, LastIsEmpty}
 use Rattle.orc_board.specs.declared.replies.PostReply.{PostReply}
 use Rattle.orc_jobs.specs.Line.{jobs_in}
@@ -20,7 +20,7 @@ use Rattle.orc_board.proofs.Shares.{Did-just, Stretch-trans, Works-row, Stands-e
 use mathlib.Core.List.{IsPrefix}
 use Rattle.orc_board.proofs.CallStretches.{ends_later}
 use Rattle.orc_board.proofs.Wholes.{queue_of_rows, Works-queue, Works-set}
-use Rattle.orc_board.proofs.Workers.{taking_none, taking_full, Pairwise-snoc}
+use Rattle.orc_board.proofs.Workers.{asked_later, asked_more, rush_ends, taking_none, taking_full, Pairwise-snoc}
 
 -- two rows without refusals, one after another
 pub Stands-both : {A B : Type 0} (qs : Bool → View A QueueEntry QueueRefused) (s : View B SetEntry ListRefused) (agent : ℕ)
@@ -53,8 +53,10 @@ resting_none qs s lines taker agent replies j m e = taking_full qs s lines taker
 pub resting_more : {A B : Type 0} (qs : Bool → View A QueueEntry QueueRefused) (s : View B SetEntry ListRefused) (lines : List Line) (taker agent now : ℕ)
     (replies : List TakeReply) (r : TakeReply) (j k k2 : Bool → List A) (m n n2 : List B)
     → TakingRest qs s lines taker agent replies j m k n → now ≡ agent → r.taker ≡ taker
-    → Replied qs s (TakenRow lines now (Some r)) now k n k2 n2 → TakingRest qs s lines taker agent (replies ++ r ∷ []) j m k2 n2
-resting_more qs s lines taker agent now replies r j k k2 m n n2 p e same replied =
+    → TakeEnds qs now (taken_of (Some r)) k k2 → Replied qs s (TakenRow lines now (Some r)) now k n k2 n2
+    → TakingRest qs s lines taker agent (replies ++ r ∷ []) j m k2 n2
+resting_more qs s lines taker agent now replies r j k k2 m n n2 p e same ends replied =
+    let last : TakeEnds qs agent (taken_of (Some r)) k k2 = subst (λ (x : ℕ). TakeEnds qs x (taken_of (Some r)) k k2) e ends in
     let done : Replied qs s (TakenRow lines agent (Some r)) agent k n k2 n2 = subst (λ (x : ℕ). Replied qs s (TakenRow lines x (Some r)) x k n k2 n2) e replied in
     let before : Bool → List QueueEntry = p.last.is.skipped in
     let took : Bool → List QueueEntry = in_its r.rush (Took agent r.line r.at ∷ []) in
@@ -82,6 +84,10 @@ resting_more qs s lines taker agent now replies r j k k2 m n n2 p e same replied
         rows = p.taking.rows ++ row ∷ [];
         table = Pairwise-snoc (TakerRow lines taker agent) replies p.taking.rows r row p.taking.table (record { taker_is = same; table = table });
         works = Works-row qs s agent p.taking.works all;
+        rush_first = asked_more (qs true) agent replies r (k true) (k2 true)
+            (asked_later (qs true) agent replies (p.last.row.queues true).own (p.queues true) (k true) p.taking.rush_first
+            (p.last.stands.queues true).stretch)
+            (rush_ends qs agent r k k2 last);
       };
       last = record {
         row = skip_row (λ b. []);

@@ -21,7 +21,7 @@ loop-preserved g c = record {
       rw c.push.ensures.items
       (taking_more (queue_views g.Q.SharedQueue c.args.queue.now c.args.rush.now)
       (set_view g.S.SharedSet c.args.set.now) _ _ _ _ _ _ _ _ _ _ _ _ c.loop.invariant.taking c.loop.invariant.desk.queue_agent
-      c.in-Some-take_one.ensures.reply c.in-Some-take_one.ensures.row);
+      c.in-Some-take_one.ensures.reply c.in-Some-take_one.ensures.last c.in-Some-take_one.ensures.row);
 }
 
 pub returns-in-None-take_one-clause-taking : goal.returns-in-None-take_one-clause-taking

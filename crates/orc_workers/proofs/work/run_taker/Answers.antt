@@ -22,7 +22,7 @@ loop-preserved-in-Some-take_one g c = record {
       (omega (arith, c.if-len-jobs.false, c.len.ensures, c.count_jobs-jobs.ensures, length-append c.loop.replies.items (c.in-Some-take_one.reply ∷ [])));
   taking = rw c.push.ensures.items
       (resting_more (queue_views g.Q.SharedQueue c.args.queue.now c.args.rush.now) (set_view g.S.SharedSet c.args.set.now) _ _ _ _ _ _ _ _ _ _ _ _ c.loop.invariant.taking
-      c.loop.invariant.desk.queue_agent c.in-Some-take_one.ensures.reply c.in-Some-take_one.ensures.row);
+      c.loop.invariant.desk.queue_agent c.in-Some-take_one.ensures.reply c.in-Some-take_one.ensures.last c.in-Some-take_one.ensures.row);
 }
 
 pub loop-preserved : goal.loop-preserved
