@@ -9,7 +9,7 @@ use orc_board::Gate;
 use orc_fault::NoMemory;
 use orc_jobs::Lines;
 use orc_options::{SetKind, Settings};
-use orc_run::{Finished, SetChoice, run_lines};
+use orc_run::{Finished, SetChoice, Task, run_lines};
 use std::sync::Wait;
 use std::thread::Threads;
 
@@ -26,13 +26,16 @@ impl<R: Threads + Wait + Sync, G: Gate + Sync> Setup<'_, R, G> {
             rows,
             ..
         } = self.settings;
-        run_lines(
-            self.rt,
-            self.alloc,
+        let task = Task {
             lines,
             posters,
             takers,
             rows,
+        };
+        run_lines(
+            self.rt,
+            self.alloc,
+            &task,
             set_of(self.settings),
             self.gate,
         )

@@ -12,3 +12,4 @@ mod work;
 
 pub use run::{Finished, run_lines};
 pub use set::{SetChoice, SetRest};
+pub use task::Task;

@@ -1,6 +1,6 @@
 //! The whole run.
 
-ghost use Rattle.std.specs.Prelude.{◌≤◌, IfOk};
+ghost use Rattle.std.specs.Prelude.{IfOk};
 ghost use Rattle.orc_jobs.specs.GoodLines.{AreGood};
 ghost use Rattle.orc_run.specs.{Over.{RanWith}, Runs.{WorkedThrough}, Sets.{IsInRange}, declared.set.SetChoice.{SetChoice}};
 
@@ -14,7 +14,6 @@ use orc_domain::{OrcDomain, OrcRest};
 use orc_fault::NoMemory;
 use orc_fifo_rule::Fifo;
 use orc_heap::Links;
-use orc_jobs::Lines;
 use orc_split_rule::Split;
 use std::alloc::Global;
 use std::sync::Wait;
@@ -30,9 +29,8 @@ pub struct Finished {
     pub replies: Replies,
 }
 
-/// Works through these lines with 1 to 8 posters and 0 to 7 takers, each on a thread of its own where one can be started,
-/// over a queue, a rush queue and the chosen set of 2 to 65,535 rows each. Then the caller takes what is left, and all three
-/// domains are brought to rest.
+/// Works through the lines with the posters and takers of the task, each on a thread of its own where one can be started, over a
+/// queue, a rush queue and the chosen set. Then the caller takes what is left, and all three domains are brought to rest.
 ///
 /// # Errors
 ///
@@ -40,32 +38,20 @@ pub struct Finished {
 pub fn run_lines<R: Threads + Wait + Sync, G: Gate + Sync>(
     rt: &R,
     alloc: Global,
-    lines: &Lines,
-    posters: u32,
-    takers: u32,
-    rows: u32,
+    task: &Task<'_>,
     set: SetChoice,
     gate: &G,
 ) -> Result<Finished, NoMemory>
-    requires good { AreGood lines.now }
-    requires posters { (1 ≤ posters) × (posters ≤ 8) }
-    requires takers { takers ≤ 7 }
-    requires rows { (2 ≤ rows) × (rows ≤ 65535) }
+    requires good { AreGood task.now.lines.now }
     requires set { IsInRange set }
-    ensures { IfOk result (λ f. WorkedThrough lines.now posters takers rows set f) }
+    ensures { IfOk result (λ f. WorkedThrough task.now.lines.now task.now.posters task.now.takers task.now.rows set f) }
 {
-    let task = Task {
-        lines,
-        posters,
-        takers,
-        rows,
-    };
     let Left {
         queue,
         rush,
         set,
         replies,
-    } = run_at_lists::<R, OrcDomain<Split>, G>(rt, alloc, &task, set, gate)?;
+    } = run_at_lists::<R, OrcDomain<Split>, G>(rt, alloc, task, set, gate)?;
     match set {
         SetLeft::Lists(rest) => Ok(Finished {
             queue,

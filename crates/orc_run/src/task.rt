@@ -8,13 +8,14 @@ use orc_at_rest::shape_of;
 use orc_jobs::Lines;
 use orc_words::Shape;
 
-// The lines of a run, how many posters and takers work through them, and how many rows each container has.
+/// The lines of a run, how many posters (1 to 8) and takers (0 to 7) work through them, and how many rows (2 to 65,535) each container
+/// has.
 #[derive(Drop)]
-pub(crate) struct Task<'a> {
-    pub(crate) lines: &'a Lines,
-    pub(crate) posters: u32,
-    pub(crate) takers: u32,
-    pub(crate) rows: u32,
+pub struct Task<'a> {
+    pub lines: &'a Lines,
+    pub posters: u32,
+    pub takers: u32,
+    pub rows: u32,
     ghost some_posters: { (1 ≤ posters) × (posters ≤ 8) },
     ghost few_takers: { takers ≤ 7 },
     ghost some_rows: { (2 ≤ rows) × (rows ≤ 65535) },

@@ -10,7 +10,7 @@ use orc_chain_rule::Chain;
 use orc_containers::{Domain, new_queue, new_set};
 use orc_fifo_rule::Fifo;
 use orc_jobs::Lines;
-use orc_run::{SetChoice, run_lines};
+use orc_run::{SetChoice, Task, run_lines};
 use std::alloc::Global;
 use std::io;
 use std::sync::Wait;
@@ -57,8 +57,13 @@ where
         ..
     } = *options;
     if options.reclaiming {
-        let set = SetChoice::Lists(buckets);
-        match run_lines(rt, alloc, lines, posters, takers, ROWS, set, &OpenGate) {
+        let task = Task {
+            lines,
+            posters,
+            takers,
+            rows: ROWS,
+        };
+        match run_lines(rt, alloc, &task, SetChoice::Lists(buckets), &OpenGate) {
             Ok(finished) => Ok(Some(finished.replies.takes.len() as u64)),
             Err(_) => Ok(None),
         }

@@ -23,16 +23,16 @@ returns-in-Lists g c =
     let chose = of_lists _ _ _ _ _ _ _ _ _ _ _ _ _ _ _ _ c.args.set c.in_ok-queue.field-0.set _ c.in-Lists.is c.in_ok-queue.ensures in
     let w = chose.2 in
     let q = w.queues in
-    let posters = c.args.posters in
-    let takers = c.args.takers in
-    let b = queue_bounds posters takers c.args.rows in
-    let s = run_bounds c.args.rows chose.0 (agents_of posters takers) in
+    let posters = c.args.task.now.posters in
+    let takers = c.args.task.now.takers in
+    let b = queue_bounds posters takers c.args.task.now.rows in
+    let s = run_bounds c.args.task.now.rows chose.0 (agents_of posters takers) in
     let left = λ (rush : Bool). left_of _ _ _ _ (q.left rush).is (q.left rush).saw in
     let set_left = left_of _ _ _ _ w.set_is.is w.set_is.saw in
     of_choice _ _ _ chose.1 record {
       queue_journals = λ rush. left_journal _ _ _ (left rush) b (q.made rush).sizes queue_seed (seed_told _ queue_seed (q.made rush).begins);
       set_journal = left_journal _ _ _ set_left s w.set_made.sizes empty_seed (seed_told _ empty_seed w.set_made.begins);
-      replies = ran_at_rest (set_over (domain_bounds w.set)) (set_over s) w.set_seen _ c.args.lines.now posters takers _ _ q.seen _
+      replies = ran_at_rest (set_over (domain_bounds w.set)) (set_over s) w.set_seen _ c.args.task.now.lines.now posters takers _ _ q.seen _
           (λ rush. position_of (run_heap (domain_numbers (q.domains rush)) (domain_opening (q.domains rush))) 0)
           (λ rush. domain_bounds (q.domains rush)) b (λ rush. first_is _ _ (q.made rush).begins) (λ rush. (q.made rush).sizes)
           (λ rush. (left rush).journal) (ap set_over w.set_made.sizes)
@@ -48,16 +48,16 @@ returns-in-Split g c =
     let chose = of_split _ _ _ _ _ _ _ _ _ _ _ _ _ _ _ _ c.args.set c.in_ok-queue.field-0.set _ c.in-Split.is c.in_ok-queue.ensures in
     let w = chose.1 in
     let q = w.queues in
-    let posters = c.args.posters in
-    let takers = c.args.takers in
-    let b = queue_bounds posters takers c.args.rows in
-    let s = run_bounds c.args.rows (most_buckets + 1) (agents_of posters takers) in
+    let posters = c.args.task.now.posters in
+    let takers = c.args.task.now.takers in
+    let b = queue_bounds posters takers c.args.task.now.rows in
+    let s = run_bounds c.args.task.now.rows (most_buckets + 1) (agents_of posters takers) in
     let left = λ (rush : Bool). left_of _ _ _ _ (q.left rush).is (q.left rush).saw in
     let set_left = left_of _ _ _ _ w.set_is.is w.set_is.saw in
     of_choice _ _ _ chose.0 record {
       queue_journals = λ rush. left_journal _ _ _ (left rush) b (q.made rush).sizes queue_seed (seed_told _ queue_seed (q.made rush).begins);
       set_journal = left_journal _ _ _ set_left s w.set_made.sizes empty_seed (seed_told _ empty_seed w.set_made.begins);
-      replies = ran_at_rest (split_over (domain_bounds w.set)) (split_over s) w.set_seen _ c.args.lines.now posters takers _ _ q.seen _
+      replies = ran_at_rest (split_over (domain_bounds w.set)) (split_over s) w.set_seen _ c.args.task.now.lines.now posters takers _ _ q.seen _
           (λ rush. position_of (run_heap (domain_numbers (q.domains rush)) (domain_opening (q.domains rush))) 0)
           (λ rush. domain_bounds (q.domains rush)) b (λ rush. first_is _ _ (q.made rush).begins) (λ rush. (q.made rush).sizes)
           (λ rush. (left rush).journal) (ap split_over w.set_made.sizes)
