@@ -1,6 +1,7 @@
 // Loaded into a program by LD_PRELOAD, counts the program's own requests for memory, reads and writes, and refuses one of them.
 //
-// REFUSE says what: `memory`, `io` (a read or a write fails) or `short` (a read or a write of several bytes moves one byte).
+// REFUSE says what: `memory`, `io` (a read or a write fails, and each moves 16 bytes at most) or `short` (a read or a write of several
+// bytes moves one byte).
 // REFUSE_AT says which, counted from 1; where it is 0 or left out, none is refused. REFUSE_COUNTS names a file to which
 // `made N refused M` is written at the end.
 #define _GNU_SOURCE
@@ -58,10 +59,15 @@ void _exit(int status) {
   for (;;) syscall(SYS_exit_group, status);
 }
 
+// Whether the program itself calls.
+static int is_own(void *caller) {
+  uintptr_t from = (uintptr_t)caller;
+  return from >= low && from < high;
+}
+
 // Counts a request of this kind, if the program itself makes it. Answers whether it is to be refused.
 static int refuses(int of, void *caller) {
-  uintptr_t from = (uintptr_t)caller;
-  if (of != (int)kind || from < low || from >= high) return 0;
+  if (of != (int)kind || !is_own(caller)) return 0;
   if (atomic_fetch_add(&made, 1) + 1 != refused_at) return 0;
   atomic_fetch_add(&refused, 1);
   return 1;
@@ -105,6 +111,7 @@ static ssize_t moved(long call, int file, void *bytes, size_t count, void *calle
     errno = EIO;
     return -1;
   }
+  if (kind == IO && is_own(caller) && count > 16) count = 16;
   if (count > 1 && refuses(SHORT, caller)) count = 1;
   return syscall(call, file, bytes, count);
 }

@@ -1,5 +1,5 @@
-//! Tests of what the programs are made of: texts, histories, the board, its runs, the pipeline and its runs, watch files, reports and
-//! options.
+//! Tests of what the programs are made of: texts, histories, the board and its runs, the pipeline and its runs, watch files and
+//! watches, reports and options.
 #![tactic(auto)]
 
 #[cfg(test)]

@@ -10,9 +10,9 @@ use std::alloc::Global;
 mod board;
 mod decimals;
 mod feed;
+mod gates;
 mod histories;
 mod jobs;
-mod modes;
 mod options;
 mod report;
 mod runs;
@@ -30,4 +30,14 @@ fn lines_of(alloc: Global, bytes: &[u8]) -> Result<Lines, NoMemory>
         Ok(lines) => Ok(lines),
         Err(_) => Err(NoMemory),
     }
+}
+
+// A job file of so many posts of one byte.
+fn posts(alloc: Global, count: u32) -> Result<String, NoMemory> {
+    let mut text = String::new(alloc);
+    for id in 0..count {
+        let line = format!(in alloc; "post,{id},bytes,x\n")?;
+        text.push_str(line.as_str())?;
+    }
+    Ok(text)
 }

@@ -12,6 +12,8 @@ use std::alloc::Global;
 use std::process::Abort;
 use std::test::Fail;
 
+mod streams;
+
 // A count rises by one, but for its last value, where it stays.
 fn counts_by_hand()
     ensures more { one_more 3 ≡ 4 }

@@ -1,10 +1,10 @@
-//! Runs on threads, whose replies are read back.
+//! Runs on threads, whose replies are read back, and workers that work beside each other.
 
 ghost use Rattle.std.specs.Prelude.{◌≤◌, IfOk};
 ghost use Rattle.orc_jobs.specs.GoodLines.{AreGood};
 
 use super::lines_of;
-use orc_board::{OpenGate, PostReply, PostWord, Replies, TakeReply, TakeWord};
+use orc_board::{Gate, OpenGate, PostReply, PostWord, Replies, TakeReply, TakeWord};
 use orc_fault::NoMemory;
 use orc_jobs::Lines;
 use orc_run::{Finished, SetChoice, run_lines};
@@ -12,6 +12,8 @@ use std::alloc::Global;
 use std::sync::Wait;
 use std::test::Fail;
 use std::thread::Threads;
+
+mod meeting;
 
 const FIVE_LINES: &[u8] =
     b"post,7,bytes,hello\npost,9,sum,1 2 3\ndrop,9\npost,7,words,a b\ndrop,8\n";
@@ -64,13 +66,14 @@ struct Ran {
 }
 
 // Runs lines over eight rows and a set of so many lists. All tests call here, so that the call's contract is looked at in one proof.
-fn run<R: Threads + Wait + Sync>(
+fn run<R: Threads + Wait + Sync, G: Gate + Sync>(
     rt: &R,
     alloc: Global,
     lines: &Lines,
     posters: u32,
     takers: u32,
     buckets: u32,
+    gate: &G,
 ) -> Result<Ran, NoMemory>
     requires good { AreGood lines.now }
     requires posters { (1 ≤ posters) × (posters ≤ 8) }
@@ -83,7 +86,7 @@ fn run<R: Threads + Wait + Sync>(
         rush: _,
         set,
         replies,
-    } = run_lines(rt, alloc, lines, posters, takers, 8, choice, &OpenGate)?;
+    } = run_lines(rt, alloc, lines, posters, takers, 8, choice, gate)?;
     Ok(Ran {
         replies,
         queue: (queue.given(), queue.reused(), queue.linked()),
@@ -94,7 +97,7 @@ fn run<R: Threads + Wait + Sync>(
 #[test]
 fn a_drop_closes_an_open_id(rt: HostRuntime) -> Result<(), Fail> {
     let lines = lines_of(rt.alloc(), FIVE_LINES)?;
-    let ran = run(&rt, rt.alloc(), &lines, 1, 0, 1)?;
+    let ran = run(&rt, rt.alloc(), &lines, 1, 0, 1, &OpenGate)?;
     let words = [
         PostWord::Posted(0),
         PostWord::Posted(1),
@@ -134,7 +137,7 @@ fn a_drop_closes_an_open_id(rt: HostRuntime) -> Result<(), Fail> {
 #[test]
 fn a_small_board_refuses_what_has_no_row(rt: HostRuntime) -> Result<(), Fail> {
     let lines = lines_of(rt.alloc(), NINE_POSTS)?;
-    let ran = run(&rt, rt.alloc(), &lines, 1, 0, 256)?;
+    let ran = run(&rt, rt.alloc(), &lines, 1, 0, 256, &OpenGate)?;
     assert_eq!(rt; accepted(ran.replies.posts.items()), 7);
     assert_eq!(rt; ran.queue, (8, 7, 1));
     assert_eq!(rt; ran.set, (9, 9, 0));
@@ -144,7 +147,7 @@ fn a_small_board_refuses_what_has_no_row(rt: HostRuntime) -> Result<(), Fail> {
 #[test]
 fn eight_rows_serve_ten_thousand_posts_and_drops(rt: HostRuntime) -> Result<(), Fail> {
     let lines = rounds_of(rt.alloc(), 1250)?;
-    let ran = run(&rt, rt.alloc(), &lines, 4, 3, 16)?;
+    let ran = run(&rt, rt.alloc(), &lines, 4, 3, 16, &OpenGate)?;
     let posts = ran.replies.posts.items();
     let takes = ran.replies.takes.items();
     assert_eq!(rt; posts.len(), 10000);

@@ -1,7 +1,8 @@
 //! Whole runs on threads, over reclaiming domains.
 ghost use Rattle.std.specs.Prelude.{◌≤◌};
 
-use super::super::lines_of;
+use super::super::gates::comes_to;
+use super::super::{lines_of, posts};
 use super::{moved, posted};
 use orc_board::{Gate, OpenGate, PostList, PostReply, PostWord};
 use orc_fault::NoMemory;
@@ -47,29 +48,6 @@ fn outcome_of<R: Threads + Wait + Sync, G: Gate + Sync>(
         outs: done.outs,
         queues,
     })
-}
-
-// For how many looks a worker is held at most.
-const LOOKS: u64 = 1 << 30;
-
-// Waits until the number is at least this one, and answers whether it came to it in time.
-fn comes_to(number: &AtomicU64, least: u64) -> bool {
-    for _ in 0..LOOKS {
-        if number.load(Ordering::SeqCst) >= least {
-            return true;
-        }
-    }
-    false
-}
-
-// A job file of so many posts of one byte.
-fn posts(alloc: Global, count: u32) -> Result<String, NoMemory> {
-    let mut text = String::new(alloc);
-    for id in 0..count {
-        let line = format!(in alloc; "post,{id},bytes,x\n")?;
-        text.push_str(line.as_str())?;
-    }
-    Ok(text)
 }
 
 #[test]

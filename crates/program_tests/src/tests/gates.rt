@@ -6,10 +6,10 @@ use std::sync::atomic::{AtomicU64, Ordering};
 // For how many looks a worker is held at most.
 const LOOKS: u64 = 1 << 30;
 
-// Waits until the flag is up, and answers whether it came up in time.
-pub(crate) fn came(flag: &AtomicU64) -> bool {
+// Waits until the number is at least this one, and answers whether it came to it in time.
+pub(crate) fn comes_to(number: &AtomicU64, least: u64) -> bool {
     for _ in 0..LOOKS {
-        if flag.load(Ordering::SeqCst) == 1 {
+        if number.load(Ordering::SeqCst) >= least {
             return true;
         }
     }
@@ -47,7 +47,7 @@ impl Gate for TwoMeet {
             _ => return,
         };
         own.store(1, Ordering::SeqCst);
-        if came(other) {
+        if comes_to(other, 1) {
             self.met.fetch_add(1, Ordering::SeqCst);
         }
     }

@@ -1,18 +1,18 @@
 //! That posters and takers work beside each other, which no contract says: gates that hold one until another has come.
 
-use super::super::gates::{TwoMeet, came};
-use super::teams::{posts, report_of};
+use super::super::gates::{TwoMeet, comes_to};
+use super::super::{lines_of, posts};
+use super::run;
 use orc_board::Gate;
 use std::sync::atomic::{AtomicU64, Ordering};
 use std::test::Fail;
 
 #[test]
 fn two_posters_each_see_the_other_come(rt: HostRuntime) -> Result<(), Fail> {
-    let alloc = rt.alloc();
-    let words = ["--posters", "2", "--takers", "0"];
-    let input = posts(alloc, 6)?;
+    let text = posts(rt.alloc(), 6)?;
+    let lines = lines_of(rt.alloc(), text.as_bytes())?;
     let gate = TwoMeet::new();
-    let _report = report_of(&rt, alloc, words.as_slice(), input.as_bytes(), &gate)?;
+    let _ran = run(&rt, rt.alloc(), &lines, 2, 0, 16, &gate)?;
     assert_eq!(rt; gate.met(), 2);
     Ok(())
 }
@@ -26,7 +26,7 @@ struct TakerGoesOn {
 
 impl Gate for TakerGoesOn {
     fn before(&self, worker: u32, call: u64) {
-        if worker == 1 && call == 0 && came(&self.again) {
+        if worker == 1 && call == 0 && comes_to(&self.again, 1) {
             self.seen.store(1, Ordering::SeqCst);
         }
         if worker == 2 && call == 1 {
@@ -37,14 +37,13 @@ impl Gate for TakerGoesOn {
 
 #[test]
 fn a_taker_goes_on_while_a_poster_is_left(rt: HostRuntime) -> Result<(), Fail> {
-    let alloc = rt.alloc();
-    let words = ["--posters", "1", "--takers", "1"];
-    let input = posts(alloc, 2)?;
+    let text = posts(rt.alloc(), 2)?;
+    let lines = lines_of(rt.alloc(), text.as_bytes())?;
     let gate = TakerGoesOn {
         again: AtomicU64::new(0),
         seen: AtomicU64::new(0),
     };
-    let _report = report_of(&rt, alloc, words.as_slice(), input.as_bytes(), &gate)?;
+    let _ran = run(&rt, rt.alloc(), &lines, 1, 1, 16, &gate)?;
     assert_eq!(rt; gate.seen.load(Ordering::SeqCst), 1);
     Ok(())
 }
