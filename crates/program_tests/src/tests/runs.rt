@@ -7,7 +7,7 @@ use super::lines_of;
 use orc_board::{Gate, OpenGate, PostReply, PostWord, Replies, TakeReply, TakeWord};
 use orc_fault::NoMemory;
 use orc_jobs::Lines;
-use orc_run::{Finished, SetChoice, run_lines};
+use orc_run::{Finished, SetChoice, Task, run_lines};
 use std::alloc::Global;
 use std::sync::Wait;
 use std::test::Fail;
@@ -65,19 +65,15 @@ struct Ran {
     set: (u64, u64, u32),
 }
 
-// Runs lines over eight rows and a set of so many lists. All tests call here, so that the call's contract is looked at in one proof.
+// Runs the task with a set of so many lists. All tests call here, so that the call's contract is looked at in one proof.
 fn run<R: Threads + Wait + Sync, G: Gate + Sync>(
     rt: &R,
     alloc: Global,
-    lines: &Lines,
-    posters: u32,
-    takers: u32,
+    task: &Task<'_>,
     buckets: u32,
     gate: &G,
 ) -> Result<Ran, NoMemory>
-    requires good { AreGood lines.now }
-    requires posters { (1 ≤ posters) × (posters ≤ 8) }
-    requires takers { takers ≤ 7 }
+    requires good { AreGood task.now.lines.now }
     requires buckets { (1 ≤ buckets) × (buckets ≤ 256) }
 {
     let choice = SetChoice::Lists(buckets);
@@ -86,7 +82,7 @@ fn run<R: Threads + Wait + Sync, G: Gate + Sync>(
         rush: _,
         set,
         replies,
-    } = run_lines(rt, alloc, lines, posters, takers, 8, choice, gate)?;
+    } = run_lines(rt, alloc, task, choice, gate)?;
     Ok(Ran {
         replies,
         queue: (queue.given(), queue.reused(), queue.linked()),
@@ -97,7 +93,13 @@ fn run<R: Threads + Wait + Sync, G: Gate + Sync>(
 #[test]
 fn a_drop_closes_an_open_id(rt: HostRuntime) -> Result<(), Fail> {
     let lines = lines_of(rt.alloc(), FIVE_LINES)?;
-    let ran = run(&rt, rt.alloc(), &lines, 1, 0, 1, &OpenGate)?;
+    let task = Task {
+        lines: &lines,
+        posters: 1,
+        takers: 0,
+        rows: 8,
+    };
+    let ran = run(&rt, rt.alloc(), &task, 1, &OpenGate)?;
     let words = [
         PostWord::Posted(0),
         PostWord::Posted(1),
@@ -137,7 +139,13 @@ fn a_drop_closes_an_open_id(rt: HostRuntime) -> Result<(), Fail> {
 #[test]
 fn a_small_board_refuses_what_has_no_row(rt: HostRuntime) -> Result<(), Fail> {
     let lines = lines_of(rt.alloc(), NINE_POSTS)?;
-    let ran = run(&rt, rt.alloc(), &lines, 1, 0, 256, &OpenGate)?;
+    let task = Task {
+        lines: &lines,
+        posters: 1,
+        takers: 0,
+        rows: 8,
+    };
+    let ran = run(&rt, rt.alloc(), &task, 256, &OpenGate)?;
     assert_eq!(rt; accepted(ran.replies.posts.items()), 7);
     assert_eq!(rt; ran.queue, (8, 7, 1));
     assert_eq!(rt; ran.set, (9, 9, 0));
@@ -147,7 +155,13 @@ fn a_small_board_refuses_what_has_no_row(rt: HostRuntime) -> Result<(), Fail> {
 #[test]
 fn eight_rows_serve_ten_thousand_posts_and_drops(rt: HostRuntime) -> Result<(), Fail> {
     let lines = rounds_of(rt.alloc(), 1250)?;
-    let ran = run(&rt, rt.alloc(), &lines, 4, 3, 16, &OpenGate)?;
+    let task = Task {
+        lines: &lines,
+        posters: 4,
+        takers: 3,
+        rows: 8,
+    };
+    let ran = run(&rt, rt.alloc(), &task, 16, &OpenGate)?;
     let posts = ran.replies.posts.items();
     let takes = ran.replies.takes.items();
     assert_eq!(rt; posts.len(), 10000);

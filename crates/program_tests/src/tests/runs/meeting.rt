@@ -4,6 +4,7 @@ use super::super::gates::{TwoMeet, comes_to};
 use super::super::{lines_of, posts};
 use super::run;
 use orc_board::Gate;
+use orc_run::Task;
 use std::sync::atomic::{AtomicU64, Ordering};
 use std::test::Fail;
 
@@ -12,7 +13,13 @@ fn two_posters_each_see_the_other_come(rt: HostRuntime) -> Result<(), Fail> {
     let text = posts(rt.alloc(), 6)?;
     let lines = lines_of(rt.alloc(), text.as_bytes())?;
     let gate = TwoMeet::new();
-    let _ran = run(&rt, rt.alloc(), &lines, 2, 0, 16, &gate)?;
+    let task = Task {
+        lines: &lines,
+        posters: 2,
+        takers: 0,
+        rows: 8,
+    };
+    let _ran = run(&rt, rt.alloc(), &task, 16, &gate)?;
     assert_eq!(rt; gate.met(), 2);
     Ok(())
 }
@@ -43,7 +50,13 @@ fn a_taker_goes_on_while_a_poster_is_left(rt: HostRuntime) -> Result<(), Fail> {
         again: AtomicU64::new(0),
         seen: AtomicU64::new(0),
     };
-    let _ran = run(&rt, rt.alloc(), &lines, 1, 1, 16, &gate)?;
+    let task = Task {
+        lines: &lines,
+        posters: 1,
+        takers: 1,
+        rows: 8,
+    };
+    let _ran = run(&rt, rt.alloc(), &task, 16, &gate)?;
     assert_eq!(rt; gate.seen.load(Ordering::SeqCst), 1);
     Ok(())
 }
