@@ -1,4 +1,4 @@
--- A place that settled stays one at which nothing was entered.
+-- A place that settled stays one at which nothing was entered, and took in what was handed over.
 use Rattle.std.proofs.Common.{List, [], subst, sym, ℕ, ◌≡◌}
 use Rattle.std.specs.List.{AllByRecursion}
 use Rattle.given_back.specs.declared.places.GivenBack.{GivenBack}
@@ -15,7 +15,7 @@ use Rattle.orc_machine_board.specs.declared.machine.Request.{Request}
 use Rattle.orc_shared_words.specs.declared.machine.Machine as machine
 use Rattle.orc_sound.specs.declared.steps.Step.{Step}
 use Rattle.mooringakee_c_passes.specs.Kinds.{ContainerKind, calls_in, calls_view}
-use Rattle.mooringakee_c_passes.specs.Places.{StaysWithoutEvent, SettlesQuietly, SettlesPlace, WasAloneAt, backlog_of}
+use Rattle.mooringakee_c_passes.specs.Places.{StaysWithoutEvent, SettlesQuietly, SettlesPlace, TookInAt, WasAloneAt, backlog_of}
 use Rattle.mooringakee_c_passes.specs.Views.{GoesOn}
 use Rattle.mooringakee_c_passes.specs.declared.answer.Answer.{Answer}
 use Rattle.mooringakee_c_passes.specs.declared.answer.Answer.TheVariants.{Again, Done, Empty, Full, Kept, Kind as OtherKind, Live, NoMemory, NoPass, Others, Positions, Shape, Spent}
@@ -58,5 +58,6 @@ module _ {D N E W C T K : Type 0} {d : discipline.Ghosts D N} {m : machine.Ghost
     )
 
     pub settled : (answer : Answer) → SettlesPlace (domain_of old.container.value) old answer new
-        → SettlesQuietly Stays (WasAloneAt (domain_of old.container.value) old.pass new.pass) (backlog_of new.pass) answer
-    settled answer h = settles_so _ Stays _ (backlog_of new.pass) answer stays h
+        → SettlesQuietly (Stays × TookInAt (domain_of old.container.value) old.pass new.pass)
+        (WasAloneAt (domain_of old.container.value) old.pass new.pass) (backlog_of new.pass) answer
+    settled answer h = settles_so _ _ _ (backlog_of new.pass) answer (λ q. (stays q.0, q.1)) h

@@ -3,7 +3,7 @@ use Rattle.std.specs.Prelude.{None, Option, Some, [], ℕ, ◌≡◌}
 use Rattle.orc_any_domain.specs.declared.domain.RowCounts.{RowCounts}
 use Rattle.mooringakee_c_passes.specs.Ending.{TellsRows}
 use Rattle.mooringakee_c_passes.specs.Kinds.{queue, set, split, calls_view}
-use Rattle.mooringakee_c_passes.specs.Places.{SettlesQuietly, WasAloneAt, backlog_of}
+use Rattle.mooringakee_c_passes.specs.Places.{SettlesQuietly, TookInAt, WasAloneAt, backlog_of}
 use Rattle.mooringakee_c_passes.specs.Seats.{IsSeat}
 use Rattle.mooringakee_c_passes.specs.Views.{GoesOn}
 use Rattle.mooringakee_c_passes.specs.declared.answer.Answer.{Answer}
@@ -34,9 +34,16 @@ StaysWithoutEntry (Split old) (Split new) = (new.container ≡ old.container)
     × GoesOn (calls_view split old.container.value.set.links old.turns old.pass) [] (calls_view split new.container.value.set.links new.turns new.pass)
 StaysWithoutEntry _ _ = ⊥
 
--- nothing is left, or some rows, which is so only where other agents made steps meanwhile
+-- the place's agent took in what was handed over to it
+abbrev pub TookIn : Seat → Seat → Type 0
+TookIn (Queue old) (Queue new) = TookInAt old.container.value.queue.links old.pass new.pass
+TookIn (Set old) (Set new) = TookInAt old.container.value.set.list.links old.pass new.pass
+TookIn (Split old) (Split new) = TookInAt old.container.value.set.links old.pass new.pass
+TookIn _ _ = ⊥
+
+-- what was handed over was taken in, and nothing is left, or some rows, which is so only where other agents made steps meanwhile
 abbrev pub SettlesPass : Seat → Answer → Seat → Type 0
-SettlesPass old answer new = SettlesQuietly (StaysWithoutEntry old new) (WasAlone old new) (backlog_at new) answer
+SettlesPass old answer new = SettlesQuietly (StaysWithoutEntry old new × TookIn old new) (WasAlone old new) (backlog_at new) answer
 
 -- a question how many rows are left
 abbrev pub CountsBacklog : ℕ → Seat → Answer → Seat → Type 0
