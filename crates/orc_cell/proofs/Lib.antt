@@ -2,6 +2,7 @@
 pub mod Elsewhere
 pub mod Others
 pub mod Pieces
+pub mod Counting
 pub mod Looking
 pub mod Reading
 pub mod Staging

@@ -54,6 +54,24 @@ abbrev pub given_for : Half → Option ℕ → Option ℕ → Option ℕ
 given_for Left left right = left
 given_for Right left right = right
 
+-- how many events are made for a part once, before the turns: an Aim, if it is given
+abbrev pub aims_once : Option ℕ → ℕ
+aims_once None = 0
+aims_once (Some value) = 1
+
+-- how many are made for it in each turn at most: two Looks and an Aim, if it isn't given
+abbrev pub events_for : Option ℕ → ℕ
+events_for None = 3
+events_for (Some value) = 0
+
+-- how many a turn makes at most: two Looks of root 0, what its parts ask for, and the swing
+abbrev pub events_a_turn : Option ℕ → Option ℕ → ℕ
+events_a_turn left right = 3 + events_for left + events_for right
+
+-- how many the aims at the parts that are given, and so many turns, make at most
+abbrev pub events_of_turns : ℕ → Option ℕ → Option ℕ → ℕ
+events_of_turns turns left right = aims_once left + aims_once right + turns * events_a_turn left right
+
 -- the agent's staging roots
 abbrev pub staging_root : Half → ℕ → ℕ
 staging_root Left agent = 1 + 2 * agent

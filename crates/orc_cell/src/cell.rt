@@ -3,7 +3,7 @@
 ghost use Rattle.std.specs.Prelude.{◌≡◌, ◌≢◌, ◌⊎◌, ◌+◌, ◌*◌, ◌<◌, ◌^◌, [], ◌∷◌, Err, IfErr, IfOk, IfSome, IsErr, None, length};
 ghost use mathlib.Core.List.{IsPrefix};
 ghost use Rattle.orc_fault.specs.declared.Spent.{Spent as SpentRow};
-ghost use Rattle.orc_heap.specs.{Domains.{IsCallAlone, MakesNoEvent, agent, heap}, Seats.{IsIdle}, Slots.{id_in}};
+ghost use Rattle.orc_heap.specs.{Domains.{IsCallAlone, MakesAtMost, MakesNoEvent, agent, heap}, Seats.{IsIdle}, Slots.{id_in}};
 ghost use Rattle.orc_history.specs.Journals.{LearnsEntries, Within};
 ghost use Rattle.orc_pairs_rule.specs.{
   CellHistory.{IsLegalCell, agent_of_entry, no_parts, parts_after},
@@ -68,7 +68,8 @@ impl<L: Links<Rule = Pairs>> Cell<L> {
     }
 
     /// Replaces the parts that are given, at least one, and keeps the others, all at once, in at most `turns` tries.
-    /// Answers both parts as they are then. It gives at most three nodes, and leaves its agent's staging roots null.
+    /// Answers both parts as they are then. It gives at most three nodes, and leaves its agent's staging roots null. Its agent
+    /// makes at most 6 events in each try, and 15 for what comes before and after them.
     ///
     /// # Errors
     ///
@@ -96,6 +97,7 @@ impl<L: Links<Rule = Pairs>> Cell<L> {
         ensures no_node { result ≡ Err CellRefused.NoNode → LacksRow L.Links self.now.links p.old p.new }
         ensures spent { (why : SpentRow) → result ≡ Err (CellRefused.Spent why) → FindsWorn L.Links self.now.links why p.old p.new }
         ensures gives { GivesAtMost L.Links self.now.links 3 p.old p.new }
+        ensures tries { MakesAtMost L.Links self.now.links (6 * turns + 15) p.old p.new }
         ensures settled { IsCallAlone L.Links self.now.links p.old p.new → L.backlog p.new ≡ 0 }
     {
         let agent = self.links.agent(p);
@@ -105,7 +107,7 @@ impl<L: Links<Rule = Pairs>> Cell<L> {
         answer
     }
 
-    /// Reads both parts of one version, in at most `turns` tries.
+    /// Reads both parts of one version, in at most `turns` tries. Its agent makes at most 7 events in each.
     ///
     /// # Errors
     ///
@@ -121,6 +123,7 @@ impl<L: Links<Rule = Pairs>> Cell<L> {
         ensures no_event { turns ≡ 0 → MakesNoEvent L.Links self.now.links p.old p.new }
         ensures again { IfErr result (λ e. UsesAllTurns L.Links self.now.links turns p.old p.new) }
         ensures gives { GivesAtMost L.Links self.now.links 0 p.old p.new }
+        ensures tries { MakesAtMost L.Links self.now.links (7 * turns) p.old p.new }
         ensures settled { IsCallAlone L.Links self.now.links p.old p.new → L.backlog p.new ≡ 0 }
     {
         let answer = read_turns(&self.links, p, turns);
@@ -130,7 +133,7 @@ impl<L: Links<Rule = Pairs>> Cell<L> {
 
     /// Stages a new left part, as a publish of it begins, and stops there: the first staging root of the pass's agent names the
     /// part, and the pass holds it. Answers the part, or None where the domain had no node to give, which leaves all as it was.
-    /// While it is staged the pass may not call; `unstage` goes on.
+    /// While it is staged the pass may not call; `unstage` goes on. Its agent makes at most 4 events.
     pub fn stage_and_stop(&self, p: &mut L::Pass, left: u64) -> Option<Held>
         requires usable { IsUsable L.Links self.now.links p.old }
         ensures agent { agent L.Links self.now.links p.new ≡ agent L.Links self.now.links p.old }
@@ -142,6 +145,7 @@ impl<L: Links<Rule = Pairs>> Cell<L> {
             (L.lacking self.now.links (agent L.Links self.now.links p.old) (L.journal p.new)) }
         ensures none { EntersNone L.Links self.now.links p.old p.new }
         ensures gives { GivesAtMost L.Links self.now.links 1 p.old p.new }
+        ensures tries { MakesAtMost L.Links self.now.links 4 p.old p.new }
     {
         let roots = staging_roots(self.links.agent(p));
         let at = Staging {
@@ -155,7 +159,7 @@ impl<L: Links<Rule = Pairs>> Cell<L> {
     }
 
     /// Goes on after `stage_and_stop`: lets the part go unpublished, as a publish that is refused does. Its agent's staging roots
-    /// are null then.
+    /// are null then. Its agent makes at most one event.
     pub fn unstage(&self, p: &mut L::Pass, part: Held)
         requires staged { StagesPart L.Links self.now.links part p.old }
         ensures usable { IsUsable L.Links self.now.links p.new }
@@ -163,6 +167,7 @@ impl<L: Links<Rule = Pairs>> Cell<L> {
         ensures later { IsPrefix (L.journal p.old) (L.journal p.new) }
         ensures none { EntersNone L.Links self.now.links p.old p.new }
         ensures gives { GivesAtMost L.Links self.now.links 0 p.old p.new }
+        ensures tries { MakesAtMost L.Links self.now.links 1 p.old p.new }
         ensures settled { IsCallAlone L.Links self.now.links p.old p.new → L.backlog p.new ≡ 0 }
     {
         let roots = staging_roots(self.links.agent(p));

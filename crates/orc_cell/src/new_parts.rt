@@ -3,6 +3,7 @@
 ghost use Rattle.std.specs.Prelude.{◌≡◌, ◌<◌, ℕ, [], ◌∷◌, Some, None, IfOk, IfErr, length};
 ghost use mathlib.Core.List.{IsPrefix};
 ghost use Rattle.orc_heap.specs.{
+  Domains.{MakesAtMost},
   Calls.{move_of},
   Allowed.{AllowedLater},
   Heap.{link_to, null, shown},
@@ -52,6 +53,7 @@ fn move_root<L: Links<Rule = Pairs>>(
         (move_of (L.seat links.now p.old) (At.Root root) from.now to.now (Some note)) }
     ensures pass { L.belongs links.now p.new }
     ensures later { IsPrefix (L.journal p.old) (L.journal p.new) }
+    ensures tries { MakesAtMost L.Links links.now 1 p.old p.new }
     ensures moved { MovesStaging root (link_in (L.seat links.now p.old).slots from.now) (link_in (L.seat links.now p.old).slots to.now) note
         (L.seat links.now p.old) (L.seat links.now p.new) }
 {
@@ -80,6 +82,7 @@ pub(crate) fn stage<L: Links<Rule = Pairs>>(
     requires no_fresh { (L.seat links.now p.old).fresh ≡ None }
     ensures pass { L.belongs links.now p.new }
     ensures later { IsPrefix (L.journal p.old) (L.journal p.new) }
+    ensures tries { MakesAtMost L.Links links.now 4 p.old p.new }
     ensures staged { IfOk result (λ h. Stages (L.numbers links.now) at.slot at.root value (L.seat links.now p.old) h (L.seat links.now p.new)) }
     ensures none { IfErr result (λ e. Only [] (L.seat links.now p.old) (L.seat links.now p.new)) }
     ensures lacking { IfErr result (λ e. Within (length (L.journal p.old)) (length (L.journal p.new))
@@ -111,6 +114,7 @@ pub(crate) fn unstage<L: Links<Rule = Pairs>>(links: &L, p: &mut L::Pass, root: 
     requires no_fresh { (L.seat links.now p.old).fresh ≡ None }
     ensures pass { L.belongs links.now p.new }
     ensures later { IsPrefix (L.journal p.old) (L.journal p.new) }
+    ensures tries { MakesAtMost L.Links links.now 1 p.old p.new }
     ensures unstaged { Unstages (L.numbers links.now) root part (L.seat links.now p.old) (L.seat links.now p.new) }
 {
     move_root(
@@ -141,6 +145,7 @@ pub(crate) fn ready<L: Links<Rule = Pairs>>(
     requires published { given ≡ None → empty ≡ false → IsPublished (heap_of (L.numbers links.now) (L.seat links.now p.old)) }
     ensures pass { L.belongs links.now p.new }
     ensures later { IsPrefix (L.journal p.old) (L.journal p.new) }
+    ensures tries { MakesAtMost L.Links links.now 4 p.old p.new }
     ensures ready { IfOk result (λ new. Readies (L.numbers links.now) at.slot at.root (L.seat links.now p.old) new (L.seat links.now p.new)) }
     ensures given { IfOk result (λ new. given_of new ≡ given) }
     ensures none { IfErr result (λ e. Only [] (L.seat links.now p.old) (L.seat links.now p.new)) }
@@ -174,6 +179,7 @@ pub(crate) fn let_go<L: Links<Rule = Pairs>>(links: &L, p: &mut L::Pass, root: u
     requires no_fresh { (L.seat links.now p.old).fresh ≡ None }
     ensures pass { L.belongs links.now p.new }
     ensures later { IsPrefix (L.journal p.old) (L.journal p.new) }
+    ensures tries { MakesAtMost L.Links links.now 1 p.old p.new }
     ensures gone { LetsGo (L.numbers links.now) root new (L.seat links.now p.old) (L.seat links.now p.new) }
 {
     match new {

@@ -1,8 +1,9 @@
 //! Turns of a publish: the new pair is aimed at its parts, and root 0 is swung to it.
 
-ghost use Rattle.std.specs.Prelude.{◌≡◌, ◌≢◌, ◌<◌, ℕ, [], ◌∷◌, Some, None, IfOk, IfErr, length};
+ghost use Rattle.std.specs.Prelude.{◌≡◌, ◌≢◌, ◌<◌, ◌+◌, ◌*◌, ℕ, [], ◌∷◌, Some, None, IfOk, IfErr, length};
 ghost use mathlib.Core.List.{IsPrefix};
 ghost use Rattle.orc_heap.specs.{
+  Domains.{MakesAtMost},
   Calls.{event_of},
   Heap.{link_to, shown},
   OwnEvents.{Only},
@@ -11,7 +12,7 @@ ghost use Rattle.orc_heap.specs.{
 };
 ghost use Rattle.orc_history.specs.Journals.{Within};
 ghost use Rattle.orc_cell.specs.{
-  Publishes.{Aims, AimsGiven, ComesAfter, IsHalfReady, IsPartOf, IsPrepared, MayPublish, NotFresh, PublishesFrom, PublishesGiven, PublishesTurns, SideHeld, Staged, SwingsPair, aim_act, given_of, half_at, staging_root},
+  Publishes.{Aims, AimsGiven, ComesAfter, IsHalfReady, IsPartOf, IsPrepared, MayPublish, NotFresh, PublishesFrom, PublishesGiven, PublishesTurns, SideHeld, Staged, SwingsPair, aim_act, aims_once, events_a_turn, events_for, events_of_turns, given_of, half_at, staging_root},
   declared.publish.{Half.{Half}, PublishTurn.{PublishTurn}},
   Turns.{HoldsPart, IsCellDomain, IsPairOf},
 };
@@ -64,6 +65,7 @@ fn aim_half<L: Links<Rule = Pairs>>(
     requires other { NotFresh (L.seat links.now p.old) part.now }
     ensures pass { L.belongs links.now p.new }
     ensures later { IsPrefix (L.journal p.old) (L.journal p.new) }
+    ensures tries { MakesAtMost L.Links links.now 1 p.old p.new }
     ensures aimed { IfOk result (λ _. Only (event_of (L.seat links.now p.old)
         (aim_act half (id_in (L.seat links.now p.old).slots pair.now) (Some (id_in (L.seat links.now p.old).slots part.now))) None ∷ [])
         (L.seat links.now p.old) (L.seat links.now p.new)) }
@@ -92,6 +94,7 @@ fn hold_half<L: Links<Rule = Pairs>>(
     requires pair { IsPairOf (heap_of (L.numbers links.now) (L.seat links.now p.old)) (id_in (L.seat links.now p.old).slots pair.now) }
     ensures pass { L.belongs links.now p.new }
     ensures later { IsPrefix (L.journal p.old) (L.journal p.new) }
+    ensures tries { MakesAtMost L.Links links.now 2 p.old p.new }
     ensures held { HoldsPart (L.numbers links.now) (half_at half (id_in (L.seat links.now p.old).slots pair.now)) slot (L.seat links.now p.old) result
         (L.seat links.now p.new) }
     ensures holds { Holds (L.seat links.now p.new).slots result }
@@ -118,6 +121,7 @@ fn aim_kept<L: Links<Rule = Pairs>>(
     requires before { IsPairOf (heap_of (L.numbers links.now) (L.seat links.now p.old)) (id_in (L.seat links.now p.old).slots old.now) }
     ensures pass { L.belongs links.now p.new }
     ensures later { IsPrefix (L.journal p.old) (L.journal p.new) }
+    ensures tries { MakesAtMost L.Links links.now 3 p.old p.new }
     ensures aimed { Aims (L.numbers links.now) half pair.now (λ id value. shown (heap_of (L.numbers links.now) (L.seat links.now p.old))
         (half_at half (id_in (L.seat links.now p.old).slots old.now)) ≡ Some (link_to id)) (L.seat links.now p.old) result (L.seat links.now p.new) }
     ensures worn { IfErr result (λ e. Within (length (L.journal p.old)) (length (L.journal p.new))
@@ -148,6 +152,7 @@ fn aim_staged<L: Links<Rule = Pairs>>(
     requires staged { Staged (L.numbers links.now) (staging_root half (L.seat links.now p.old).agent) value part.now (L.seat links.now p.old) }
     ensures pass { L.belongs links.now p.new }
     ensures later { IsPrefix (L.journal p.old) (L.journal p.new) }
+    ensures tries { MakesAtMost L.Links links.now 1 p.old p.new }
     ensures aimed { Aims (L.numbers links.now) half pair.now (λ id x. x ≡ value) (L.seat links.now p.old) result (L.seat links.now p.new) }
     ensures worn { IfErr result (λ e. Within (length (L.journal p.old)) (length (L.journal p.new))
         (L.worn links.now (L.seat links.now p.old).agent e (L.journal p.new))) }
@@ -172,6 +177,7 @@ fn aim_given<L: Links<Rule = Pairs>>(
     requires new { SideHeld (L.numbers links.now) (staging_root half (L.seat links.now p.old).agent) new.now (L.seat links.now p.old) }
     ensures pass { L.belongs links.now p.new }
     ensures later { IsPrefix (L.journal p.old) (L.journal p.new) }
+    ensures tries { MakesAtMost L.Links links.now (aims_once (given_of new.now)) p.old p.new }
     ensures aimed { AimsGiven (L.numbers links.now) half pair.now new.now (L.seat links.now p.old) result (L.seat links.now p.new) }
     ensures worn { IfErr result (λ e. Within (length (L.journal p.old)) (length (L.journal p.new))
         (L.worn links.now (L.seat links.now p.old).agent e (L.journal p.new))) }
@@ -201,6 +207,7 @@ fn aim_part<L: Links<Rule = Pairs>>(
     requires slot { IsFree (L.seat links.now p.old).slots 5 }
     ensures pass { L.belongs links.now p.new }
     ensures later { IsPrefix (L.journal p.old) (L.journal p.new) }
+    ensures tries { MakesAtMost L.Links links.now (events_for (given_of new.now)) p.old p.new }
     ensures aimed { Aims (L.numbers links.now) half pair.now (IsPartOf (L.numbers links.now) half from.now (L.seat links.now p.old) new.now)
         (L.seat links.now p.old) result (L.seat links.now p.new) }
     ensures same { given_of new.now ≢ None → L.seat links.now p.new ≡ L.seat links.now p.old }
@@ -249,6 +256,7 @@ fn swing_pair<L: Links<Rule = Pairs>>(
         (id_in (L.seat links.now p.old).slots pair.now) (given_of left.now) (given_of right.now) parts.0 parts.1 }
     ensures pass { L.belongs links.now p.new }
     ensures later { IsPrefix (L.journal p.old) (L.journal p.new) }
+    ensures tries { MakesAtMost L.Links links.now 1 p.old p.new }
     ensures swung { SwingsPair (link_in (L.seat links.now p.old).slots from.now) (id_in (L.seat links.now p.old).slots pair.now)
         (given_of left.now) (given_of right.now) parts.0 parts.1 (L.seat links.now p.old) result (L.seat links.now p.new) }
 {
@@ -289,6 +297,7 @@ fn publish_from<L: Links<Rule = Pairs>>(
         × ComesAfter (L.numbers links.now) from.now (L.seat links.now p.old) right.now }
     ensures pass { L.belongs links.now p.new }
     ensures later { IsPrefix (L.journal p.old) (L.journal p.new) }
+    ensures tries { MakesAtMost L.Links links.now (1 + events_for (given_of left.now) + events_for (given_of right.now)) p.old p.new }
     ensures published { PublishesFrom (L.numbers links.now) (link_in (L.seat links.now p.old).slots from.now) (given_of left.now) (given_of right.now)
         pair.now (L.seat links.now p.old) result (L.seat links.now p.new) }
     ensures worn { (why : SpentRow) → result ≡ PublishTurn.Spent why → Within (length (L.journal p.old)) (length (L.journal p.new))
@@ -323,6 +332,7 @@ fn publish_turn<L: Links<Rule = Pairs>>(
     requires slots { IsFree (L.seat links.now p.old).slots 4 × IsFree (L.seat links.now p.old).slots 5 }
     ensures pass { L.belongs links.now p.new }
     ensures later { IsPrefix (L.journal p.old) (L.journal p.new) }
+    ensures tries { MakesAtMost L.Links links.now (events_a_turn (given_of left.now) (given_of right.now)) p.old p.new }
     ensures published { PublishesTurns (L.numbers links.now) 1 (given_of left.now) (given_of right.now) pair.now (L.seat links.now p.old) result
         (L.seat links.now p.new) }
     ensures worn { (why : SpentRow) → result ≡ PublishTurn.Spent why → Within (length (L.journal p.old)) (length (L.journal p.new))
@@ -357,6 +367,7 @@ pub(crate) fn publish_given<L: Links<Rule = Pairs>>(
     requires slots { IsFree (L.seat links.now p.old).slots 4 × IsFree (L.seat links.now p.old).slots 5 }
     ensures pass { L.belongs links.now p.new }
     ensures later { IsPrefix (L.journal p.old) (L.journal p.new) }
+    ensures tries { MakesAtMost L.Links links.now (events_of_turns turns (given_of left.now) (given_of right.now)) p.old p.new }
     ensures published { PublishesGiven (L.numbers links.now) turns (given_of left.now) (given_of right.now) pair.now (L.seat links.now p.old) result
         (L.seat links.now p.new) }
     ensures worn { (why : SpentRow) → result ≡ PublishTurn.Spent why → Within (length (L.journal p.old)) (length (L.journal p.new))
@@ -388,6 +399,7 @@ fn publish_turns<L: Links<Rule = Pairs>>(
     requires slots { IsFree (L.seat links.now p.old).slots 4 × IsFree (L.seat links.now p.old).slots 5 }
     ensures pass { L.belongs links.now p.new }
     ensures later { IsPrefix (L.journal p.old) (L.journal p.new) }
+    ensures tries { MakesAtMost L.Links links.now (turns * events_a_turn (given_of left.now) (given_of right.now)) p.old p.new }
     ensures published { PublishesTurns (L.numbers links.now) turns (given_of left.now) (given_of right.now) pair.now (L.seat links.now p.old) result
         (L.seat links.now p.new) }
     ensures worn { (why : SpentRow) → result ≡ PublishTurn.Spent why → Within (length (L.journal p.old)) (length (L.journal p.new))

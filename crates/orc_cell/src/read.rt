@@ -1,8 +1,9 @@
 //! Reading both parts of the pair, turn by turn.
 
-ghost use Rattle.std.specs.Prelude.{◌≡◌, ◌<◌, ℕ, [], IsErr, Some};
+ghost use Rattle.std.specs.Prelude.{◌≡◌, ◌<◌, ◌*◌, ℕ, [], IsErr, Some};
 ghost use mathlib.Core.List.{IsPrefix};
 ghost use Rattle.orc_heap.specs.{
+  Domains.{MakesAtMost},
   OwnEvents.{Only},
   Seats.{HoldsPlace, HoldsWant, heap_of, link_in, place_in},
   Slots.{Hold, Holds, IsFree, id_in},
@@ -32,6 +33,7 @@ pub(crate) fn hold_part<L: Links<Rule = Pairs>>(
     requires leads { LeadsToPart (heap_of (L.numbers links.now) (L.seat links.now p.old)) (place_in (L.seat links.now p.old).slots place.now) }
     ensures pass { L.belongs links.now p.new }
     ensures later { IsPrefix (L.journal p.old) (L.journal p.new) }
+    ensures tries { MakesAtMost L.Links links.now 2 p.old p.new }
     ensures held { HoldsPart (L.numbers links.now) (place_in (L.seat links.now p.old).slots place.now) slot (L.seat links.now p.old) result
         (L.seat links.now p.new) }
     ensures holds { Holds (L.seat links.now p.new).slots result }
@@ -51,6 +53,7 @@ fn read_part<L: Links<Rule = Pairs>>(links: &L, p: &mut L::Pass, place: &At) -> 
     requires leads { LeadsToPart (heap_of (L.numbers links.now) (L.seat links.now p.old)) (place_in (L.seat links.now p.old).slots place.now) }
     ensures pass { L.belongs links.now p.new }
     ensures later { IsPrefix (L.journal p.old) (L.journal p.new) }
+    ensures tries { MakesAtMost L.Links links.now 2 p.old p.new }
     ensures read { ReadsPart (L.numbers links.now) (place_in (L.seat links.now p.old).slots place.now) (L.seat links.now p.old) result
         (L.seat links.now p.new) }
 {
@@ -74,6 +77,7 @@ fn confirm<L: Links<Rule = Pairs>>(
     requires allowed { MaySee (L.numbers links.now) (L.seat links.now p.old) (link_in (L.seat links.now p.old).slots link.now) left right }
     ensures pass { L.belongs links.now p.new }
     ensures later { IsPrefix (L.journal p.old) (L.journal p.new) }
+    ensures tries { MakesAtMost L.Links links.now 1 p.old p.new }
     ensures confirmed { Confirms (link_in (L.seat links.now p.old).slots link.now) left right (L.seat links.now p.old) result (L.seat links.now p.new) }
 {
     let agent = links.agent(p);
@@ -90,6 +94,7 @@ fn read_pair<L: Links<Rule = Pairs>>(links: &L, p: &mut L::Pass, pair: &Held) ->
     requires pair { IsPairOf (heap_of (L.numbers links.now) (L.seat links.now p.old)) (id_in (L.seat links.now p.old).slots pair.now) }
     ensures pass { L.belongs links.now p.new }
     ensures later { IsPrefix (L.journal p.old) (L.journal p.new) }
+    ensures tries { MakesAtMost L.Links links.now 5 p.old p.new }
     ensures read { ReadsPair (L.numbers links.now) (id_in (L.seat links.now p.old).slots pair.now) (L.seat links.now p.old) result (L.seat links.now p.new) }
 {
     let left = read_part(links, p, &At::Node(pair));
@@ -108,6 +113,7 @@ fn read_turn<L: Links<Rule = Pairs>>(links: &L, p: &mut L::Pass) -> Option<(u64,
     requires slots { IsFree (L.seat links.now p.old).slots 1 × IsFree (L.seat links.now p.old).slots 2 }
     ensures pass { L.belongs links.now p.new }
     ensures later { IsPrefix (L.journal p.old) (L.journal p.new) }
+    ensures tries { MakesAtMost L.Links links.now 7 p.old p.new }
     ensures read { ReadsTurns 1 (L.seat links.now p.old) result (L.seat links.now p.new) }
 {
     match links.look(p, &At::Root(PAIR), 1) {
@@ -138,6 +144,7 @@ pub(crate) fn read_turns<L: Links<Rule = Pairs>>(
     requires slots { IsFree (L.seat links.now p.old).slots 1 × IsFree (L.seat links.now p.old).slots 2 }
     ensures pass { L.belongs links.now p.new }
     ensures later { IsPrefix (L.journal p.old) (L.journal p.new) }
+    ensures tries { MakesAtMost L.Links links.now (7 * turns) p.old p.new }
     ensures read { ReadAnswers turns (L.seat links.now p.old) result (L.seat links.now p.new) }
     ensures no_turns { turns ≡ 0 → IsErr result }
     ensures nothing { turns ≡ 0 → Only [] (L.seat links.now p.old) (L.seat links.now p.new) }

@@ -1,8 +1,9 @@
 //! A publish whose parts are staged: the new pair is given, published and let go.
 
-ghost use Rattle.std.specs.Prelude.{Err, IfErr, None, Some, [], false, length, ℕ, ◌<◌, ◌≡◌};
+ghost use Rattle.std.specs.Prelude.{Err, IfErr, None, Some, [], false, length, ℕ, ◌*◌, ◌+◌, ◌<◌, ◌≡◌, ◌≢◌, ◌⊎◌};
 ghost use mathlib.Core.List.{IsPrefix};
 ghost use Rattle.orc_heap.specs.{
+  Domains.{MakesAtMost},
   Slots.{IsFree},
   OwnEvents.{Only},
   Heap.{null, shown},
@@ -13,7 +14,7 @@ ghost use Rattle.orc_history.specs.Parts.{part_begin};
 ghost use Rattle.orc_cell.specs.{
   Answers.{PublishAnswers},
   Causes.{CausedInPart, CausedWithin},
-  Publishes.{IsPublished, SideHeld, given_of, staging_root},
+  Publishes.{IsPublished, SideHeld, events_of_turns, given_of, staging_root},
   Turns.{FindsOnly, IsCellDomain},
   declared.publish.Half.{Half},
   declared.refused.CellRefused.{CellRefused},
@@ -42,6 +43,7 @@ pub(crate) fn publish_pair<L: Links<Rule = Pairs>>(
     requires slots { IsFree (L.seat links.now p.old).slots 3 × IsFree (L.seat links.now p.old).slots 4 × IsFree (L.seat links.now p.old).slots 5 }
     ensures pass { L.belongs links.now p.new }
     ensures later { IsPrefix (L.journal p.old) (L.journal p.new) }
+    ensures tries { MakesAtMost L.Links links.now (3 + events_of_turns turns (given_of left.now) (given_of right.now)) p.old p.new }
     ensures answered { PublishAnswers (L.numbers links.now) 1 turns (given_of left.now) (given_of right.now) (L.seat links.now p.old) result
         (L.seat links.now p.new) }
     ensures refused { IfErr result (λ why. CausedWithin L.Links links.now p.old p.new why) }
@@ -80,6 +82,7 @@ fn publish_right<L: Links<Rule = Pairs>>(
         × IsFree (L.seat links.now p.old).slots 5 }
     ensures pass { L.belongs links.now p.new }
     ensures later { IsPrefix (L.journal p.old) (L.journal p.new) }
+    ensures tries { MakesAtMost L.Links links.now (8 + events_of_turns turns (given_of left.now) right.0) p.old p.new }
     ensures answered { PublishAnswers (L.numbers links.now) 2 turns (given_of left.now) right.0 (L.seat links.now p.old) result (L.seat links.now p.new) }
     ensures refused { IfErr result (λ why. CausedWithin L.Links links.now p.old p.new why) }
 {
@@ -114,6 +117,7 @@ pub(crate) fn publish_both<L: Links<Rule = Pairs>>(
         × IsFree (L.seat links.now p.old).slots 4 × IsFree (L.seat links.now p.old).slots 5 }
     ensures pass { L.belongs links.now p.new }
     ensures later { IsPrefix (L.journal p.old) (L.journal p.new) }
+    ensures tries { MakesAtMost L.Links links.now (13 + events_of_turns turns left.0 right.0) p.old p.new }
     ensures answered { PublishAnswers (L.numbers links.now) 3 turns left.0 right.0 (L.seat links.now p.old) result (L.seat links.now p.new) }
     ensures refused { IfErr result (λ why. CausedWithin L.Links links.now p.old p.new why) }
 {
@@ -136,6 +140,7 @@ fn is_null<L: Links<Rule = Pairs>>(links: &L, p: &mut L::Pass) -> bool
     requires made { IsCellDomain (L.numbers links.now) (L.agents links.now) (L.opening links.now) }
     ensures pass { L.belongs links.now p.new }
     ensures later { IsPrefix (L.journal p.old) (L.journal p.new) }
+    ensures tries { MakesAtMost L.Links links.now 1 p.old p.new }
     ensures only { FindsOnly (L.seat links.now p.old) [] (L.seat links.now p.new) }
     ensures published { result ≡ false → IsPublished (heap_of (L.numbers links.now) (L.seat links.now p.new)) }
     ensures begun { part_begin L.agent_of (L.seat links.now p.old).agent (L.journal p.old) (L.journal p.new) < length (L.journal p.new) }
@@ -155,12 +160,14 @@ pub(crate) fn publish_parts<L: Links<Rule = Pairs>>(
     requires pass { L.belongs links.now p.old }
     requires made { IsCellDomain (L.numbers links.now) (L.agents links.now) (L.opening links.now) }
     requires idle { IsIdle (L.seat links.now p.old) }
+    requires given { (left ≢ None) ⊎ (right ≢ None) }
     requires roots { (roots.0 ≡ staging_root Half.Left (L.seat links.now p.old).agent) × (roots.1 ≡ staging_root Half.Right (L.seat links.now p.old).agent) }
     requires there { (roots.0 < (L.numbers links.now).roots) × (roots.1 < (L.numbers links.now).roots) }
     requires null { (shown (heap_of (L.numbers links.now) (L.seat links.now p.old)) (Place.Root roots.0) ≡ Some null)
         × (shown (heap_of (L.numbers links.now) (L.seat links.now p.old)) (Place.Root roots.1) ≡ Some null) }
     ensures pass { L.belongs links.now p.new }
     ensures later { IsPrefix (L.journal p.old) (L.journal p.new) }
+    ensures tries { MakesAtMost L.Links links.now (6 * turns + 15) p.old p.new }
     ensures answered { PublishAnswers (L.numbers links.now) 3 turns left right (L.seat links.now p.old) result (L.seat links.now p.new) }
     ensures no_turns { turns ≡ 0 → result ≡ Err CellRefused.Again }
     ensures nothing { turns ≡ 0 → Only [] (L.seat links.now p.old) (L.seat links.now p.new) }

@@ -1,5 +1,5 @@
 -- The part is held while the new pair is aimed at it.
-use Rattle.std.proofs.Common.{subst, sym, ◌∙◌}
+use Rattle.std.proofs.Common.{arith, subst, sym, ◌∙◌}
 use Rattle.std.specs.Prelude.{IfErr, IfOk}
 use Rattle.orc_heap.proofs.Pieces.{goes_on}
 use Rattle.orc_heap.specs.Slots.{Holds, Slots, id_in}
@@ -10,6 +10,7 @@ use Rattle.orc_cell.proofs.Pieces.{pass_known}
 use Rattle.orc_cell.proofs.Staging.{ok_of, err_of, within_call}
 use Rattle.orc_cell.proofs.publish.aim_kept.Given.{Over}
 use Rattle.orc_cell.proofs.publish.aim_kept.Goals.{After-release}
+use Rattle.orc_cell.proofs.Counting.{made}
 use Rattle.orc_cell.proofs.publish.aim_kept.Goals as goal
 
 pub aim_half-aimed-requires : goal.aim_half-aimed-requires
@@ -77,3 +78,23 @@ returns-in-Err-clause-worn g c =
     within_call g.L.Links d c.args.p.now c.value-value.new.p c.aim_half-aimed.new.p c.release.new.p (λ who. g.L.Links.worn d who why) (λ who. g.met.L.Links.worn_stays d who why)
     (vp.nothing.puts.agent ∙ hp.held.finds.puts.agent) (goes_on _ _ _ hp.later vp.later) c.release.ensures.later
     (err_of _ c.in-Err.is c.aim_half-aimed.ensures.worn)
+
+pub returns-in-Ok-clause-tries : goal.returns-in-Ok-clause-tries
+returns-in-Ok-clause-tries g c =
+    omega (
+      arith,
+      c.hold_half-part.ensures.tries,
+      made c.value-value.ensures.nothing.puts,
+      c.aim_half-aimed.ensures.tries,
+      made c.release.ensures.released.puts,
+    )
+
+pub returns-in-Err-clause-tries : goal.returns-in-Err-clause-tries
+returns-in-Err-clause-tries g c =
+    omega (
+      arith,
+      c.hold_half-part.ensures.tries,
+      made c.value-value.ensures.nothing.puts,
+      c.aim_half-aimed.ensures.tries,
+      made c.release.ensures.released.puts,
+    )

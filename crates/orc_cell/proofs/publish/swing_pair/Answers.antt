@@ -13,6 +13,7 @@ use Rattle.orc_pairs_rule.specs.declared.pairs.PairsNote.TheVariants.{Entry}
 use Rattle.orc_pairs_rule.specs.declared.pairs.PairsNote.{PairsNote}
 use Rattle.orc_cell.specs.Publishes.{given_of}
 use Rattle.orc_cell.proofs.Swinging.{not_worn, swung_fresh}
+use Rattle.orc_cell.proofs.Counting.{swung_few}
 use Rattle.orc_cell.proofs.publish.swing_pair.Goals as goal
 
 pub swing-requires-clause-place : goal.swing-requires-clause-place
@@ -44,3 +45,6 @@ returns-clause-swung g c =
       puts = subst (λ (x : PairsNote). MatchBool c.in-Ok.done (Puts s (event_of s (Move (Root 0) from to) (Some x) ∷ []) t) (Misses (Root 0) from s t)) noted
           w.puts;
     }
+
+pub returns-clause-tries : goal.returns-clause-tries
+returns-clause-tries g c = swung_few c.in-Ok.ensures.swung

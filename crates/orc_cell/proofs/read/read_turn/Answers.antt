@@ -14,6 +14,7 @@ use Rattle.orc_cell.proofs.Pieces.{pass_known}
 use Rattle.orc_cell.proofs.Reading.{confirmed, null_over, null_seen, pair_slots, turn_read}
 use Rattle.orc_cell.proofs.read.read_turn.Given.{Over}
 use Rattle.orc_cell.proofs.read.read_turn.Goals.{In-Stable-default-None, In-Stable-default-Some}
+use Rattle.orc_cell.proofs.Counting.{looked_few, made}
 use Rattle.orc_cell.proofs.read.read_turn.Goals as goal
 
 pub look-requires-clause-place : goal.look-requires-clause-place
@@ -98,3 +99,16 @@ returns-in-Moved-clause-read g c =
       };
       moved = looks_differ_by_others _ _ _ r.0 r.1 r.4 (g.met.L.Links.allowed _ _ e.pass) r.2;
     }
+
+pub returns-in-Stable-default-Some-clause-tries : goal.returns-in-Stable-default-Some-clause-tries
+returns-in-Stable-default-Some-clause-tries g c =
+    omega (arith, looked_few c.in-Stable-default-Some.ensures.looked, c.read_pair-parts.ensures.tries, made c.release.ensures.released.puts)
+
+pub returns-then-confirm-clause-tries : goal.returns-then-confirm-clause-tries
+returns-then-confirm-clause-tries g c = omega (arith, looked_few c.in-Stable-default-None.ensures.looked, c.confirm.ensures.tries)
+
+pub returns-else-confirm-clause-tries : goal.returns-else-confirm-clause-tries
+returns-else-confirm-clause-tries g c = omega (arith, looked_few c.in-Stable-default-None.ensures.looked, c.confirm.ensures.tries)
+
+pub returns-in-Moved-clause-tries : goal.returns-in-Moved-clause-tries
+returns-in-Moved-clause-tries g c = omega (arith, looked_few c.in-Moved.ensures.looked)

@@ -9,7 +9,7 @@ use Rattle.orc_cell.proofs.read.read_turns.Goals as goal
 
 pub loop-init : goal.loop-init
 loop-init g c =
-    record { pass = c.requires.pass; later = ([], append-nil _); over = over_none _; still = λ zero. only_none _ }
+    record { pass = c.requires.pass; later = ([], append-nil _); over = over_none _; still = λ zero. only_none _; tries = omega arith }
 
 pub read_turn-requires : goal.read_turn-requires
 read_turn-requires g c =
@@ -28,7 +28,13 @@ loop-preserved g c =
     let i = c.loop.invariant in
     let e = c.in-None.ensures in
     let over = over_next c.loop.counter _ _ _ i.over e.read in
-    record { pass = e.pass; later = goes_on _ _ _ i.later e.later; over = over; still = λ zero. absurd (omega (arith, zero)) }
+    record {
+      pass = e.pass;
+      later = goes_on _ _ _ i.later e.later;
+      over = over;
+      still = λ zero. absurd (omega (arith, zero));
+      tries = omega (arith, i.tries, e.tries);
+    }
 
 pub returns-in-Some : goal.returns-in-Some
 returns-in-Some g c =
@@ -38,6 +44,7 @@ returns-in-Some g c =
     record {
       pass = e.pass;
       later = goes_on _ _ _ i.later e.later;
+      tries = omega (arith, i.tries, e.tries, some);
       read = over_read c.loop.counter c.args.turns _ _ _ c.in-Some.parts i.over e.read;
       no_turns = λ zero. absurd (omega (arith, zero, some));
       nothing = λ zero. absurd (omega (arith, zero, some));

@@ -1,5 +1,6 @@
-use Rattle.std.specs.Prelude.{[], ◌≡◌}
+use Rattle.std.specs.Prelude.{[], ◌*◌, ◌≡◌}
 use mathlib.Core.List.{IsPrefix}
+use Rattle.orc_heap.specs.Domains.{MakesAtMost}
 use Rattle.orc_heap.specs.OwnEvents.{Only}
 use Rattle.orc_cell.specs.Turns.{ReadsOver}
 use Rattle.orc_cell.proofs.read.read_turns.Given as goal
@@ -11,4 +12,5 @@ invariant-loop g l = record {
   later : IsPrefix (g.L.Links.journal l.initial.p) (g.L.Links.journal l.p);
   over : ReadsOver l.counter (g.L.Links.seat l.links l.initial.p) (g.L.Links.seat l.links l.p);
   still : l.counter ≡ 0 → Only [] (g.L.Links.seat l.links l.initial.p) (g.L.Links.seat l.links l.p);
+  tries : MakesAtMost g.L.Links l.links (7 * l.counter) l.initial.p l.p;
 }

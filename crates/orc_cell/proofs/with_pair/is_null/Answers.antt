@@ -7,6 +7,7 @@ use Rattle.orc_heap.specs.declared.events.Place.TheVariants.{Root}
 use Rattle.orc_pairs_rule.proofs.Coming.{unnoted_later}
 use Rattle.orc_cell.proofs.Answering.{null_missed, tests_only, tests_puts}
 use Rattle.orc_heap.proofs.Parting.{part_begun_seats}
+use Rattle.orc_cell.proofs.Counting.{tested_few}
 use Rattle.orc_cell.proofs.with_pair.is_null.Goals as goal
 
 pub same-requires-clause-place : goal.same-requires-clause-place
@@ -32,3 +33,6 @@ returns-clause-begun g c =
     let w = tests_puts _ _ _ _ c.same.result e.tested in
     part_begun_seats g.L.Links.agent_of _ (g.met.L.Links.steps_add _) _ _
     _ _ w.0 w.1 e.later (g.met.L.Links.seen_is _ _ c.requires.pass) (g.met.L.Links.seen_is _ _ e.pass) w.2
+
+pub returns-clause-tries : goal.returns-clause-tries
+returns-clause-tries g c = tested_few c.same.ensures.tested

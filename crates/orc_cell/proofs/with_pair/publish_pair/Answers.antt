@@ -5,6 +5,7 @@ use Rattle.orc_fault.specs.declared.NoNode.{NoNode}
 use Rattle.orc_cell.specs.Publishes.{given_of}
 use Rattle.orc_cell.proofs.Answering.{pair_done, pair_fresh, pair_lacking, pair_over, pair_spent, side_given, slot_given, given_slots}
 use Rattle.orc_cell.proofs.Staging.{err_of, err_within, within_call}
+use Rattle.orc_cell.proofs.Counting.{made}
 use Rattle.orc_cell.proofs.with_pair.publish_pair.Goals as goal
 
 pub publish_given-turn-requires : goal.publish_given-turn-requires
@@ -68,3 +69,18 @@ returns-in-Spent-clause-refused g c =
     within_call g.L.Links d c.args.p.now c.give.new.p c.publish_given-turn.new.p c.release.new.p (λ who. g.L.Links.worn d who why)
     (λ who. g.met.L.Links.worn_stays d who why) c.in-Ok.ensures.given.puts.agent c.in-Ok.ensures.later c.release.ensures.later
     (c.publish_given-turn.ensures.worn why c.in-Spent.is)
+
+pub returns-in-Err-clause-tries : goal.returns-in-Err-clause-tries
+returns-in-Err-clause-tries g c = omega (arith, made c.in-Err.ensures.none.puts)
+
+pub returns-in-Published-clause-tries : goal.returns-in-Published-clause-tries
+returns-in-Published-clause-tries g c =
+    omega (arith, made c.in-Ok.ensures.given.puts, c.publish_given-turn.ensures.tries, made c.release.ensures.released.puts)
+
+pub returns-in-Over-clause-tries : goal.returns-in-Over-clause-tries
+returns-in-Over-clause-tries g c =
+    omega (arith, made c.in-Ok.ensures.given.puts, c.publish_given-turn.ensures.tries, made c.release.ensures.released.puts)
+
+pub returns-in-Spent-clause-tries : goal.returns-in-Spent-clause-tries
+returns-in-Spent-clause-tries g c =
+    omega (arith, made c.in-Ok.ensures.given.puts, c.publish_given-turn.ensures.tries, made c.release.ensures.released.puts)

@@ -4,6 +4,7 @@ use Rattle.orc_heap.specs.Slots.{Slots}
 use Rattle.orc_cell.proofs.Answering.{answers_after, answers_none, caused_in_part}
 use Rattle.orc_cell.proofs.Pieces.{only_none}
 use Rattle.orc_cell.proofs.Staging.{finds_staging}
+use Rattle.orc_cell.proofs.Counting.{publish_few}
 use Rattle.orc_cell.proofs.with_pair.publish_parts.Goals as goal
 
 pub returns-then-turns-eq0-clause-answered : goal.returns-then-turns-eq0-clause-answered
@@ -48,3 +49,8 @@ returns-clause-refused g c =
     let e = c.is_null-empty.ensures in
     caused_in_part g.L.Links _ c.args.p.now c.is_null-empty.new.p c.publish_both.new.p e.only.finds.puts.agent e.later c.publish_both.ensures.later e.begun
     c.publish_both.result c.publish_both.ensures.refused
+
+pub returns-clause-tries : goal.returns-clause-tries
+returns-clause-tries g c =
+    let few = publish_few c.args.left c.args.right c.args.turns c.requires.given (omega (arith, c.if-turns-eq0.false)) in
+    omega (arith, c.is_null-empty.ensures.tries, c.publish_both.ensures.tries, few)

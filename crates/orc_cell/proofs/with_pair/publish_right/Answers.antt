@@ -2,6 +2,7 @@
 use Rattle.std.proofs.Common.{ap, arith, inl, inr, refl, subst, sym, ℕ, ◌*◌, ◌+◌, ◌∙◌}
 use Rattle.orc_cell.specs.Publishes.{SideHeld, given_of}
 use Rattle.orc_cell.proofs.Answering.{answers_join, caused_call, pair_lacking, ready_agent, ready_fresh, ready_held, ready_other, ready_slot, ready_answered}
+use Rattle.orc_cell.proofs.Counting.{made}
 use Rattle.orc_cell.proofs.with_pair.publish_right.Goals as goal
 
 pub ready-requires-clause-staging : goal.ready-requires-clause-staging
@@ -58,3 +59,10 @@ returns-clause-refused g c =
     caused_call g.L.Links _ c.args.p.now c.ready.new.p c.publish_pair-answer.new.p c.let_go.new.p (g.met.L.Links.lacking_stays _) (g.met.L.Links.worn_stays _)
     (ready_agent _ 2 c.args.root _ _ c.in-Ok.part c.in-Ok.ensures.ready) c.in-Ok.ensures.later c.let_go.ensures.later c.publish_pair-answer.result
     c.publish_pair-answer.ensures.refused
+
+pub returns-in-Err-clause-tries : goal.returns-in-Err-clause-tries
+returns-in-Err-clause-tries g c = omega (arith, made c.in-Err.ensures.none.puts)
+
+pub returns-clause-tries : goal.returns-clause-tries
+returns-clause-tries g c =
+    rw (← c.in-Ok.ensures.given) (omega (arith, c.in-Ok.ensures.tries, c.publish_pair-answer.ensures.tries, c.let_go.ensures.tries))

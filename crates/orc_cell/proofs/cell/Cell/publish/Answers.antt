@@ -9,6 +9,7 @@ use Rattle.orc_cell.proofs.Answering.{any_answered}
 use Rattle.orc_cell.proofs.Journals.{gave_at_most, no_event}
 use Rattle.orc_cell.proofs.Settled.{idle_after, publish_again, publish_ends, publish_err, publish_ok, staging_after}
 use Rattle.orc_cell.proofs.Staging.{err_of}
+use Rattle.orc_cell.proofs.Counting.{made}
 use Rattle.orc_cell.proofs.cell.Cell.publish.Goals as goal
 
 pub staging_roots-roots-requires : goal.staging_roots-roots-requires
@@ -32,6 +33,7 @@ publish_parts-answer-requires g c =
       pass = usable.pass;
       made = made;
       idle = usable.idle;
+      given = c.requires.given;
       roots = (left, right);
       there = (omega (arith, left, made.roots, below), omega (arith, right, made.roots, below));
       null = (usable.staging c.staging_roots-roots.result.0 (inl left), usable.staging c.staging_roots-roots.result.1 (inr right));
@@ -72,6 +74,7 @@ returns g c =
       spent = λ why is. part_goes_on g.L.Links.agent_of agent (g.L.Links.worn d agent why) _ _ _ (g.met.L.Links.worn_stays d agent why) done.later
           settle.later (err_of _ is done.refused);
       gives = gave_at_most ends.after.answered.piece;
+      tries = omega (arith, done.tries, made settle.nothing.puts);
       settled = λ alone. settle.settled
           (settling_alone g.L.Links d c.args.p.now c.publish_parts-answer.new.p c.settle.new.p done.later settle.later ends.before alone);
     }

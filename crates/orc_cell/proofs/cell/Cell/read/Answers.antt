@@ -8,6 +8,7 @@ use Rattle.orc_heap.specs.Slots.{Slots}
 use Rattle.orc_pairs_rule.specs.PairsDiscipline.{PairsMay}
 use Rattle.orc_cell.proofs.Journals.{gave_at_most, no_event}
 use Rattle.orc_cell.proofs.Settled.{idle_after, read_again, read_answers, read_ends, read_err, read_ok, staging_after}
+use Rattle.orc_cell.proofs.Counting.{made}
 use Rattle.orc_cell.proofs.cell.Cell.read.Goals as goal
 
 pub read_turns-answer-requires : goal.read_turns-answer-requires
@@ -53,6 +54,7 @@ returns g c =
       no_event = λ zero. no_event _ _ (Puts-trans _ _ _ [] [] (done.nothing zero).puts settle.nothing.puts);
       again = read_again seen _ r ends.answers;
       gives = gave_at_most ends.after.answered.piece;
+      tries = omega (arith, done.tries, made settle.nothing.puts);
       settled = λ alone. settle.settled
           (settling_alone g.L.Links d c.args.p.now c.read_turns-answer.new.p c.settle.new.p done.later settle.later ends.before alone);
     }

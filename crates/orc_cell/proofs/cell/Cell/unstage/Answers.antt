@@ -1,10 +1,11 @@
 -- The staging root is null, and the settling after it changes nothing.
-use Rattle.std.proofs.Common.{[], ap, ℕ, ◌*◌, ◌+◌, ◌∙◌}
+use Rattle.std.proofs.Common.{[], ap, arith, ℕ, ◌*◌, ◌+◌, ◌∙◌}
 use Rattle.orc_heap.proofs.Pieces.{goes_on}
 use Rattle.orc_heap.proofs.InJournal.{call_seen, settling_alone}
 use Rattle.orc_pairs_rule.specs.PairsDiscipline.{PairsMay}
 use Rattle.orc_cell.proofs.Journals.{call_adds, gave_at_most}
 use Rattle.orc_cell.proofs.Stopping.{piece_settled, unstaged_null}
+use Rattle.orc_cell.proofs.Counting.{made}
 use Rattle.orc_cell.proofs.cell.Cell.unstage.Goals as goal
 
 pub returns-clause-usable : goal.returns-clause-usable
@@ -38,3 +39,6 @@ returns-clause-settled g c = λ alone.
     let settle = c.settle.ensures in
     settle.settled (settling_alone g.L.Links c.args.self.now.links c.args.p.now c.unstage.new.p c.settle.new.p c.unstage.ensures.later settle.later
     c.unstage.ensures.unstaged.piece.puts.agent alone)
+
+pub returns-clause-tries : goal.returns-clause-tries
+returns-clause-tries g c = omega (arith, c.unstage.ensures.tries, made c.settle.ensures.nothing.puts)
