@@ -7,12 +7,13 @@ use Rattle.std.specs.List.{slice_get}
 use Rattle.orc_fault.specs.declared.Spent.{Spent as SpentRow}
 use Rattle.orc_heap.proofs.Moved.{shown_node}
 use Rattle.orc_heap.proofs.OwnParts.{from_own-begun, own_right}
-use Rattle.orc_heap.proofs.Pieces.{own_part_left}
+use Rattle.orc_heap.proofs.Calls.{Puts-trans}
+use Rattle.orc_heap.proofs.Pieces.{goes_on, own_part_left, puts_released}
 use Rattle.orc_heap.proofs.Runs.{run_heap-snoc}
 use Rattle.orc_heap.proofs.SingleActs.{some_same}
 use Rattle.orc_heap.proofs.Stays.{allowed-left, allowed-right}
 use Rattle.orc_heap.specs.Acts.{heap_after}
-use Rattle.orc_heap.specs.Allowed.{AllAllowed, events_by}
+use Rattle.orc_heap.specs.Allowed.{AllAllowed, IsLinkedNode, events_by}
 use Rattle.orc_heap.specs.Calls.{event_of}
 use Rattle.orc_heap.specs.Heap.{Heap, HeapNumbers, Node, link_to, shown}
 use Rattle.orc_heap.specs.Journals.{run_heap}
@@ -20,7 +21,7 @@ use Rattle.orc_heap.specs.Moves.{AllOwn, from_own}
 use Rattle.orc_heap.specs.OwnEvents.{Only, Puts}
 use Rattle.orc_heap.specs.Seats.{Seat, heap_of}
 use Rattle.orc_heap.specs.Slots.{Hold, Holds, Slots, id_in}
-use Rattle.orc_heap.specs.declared.events.Act.TheVariants.{Move}
+use Rattle.orc_heap.specs.declared.events.Act.TheVariants.{Aim, Move}
 use Rattle.orc_heap.specs.declared.events.Event.{Event}
 use Rattle.orc_heap.specs.declared.events.Link.{Link}
 use Rattle.orc_heap.specs.declared.events.Place.{Place}
@@ -28,16 +29,19 @@ use Rattle.orc_heap.specs.declared.events.Place.TheVariants.{Root}
 use Rattle.orc_history.specs.declared.set.SetEntry.TheVariants.{Asked}
 use Rattle.orc_ordered_chains.proofs.Acts.{move_moves}
 use Rattle.orc_ordered_chains.proofs.Paths.{absent, leads_same, place_on_chain}
-use Rattle.orc_ordered_chains.specs.Chains.{MayLink}
+use Rattle.orc_ordered_chains.specs.Chains.{IsOnChain, MayLink}
 use Rattle.orc_ordered_search.specs.Entries.{node_to_link}
 use Rattle.orc_ordered_search.specs.Inserts.{AddsNode, LinksAndGoes, slots_with, turn_by}
 use Rattle.orc_ordered_search.specs.Searches.{AllGone, FindsPresent, LetsGo}
+use Rattle.orc_ordered_search.specs.Turns.{made_from}
 use Rattle.orc_ordered_search.specs.declared.turn.InsertTurn.{InsertTurn}
 use Rattle.orc_ordered_search.specs.declared.turn.InsertTurn.TheVariants.{Answered, NoNode, Over, Spent}
 use Rattle.orc_ordered_search.proofs.Inserting.{seen_holds}
 use Rattle.orc_ordered_search.proofs.Making.{made_on}
 use Rattle.orc_ordered_search.proofs.Parts.{others_alone}
+use Rattle.orc_ordered_search.proofs.Quiets.{linked_puts}
 use Rattle.orc_ordered_search.proofs.Settling.{Did}
+use Rattle.orc_ordered_search.proofs.Since.{made_is, made_still}
 use Rattle.orc_split_rule.specs.Laws.Values.{dummy_rank, root_apart}
 use Rattle.orc_split_rule.specs.SplitDiscipline.{IsDummy, SplitHolds, SplitMay, greatest}
 use Rattle.orc_split_rule.specs.SplitOrder.{dummy_place, split_order}
@@ -46,10 +50,9 @@ use Rattle.orc_split_rule.specs.declared.split.SplitNote.TheVariants.{Bucket}
 use Rattle.orc_split_set.specs.Crowds.{SeesOwn}
 use Rattle.orc_split_set.specs.Rootings.{HasNewDummy, IsRootSet, Roots}
 use Rattle.orc_split_set.specs.SplitSearches.{BeginsAt, split_reading}
-use Rattle.orc_split_set.specs.Stops.{HasDummyOnChain, StopTells, StopsUnnamed, linked_by}
+use Rattle.orc_split_set.specs.Stops.{AddsDummy, HasDummyOnChain, LinksNewDummy, StopTells, StopsUnnamed, linked_by}
 use Rattle.orc_split_set.specs.declared.bucket.Rooted.TheVariants.{Moved, NoNode as RootedNoNode}
 use Rattle.orc_split_set.proofs.Crowding.{own_later, own_seen, own_sooner, puts_grow}
-use Rattle.orc_heap.proofs.Pieces.{goes_on}
 use Rattle.orc_split_set.proofs.Anchoring.{dummy_stands}
 use Rattle.orc_split_set.proofs.Ordered.{split_ordering}
 use Rattle.orc_split_set.proofs.Rooting.{dummy_held, found_dummy, let_go_call, missed_roots, refused_roots}
@@ -112,6 +115,34 @@ still_unnamed n bucket s t u grows same p unnamed sees set =
     unnamed (own_sooner s t u grows on sees)
     (subst (λ z. IsRootSet (run_heap n z) bucket) (nothing_seen t u p (own_later s t u grows on same sees)) set)
 
+-- a dummy is on the chain
+on_chain : (n : HeapNumbers) (es : List (Event SplitNote)) (bucket id : ℕ) → SplitHolds n es → IsDummy (run_heap n es) id bucket → IsOnChain (run_heap n es) 0 id
+on_chain n es bucket id holds dummy =
+    let h : Heap = run_heap n es in
+    let shows = shown_node h id dummy.node dummy.there in
+    holds.chains.kept id (dummy_place bucket) dummy.node.link (dummy_rank h id bucket dummy) shows
+    (holds.buckets.plain_dummies id bucket dummy.node.link dummy shows)
+
+pub dummy_on_chain : (n : HeapNumbers) (es : List (Event SplitNote)) (bucket : ℕ) → SplitHolds n es → (id : ℕ) × IsDummy (run_heap n es) id bucket
+    → HasDummyOnChain (run_heap n es) bucket
+dummy_on_chain n es bucket holds (id, dummy) = record { id = id; dummy = dummy; on_chain = on_chain n es bucket id holds dummy }
+
+adds_right : (es fs : List (Event SplitNote)) (id : ℕ) → AddsDummy fs id → AddsDummy (es ++ fs) id
+adds_right [] fs id adds = adds
+adds_right (e ∷ es) fs id adds = inr (adds_right es fs id adds)
+
+-- it was linked so still, once nothing more was done
+new_on : (n : HeapNumbers) (bucket : ℕ) (s t u : Seat SplitNote) (own : List (Event SplitNote)) → Puts s own t → Puts t [] u
+    → AllAllowed (SplitMay n) [] u.seen → SplitHolds n u.seen → LinksNewDummy bucket (heap_of n s) (made_from s t) (heap_of n t)
+    → LinksNewDummy bucket (heap_of n s) (made_from s u) (heap_of n u)
+new_on n bucket s t u own p q all holds k =
+    let dummy = values_puts n t u [] k.there.id bucket 0 q all k.there.dummy in
+    record {
+      there = record { id = k.there.id; dummy = dummy; on_chain = on_chain n u.seen bucket k.there.id holds dummy };
+      adds = subst (λ z. AddsDummy z k.there.id) (sym (made_still s t u own p q)) k.adds;
+      new = k.new;
+    }
+
 -- a dummy that was linked, once all else was let go
 module _ (n : HeapNumbers) (bucket id : ℕ) (place : Place) (from : Link) (to : Option ℕ) (slots : Slots) (t u : Seat SplitNote)
     (k : LinksAndGoes (split_reading n) bucket 0 Bucket id place from to slots t u) (all : AllAllowed (SplitMay n) [] u.seen) where
@@ -126,6 +157,33 @@ module _ (n : HeapNumbers) (bucket id : ℕ) (place : Place) (from : Link) (to :
       let l = k.links in
       values_puts n k.linked u [] id bucket 0 k.gone.puts all
       (dummy_stands n bucket id to place from l.mid k.linked l.node holds_aimed l.moves all_linked)
+
+  -- nothing had linked it before it was aimed
+  unlinked_before : (s : Seat SplitNote) (own : List (Event SplitNote)) → Puts s own t → IsLinkedNode (heap_of n s) id → ⊥
+  unlinked_before s own p linked =
+      let l = k.links in
+      let all_aimed = allowed-left (SplitMay n) [] l.mid.seen l.moves.part (subst (λ es. AllAllowed (SplitMay n) [] es) l.moves.is all_linked) in
+      let w = Puts-trans s t l.mid own _ p l.aims in
+      let later = linked_puts (split_ordering n) s l.mid _ w all_aimed id linked in
+      let same : later.node ≡ node_to_link l.mid.agent bucket 0 to = some_same (sym later.there ∙ l.node) in
+      let bad : true ≡ false = sym later.linked ∙ ap (λ (m : Node). m.linked) same in
+      cc
+
+  -- a Move of the pass linked it
+  pub linked_new : (s : Seat SplitNote) (own : List (Event SplitNote)) → Puts s own t → SplitHolds n u.seen
+      → LinksNewDummy bucket (heap_of n s) (made_from s u) (heap_of n u)
+  linked_new s own p holds =
+      let l = k.links in
+      let aim : List (Event SplitNote) = event_of t (Aim id to) None ∷ [] in
+      let move : List (Event SplitNote) = event_of l.mid (Move place from (link_to id)) (Some Bucket) ∷ [] in
+      let moves : Puts l.mid move u = puts_released l.mid k.linked u move l.moves k.gone.puts in
+      let w = Puts-trans s l.mid u (own ++ aim) move (Puts-trans s t l.mid own aim p l.aims) moves in
+      let here : AddsDummy move id = inl (place, from, refl, refl) in
+      record {
+        there = record { id = id; dummy = linked_stands; on_chain = on_chain n u.seen bucket id holds linked_stands };
+        adds = subst (λ z. AddsDummy z id) (sym (made_is s u ((own ++ aim) ++ move) w)) (adds_right (own ++ aim) move id here);
+        new = unlinked_before s own p;
+      }
 
   pub linked_unnamed : 1 ≤ bucket → bucket < greatest n → SeesOwn t u → IsRootSet (heap_of n u) bucket → ⊥
   linked_unnamed low high sees set =
@@ -161,9 +219,10 @@ begun_on s t u own zs p some w (rest, is) =
 pub turn_stops : (n : HeapNumbers) (bucket passed : ℕ) (left first right : Option Hold) (dummy : Hold) (s t u w : Seat SplitNote)
     (h : HasNewDummy n bucket left first right dummy s t) (result : Result Bool SpentRow)
     → AddsNode (split_reading n) bucket 0 [] dummy h.id 1 (slots_with s.slots (Some dummy) h.id) s result u → LetsGo (Some dummy) u w
-    → IsPrefix t.seen u.seen → AllAllowed (SplitMay n) [] w.seen → (result ≡ Ok true → IsDummy (heap_of n u) h.id bucket)
+    → IsPrefix t.seen u.seen → AllAllowed (SplitMay n) [] w.seen → SplitHolds n w.seen
+    → (result ≡ Ok true → LinksNewDummy bucket (heap_of n s) (made_from s u) (heap_of n u))
     → (result ≡ Ok true → SeesOwn t u → IsRootSet (heap_of n u) bucket → ⊥) → StopsUnnamed n bucket s (turn_by passed result) w
-turn_stops n bucket passed left first right dummy s t u w h (Ok true) a g grows all stands unnamed =
+turn_stops n bucket passed left first right dummy s t u w h (Ok true) a g grows all holds linked unnamed =
     let p = h.adds.puts in
     let on = goes_on t.seen u.seen w.seen grows (puts_grow u w [] g.puts) in
     let call = let_go_call n bucket dummy h.id s u w h.room h.slot_is a.slots_are 1 a.own u (omega arith) a.made refl (inl a.fresh_is) g in
@@ -172,15 +231,15 @@ turn_stops n bucket passed left first right dummy s t u w h (Ok true) a g grows 
       call = call;
       tells = (
         begun_on s t w h.adds.own a.own p h.adds.some call.made.puts on,
-        (h.id, values_puts n u w [] h.id bucket 0 g.puts all (stands refl)),
+        new_on n bucket s u w a.own a.made.puts g.puts all holds (linked refl),
         (λ alone. still_unnamed n bucket t u w grows (a.made.puts.agent ∙ sym p.agent) g.puts (unnamed refl)
             (sees_since s t w h.adds.own a.own p h.adds.some call.made.puts on alone)),
       );
     }
-turn_stops n bucket passed left first right dummy s t u w h (Ok false) a g grows all stands unnamed =
+turn_stops n bucket passed left first right dummy s t u w h (Ok false) a g grows all holds linked unnamed =
     let k = missed_roots n bucket dummy h.id s u w h.room h.slot_is a.slots_are a g in
     record { own = k.own; call = k.call; tells = k.tells }
-turn_stops n bucket passed left first right dummy s t u w h (Err why) a g grows all stands unnamed =
+turn_stops n bucket passed left first right dummy s t u w h (Err why) a g grows all holds linked unnamed =
     let k = refused_roots n bucket dummy h.id s u w h.room h.slot_is a.slots_are why a g in
     record { own = k.own; call = k.call; tells = tt }
 
@@ -235,31 +294,19 @@ begins_first n bucket s = record {
   dummy = tt;
 }
 
--- a dummy is on the chain
-pub dummy_on_chain : (n : HeapNumbers) (es : List (Event SplitNote)) (bucket : ℕ) → SplitHolds n es → (id : ℕ) × IsDummy (run_heap n es) id bucket
-    → HasDummyOnChain (run_heap n es) bucket
-dummy_on_chain n es bucket holds (id, dummy) =
-    let h : Heap = run_heap n es in
-    let shows = shown_node h id dummy.node dummy.there in
-    record {
-      id = id;
-      dummy = dummy;
-      on_chain = holds.chains.kept id (dummy_place bucket) dummy.node.link (dummy_rank h id bucket dummy) shows
-          (holds.buckets.plain_dummies id bucket dummy.node.link dummy shows);
-    }
-
 -- what the call tells once it settled
 module _ (n : HeapNumbers) (bucket : ℕ) (s t u : Seat SplitNote) (turn : InsertTurn) (k : StopsUnnamed n bucket s turn t) (o : Only [] t u)
-    (all : AllAllowed (SplitMay n) [] u.seen) (zs : List (Event SplitNote)) (w : Puts s zs u) where
+    (all : AllAllowed (SplitMay n) [] u.seen) (holds : SplitHolds n u.seen) (zs : List (Event SplitNote)) (w : Puts s zs u) where
   there_later : (id : ℕ) × IsDummy (heap_of n t) id bucket → (id : ℕ) × IsDummy (heap_of n u) id bucket
   there_later (id, dummy) = (id, values_puts n t u [] id bucket 0 o.puts all dummy)
 
-  pub linked_there : linked_by turn ≡ true → (id : ℕ) × IsDummy (heap_of n u) id bucket
+  pub linked_there : linked_by turn ≡ true → LinksNewDummy bucket (heap_of n s) (made_from s u) (heap_of n u)
   linked_there is = by turn is k.tells
     where
-      by : (turn : InsertTurn) → linked_by turn ≡ true → StopTells n bucket s.agent k.call.made.puts.part turn t → (id : ℕ) × IsDummy (heap_of n u) id bucket
+      by : (turn : InsertTurn) → linked_by turn ≡ true → StopTells n bucket s k.call.made.puts.part turn t
+          → LinksNewDummy bucket (heap_of n s) (made_from s u) (heap_of n u)
       by Over is told = cc
-      by (Answered true passed) is (begun, there, unset) = there_later there
+      by (Answered true passed) is (begun, there, unset) = new_on n bucket s t u k.own k.call.made.puts o.puts all holds there
       by (Answered false passed) is told = cc
       by NoNode is told = cc
       by (Spent why) is told = cc
@@ -267,7 +314,7 @@ module _ (n : HeapNumbers) (bucket : ℕ) (s t u : Seat SplitNote) (turn : Inser
   pub linked_unset : linked_by turn ≡ true → AllOwn s.agent (from_own s.agent w.part) → IsRootSet (heap_of n u) bucket → ⊥
   linked_unset is alone set = by turn is k.tells
     where
-      by : (turn : InsertTurn) → linked_by turn ≡ true → StopTells n bucket s.agent k.call.made.puts.part turn t → ⊥
+      by : (turn : InsertTurn) → linked_by turn ≡ true → StopTells n bucket s k.call.made.puts.part turn t → ⊥
       by Over is told = cc
       by (Answered true passed) is (begun, there, unset) =
           let p = k.call.made.puts in
@@ -281,7 +328,7 @@ module _ (n : HeapNumbers) (bucket : ℕ) (s t u : Seat SplitNote) (turn : Inser
       → ((id : ℕ) × IsDummy (heap_of n u) id bucket) ⊎ ((turn ≡ NoNode) ⊎ ((why : SpentRow) × (turn ≡ Spent why)))
   missed_told is alone = by turn refl is k.tells
     where
-      by : (one : InsertTurn) → turn ≡ one → linked_by one ≡ false → StopTells n bucket s.agent k.call.made.puts.part one t
+      by : (one : InsertTurn) → turn ≡ one → linked_by one ≡ false → StopTells n bucket s k.call.made.puts.part one t
           → ((id : ℕ) × IsDummy (heap_of n u) id bucket) ⊎ ((turn ≡ NoNode) ⊎ ((why : SpentRow) × (turn ≡ Spent why)))
       by Over same is told =
           let p = k.call.made.puts in

@@ -21,6 +21,7 @@ use Rattle.orc_split_set.specs.Crowds.{keys_before}
 use Rattle.orc_split_set.specs.Growths.{HasGrow}
 use Rattle.orc_split_set.specs.Looks.{HasStart, ReachesIn, looks_in}
 use Rattle.orc_split_set.specs.Rootings.{IsRootSet}
+use Rattle.orc_split_set.specs.Stops.{LinksNewDummy}
 use Rattle.orc_split_set.specs.declared.bucket.Rooted.{Rooted}
 use Rattle.orc_split_set.specs.declared.bucket.Rooted.TheVariants.{Done, Moved, NoNode, Spent as RootedSpent}
 
@@ -47,9 +48,17 @@ module _ {L D P S : Type 0} (members : LinksOf L D P S SplitNote) (links : L) wh
   abbrev pub EntersNone : P → P → Type 0
   EntersNone old new = Enters old new (λ agent. [])
 
+  -- the events that the call made
+  abbrev pub call_events : P → P → List (Event SplitNote)
+  call_events old new = drop (length (own_events members links old)) (own_events members links new)
+
   -- it gave at most so many nodes
   abbrev pub GivesAtMost : ℕ → P → P → Type 0
-  GivesAtMost most old new = gives_in (drop (length (own_events members links old)) (own_events members links new)) ≤ most
+  GivesAtMost most old new = gives_in (call_events old new) ≤ most
+
+  -- the call itself linked the bucket's dummy, which is on the chain after it; before it no Move had made a link to that node
+  abbrev pub LinksDummy : ℕ → P → P → Type 0
+  LinksDummy bucket old new = LinksNewDummy bucket (heap members links old) (call_events old new) (heap members links new)
 
   -- all turns were used in the call's part of the journal: as many Moves of other agents stand there
   abbrev pub UsesAllTurns : ℕ → P → P → Type 0

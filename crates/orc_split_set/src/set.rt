@@ -7,7 +7,7 @@ ghost use Rattle.orc_history.specs.{Journals.{Within}, declared.set.{ListRefused
 ghost use Rattle.orc_ordered_search.specs.Entries.{entry_by};
 ghost use Rattle.orc_split_rule.specs.SplitDiscipline.{IsSize};
 ghost use Rattle.orc_split_set.specs.{
-  SetCalls.{Enters, EntersNone, FindsWorn, GivesAtMost, GrowsCrowded, HadSize, HasCause, IsUsable, LacksRow, LooksFew, RootsBucket, UsesAllTurns, set_history},
+  SetCalls.{Enters, EntersNone, FindsWorn, GivesAtMost, GrowsCrowded, HadSize, HasCause, IsUsable, LacksRow, LinksDummy, LooksFew, RootsBucket, UsesAllTurns, set_history},
   Rootings.{IsRootSet},
   Stops.{HasDummyOnChain},
   Laws.SetLaws.{cause_stays, entries_below, history_grows, seen_legal},
@@ -146,6 +146,7 @@ impl<L: Links<Rule = Split>> SplitSet<L> {
         ensures agent { agent L.Links self.now.links p.new ≡ agent L.Links self.now.links p.old }
         ensures later { IsPrefix (L.journal p.old) (L.journal p.new) }
         ensures linked { result ≡ true → HasDummyOnChain (heap L.Links self.now.links p.new) bucket }
+        ensures own { result ≡ true → LinksDummy L.Links self.now.links bucket p.old p.new }
         ensures unnamed { result ≡ true → IsCallAlone L.Links self.now.links p.old p.new → IsRootSet (heap L.Links self.now.links p.new) bucket → ⊥ }
         ensures missed { result ≡ false → IsCallAlone L.Links self.now.links p.old p.new
             → HasDummyOnChain (heap L.Links self.now.links p.new) bucket

@@ -1,14 +1,12 @@
 -- By what the search found, and by what came of the new dummy.
-use Rattle.std.proofs.Common.{refl, subst, sym, ℕ, ◌∙◌}
+use Rattle.std.proofs.Common.{refl, subst, sym, ◌∙◌}
 use Rattle.orc_heap.proofs.Pieces.{goes_on}
-use Rattle.orc_heap.specs.Seats.{heap_of}
 use Rattle.orc_heap.specs.declared.events.Place.TheVariants.{Root}
 use Rattle.orc_ordered_search.proofs.Adding.{absent_hand_on, give_free}
 use Rattle.orc_ordered_search.proofs.Held.{present_hand, release_goes}
 use Rattle.orc_ordered_search.proofs.Inserting.{idle_room, turn_node, turn_spent}
 use Rattle.orc_ordered_search.specs.Searches.{FindsAbsent, FindsPresent}
 use Rattle.orc_ordered_search.specs.declared.turn.InsertTurn.{InsertTurn}
-use Rattle.orc_split_rule.specs.SplitDiscipline.{IsDummy}
 use Rattle.orc_split_rule.specs.SplitOrder.{dummy_place}
 use Rattle.orc_split_set.specs.Rootings.{HasNewDummy}
 use Rattle.orc_split_set.specs.SplitSearches.{split_reading}
@@ -18,7 +16,7 @@ use Rattle.orc_split_set.proofs.Allowing.{dummy_added, dummy_to_add}
 use Rattle.orc_split_set.proofs.Ordered.{split_ordering}
 use Rattle.orc_split_set.proofs.Passes.{seen_on}
 use Rattle.orc_split_set.proofs.Rooting.{has_dummy, moved_roots, no_dummy}
-use Rattle.orc_split_set.proofs.Stopping.{begins_first, found_stops, lacking_stops, linked_stands, linked_unnamed, moved_stops, turn_held, turn_stops}
+use Rattle.orc_split_set.proofs.Stopping.{begins_first, found_stops, lacking_stops, linked_new, linked_unnamed, moved_stops, turn_held, turn_stops}
 use Rattle.orc_split_set.proofs.Telling.{told_later, told_refused, told_wider}
 use Rattle.orc_split_set.proofs.stop.stop_a_bucket.Given.{Over}
 use Rattle.orc_split_set.proofs.stop.stop_a_bucket.Goals.{In-Absent, In-Ok, In-Present}
@@ -104,7 +102,8 @@ returns-in-Ok-clause-stopped g c =
     (dummy_added _ c.args.bucket c.in-Absent.left c.in-Absent.first c.in-Absent.right c.in-Ok.dummy s _ _ h c.requires.bucket.0 c.requires.bucket.1 _ _ refl
     c.add_node-done.ensures.added)
     (release_goes c.in-Ok.dummy v w c.release.ensures.released) grows (g.met.L.Links.allowed _ _ c.release.ensures.pass)
-    (λ is. subst (λ (i : ℕ). IsDummy (heap_of n v) i c.args.bucket) h.id_is (linked_stands n c.args.bucket h.adds.id _ _ _ _ u v (k.linked to_add is) all))
+    (g.met.L.Links.obeys _ _ c.release.ensures.pass)
+    (λ is. linked_new n c.args.bucket h.adds.id _ _ _ _ u v (k.linked to_add is) all s h.adds.own h.adds.puts (g.met.L.Links.obeys _ _ k.pass))
     (λ is. linked_unnamed n c.args.bucket h.adds.id _ _ _ _ u v (k.linked to_add is) all c.requires.bucket.0 c.requires.bucket.1))
 
 pub returns-in-Ok-clause-lacking : goal.returns-in-Ok-clause-lacking

@@ -37,9 +37,10 @@ returns g c =
       usable = (settle.pass, idle_settled _ u (call_idle k.call c.requires.usable.1) settle.nothing);
       agent = call.puts.agent;
       later = grows;
-      linked = λ is. dummy_on_chain _ u.seen _ holds (linked_there _ _ s _ u turn k settle.nothing all call.own call.puts (sym linked ∙ is));
-      unnamed = λ is undisturbed. linked_unset _ _ s _ u turn k settle.nothing all call.own call.puts (sym linked ∙ is) (call.alone undisturbed);
-      missed = λ is undisturbed. elim (missed_told _ _ s _ u turn k settle.nothing all call.own call.puts (sym linked ∙ is) (call.alone undisturbed)) [
+      linked = λ is. (linked_there _ _ s _ u turn k settle.nothing all holds call.own call.puts (sym linked ∙ is)).there;
+      own = λ is. linked_there _ _ s _ u turn k settle.nothing all holds call.own call.puts (sym linked ∙ is);
+      unnamed = λ is undisturbed. linked_unset _ _ s _ u turn k settle.nothing all holds call.own call.puts (sym linked ∙ is) (call.alone undisturbed);
+      missed = λ is undisturbed. elim (missed_told _ _ s _ u turn k settle.nothing all holds call.own call.puts (sym linked ∙ is) (call.alone undisturbed)) [
         | inl there ↦ inl (dummy_on_chain _ u.seen _ holds there)
         | inr none ↦ inr (elim none [
           | inl lacks ↦ inl (on NoNode (done.lacking lacks))
