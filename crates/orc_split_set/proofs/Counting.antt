@@ -1,5 +1,5 @@
 -- A search that nobody disturbs counts the keys that it goes past.
-use Rattle.std.proofs.Common.{Bool, List, Option, Some, [], ap, arith, cond, false, filter, inl, inr, length, not, refl, subst, sym, true, ℕ, ◌+◌, ◌++◌, ◌<◌, ◌∙◌, ◌∷◌, ◌≡◌, ◌≢◌, ◌≤◌}
+use Rattle.std.proofs.Common.{Bool, List, Option, Some, [], ap, arith, cond, false, filter, inl, inr, length, not, refl, subst, sym, true, ℕ, ◌++◌, ◌<◌, ◌∙◌, ◌∷◌, ◌≡◌, ◌≢◌, ◌≤◌}
 use Rattle.std.proofs.Math.Bool.{and-eq-true_iff}
 use Rattle.std.proofs.lemmas.Bool.{eq-eqb, eqb-true, false_from_ne_true, ltb-true, or_cases, or_left, or_right}
 use Rattle.std.specs.Prelude.{min, nat_lt, ◌==◌, ◌&&◌}

@@ -1,12 +1,14 @@
 -- What a read of the size did, up to the pass that has settled.
-use Rattle.std.proofs.Common.{Bool, Err, Ok, Result, [], arith, refl, subst, sym, ℕ, ◌∙◌, ◌≡◌, ◌≤◌}
+use Rattle.std.proofs.Common.{Bool, Err, List, Ok, Result, [], ap, arith, length, length-append, refl, subst, sym, ℕ, ◌+◌, ◌∙◌, ◌≡◌, ◌≤◌}
 use Rattle.std.specs.Prelude.{IfErr, IfOk, IsErr}
 use Rattle.orc_fault.specs.declared.Again.{Again as AgainFault}
 use Rattle.orc_heap.proofs.Calls.{part_allowed}
-use Rattle.orc_heap.specs.Allowed.{AllAllowed}
+use Rattle.orc_heap.proofs.InJournal.{own_after}
+use Rattle.orc_heap.specs.Allowed.{AllAllowed, events_by}
 use Rattle.orc_heap.specs.Heap.{HeapNumbers}
-use Rattle.orc_heap.specs.OwnEvents.{Only}
+use Rattle.orc_heap.specs.OwnEvents.{Only, Puts}
 use Rattle.orc_heap.specs.Seats.{IsIdle, Seat}
+use Rattle.orc_heap.specs.declared.events.Event.{Event}
 use Rattle.orc_history.specs.declared.set.SetEntry.TheVariants.{Asked}
 use Rattle.orc_ordered_search.proofs.Inserting.{seen_holds}
 use Rattle.orc_ordered_search.proofs.Making.{made_on, over_on}
@@ -16,6 +18,12 @@ use Rattle.orc_split_rule.specs.SplitDiscipline.{IsSize, SplitMay, greatest, siz
 use Rattle.orc_split_rule.specs.declared.split.SplitNote.{SplitNote}
 use Rattle.orc_split_set.specs.SplitSearches.{ReadsSizeIn, split_reading}
 use Rattle.orc_split_set.proofs.Ordered.{split_ordering}
+
+-- at most so many events were made
+pub made_most : (most : ℕ) (s t : Seat SplitNote) (own : List (Event SplitNote)) → Puts s own t → length own ≤ most
+    → length (events_by t.agent t.seen) ≤ length (events_by s.agent s.seen) + most
+made_most most s t own p few =
+    omega (arith, few, ap (λ z. length z) (own_after s t own p), length-append (events_by s.agent s.seen) own)
 
 -- a call that enters nothing
 abbrev pub none_of : Result Bool (Unit {0})

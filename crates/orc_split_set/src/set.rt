@@ -1,8 +1,8 @@
 //! The set, and its calls.
 
-ghost use Rattle.std.specs.Prelude.{◌≡◌, ◌≢◌, ◌+◌, ◌<◌, ◌≤◌, ◌↔◌, ◌⊎◌, ◌∷◌, [], ℕ, Err, IfErr, IfOk, IsErr, Ok, false, length, true};
+ghost use Rattle.std.specs.Prelude.{◌≡◌, ◌≢◌, ◌+◌, ◌*◌, ◌<◌, ◌≤◌, ◌↔◌, ◌⊎◌, ◌∷◌, [], ℕ, Err, IfErr, IfOk, IsErr, Ok, false, length, true};
 ghost use mathlib.Core.List.{IsPrefix};
-ghost use Rattle.orc_heap.specs.Domains.{IsCallAlone, MakesNoEvent, agent, heap};
+ghost use Rattle.orc_heap.specs.Domains.{IsCallAlone, MakesAtMost, MakesNoEvent, agent, heap};
 ghost use Rattle.orc_history.specs.{Journals.{Within}, declared.set.{ListRefused.{ListRefused}, SetEntry.{SetEntry}}};
 ghost use Rattle.orc_ordered_search.specs.Entries.{entry_by};
 ghost use Rattle.orc_split_rule.specs.SplitDiscipline.{IsSize};
@@ -75,6 +75,7 @@ impl<L: Links<Rule = Split>> SplitSet<L> {
         ensures no_turns { turns ≡ 0 → IsErr result }
         ensures no_event { turns ≡ 0 → MakesNoEvent L.Links self.now.links p.old p.new }
         ensures again { IfErr result (λ e. UsesAllTurns L.Links self.now.links turns p.old p.new) }
+        ensures tries { MakesAtMost L.Links self.now.links (2 * turns) p.old p.new }
         ensures gives { GivesAtMost L.Links self.now.links 0 p.old p.new }
         ensures settled { IsCallAlone L.Links self.now.links p.old p.new → L.backlog p.new ≡ 0 }
     {

@@ -1,7 +1,8 @@
 //! How many buckets there are.
 
-ghost use Rattle.std.specs.Prelude.{◌≡◌, ◌≤◌};
+ghost use Rattle.std.specs.Prelude.{◌≡◌, ◌*◌, ◌≤◌};
 ghost use mathlib.Core.List.{IsPrefix};
+ghost use Rattle.orc_heap.specs.Domains.{MakesAtMost};
 ghost use Rattle.orc_ordered_search.specs.Searches.{HasRoom};
 ghost use Rattle.orc_split_rule.specs.SplitDiscipline.{greatest};
 ghost use Rattle.orc_split_set.specs.SplitSearches.{ReadsSize, ReadsSizeIn};
@@ -22,6 +23,7 @@ pub(crate) fn read_size<L: Links<Rule = Split>>(
     ensures pass { L.belongs links.now p.new }
     ensures later { IsPrefix (L.journal p.old) (L.journal p.new) }
     ensures read { ReadsSize (L.numbers links.now) (L.seat links.now p.old) result (L.seat links.now p.new) }
+    ensures tries { MakesAtMost L.Links links.now 2 p.old p.new }
 {
     match links.look(p, &At::Root(most), 2) {
         Looked::Stable(_, None) => Some(1),
@@ -47,6 +49,7 @@ pub(crate) fn size_turns<L: Links<Rule = Split>>(
     ensures pass { L.belongs links.now p.new }
     ensures later { IsPrefix (L.journal p.old) (L.journal p.new) }
     ensures read { ReadsSizeIn (L.numbers links.now) turns (L.seat links.now p.old) result (L.seat links.now p.new) }
+    ensures tries { MakesAtMost L.Links links.now (2 * turns) p.old p.new }
 {
     for _ in 0..turns {
         if let Some(size) = read_size(links, p, most) {

@@ -1,8 +1,9 @@
 -- By what the look of the size's root found.
-use Rattle.std.proofs.Common.{ap, arith, subst, ◌≤◌, ℕ}
+use Rattle.std.proofs.Common.{[], ap, arith, subst, ◌≤◌, ℕ}
 use Rattle.orc_heap.specs.declared.events.Place.TheVariants.{Root}
 use Rattle.orc_ordered_search.proofs.Ranking.{looks_from}
 use Rattle.orc_split_set.proofs.RootLooks.{look_moved}
+use Rattle.orc_split_set.proofs.Sizing.{made_most}
 use Rattle.orc_split_set.proofs.Sizes.{looks_none, looks_some, size_given, size_one}
 use Rattle.orc_split_set.proofs.size.read_size.Goals as goal
 
@@ -43,3 +44,28 @@ returns-in-Stable-default-None-clause-read g c =
     let looks = looks_from (Root c.args.most) (Root _) 2 _ _ _ (ap Root c.requires.most.0)
     (looks_none c.args.most 2 x.field-0 x.field-1 _ _ x.field-1-is x.ensures.looked) in
     size_one _ _ _ _ some (g.met.L.Links.obeys _ _ c.requires.pass) (g.met.L.Links.allowed _ _ x.ensures.pass) looks
+
+pub returns-in-Stable-default-Some-clause-tries : goal.returns-in-Stable-default-Some-clause-tries
+returns-in-Stable-default-Some-clause-tries g c =
+    let s = g.L.Links.seat c.args.links.now c.args.p.now in
+    let x = c.in-Stable-default-Some in
+    let looks = looks_some c.args.most 2 x.field-0 x.field-1 x.node s _ x.field-1-is x.ensures.looked in
+    let (id, one, more, marked, null, at_slot, slots, puts) = looks.tells in
+    omega (
+      arith,
+      made_most 2 s _ _ puts (omega arith),
+      made_most 0 _ _ [] c.value-size.ensures.nothing.puts (omega arith),
+      made_most 0 _ _ [] c.release.ensures.released.puts (omega arith),
+    )
+
+pub returns-in-Moved-clause-tries : goal.returns-in-Moved-clause-tries
+returns-in-Moved-clause-tries g c =
+    let (one, two, other, slots, puts, some) = c.in-Moved.ensures.looked.tells in
+    made_most 2 _ _ _ puts (omega arith)
+
+pub returns-in-Stable-default-None-clause-tries : goal.returns-in-Stable-default-None-clause-tries
+returns-in-Stable-default-None-clause-tries g c =
+    let x = c.in-Stable-default-None in
+    let looks = looks_none c.args.most 2 x.field-0 x.field-1 _ _ x.field-1-is x.ensures.looked in
+    let (null, slots, puts) = looks.tells in
+    made_most 2 _ _ _ puts (omega arith)

@@ -12,7 +12,7 @@ use Rattle.orc_split_set.proofs.size.size_turns.Goals as goal
 
 pub loop-init : goal.loop-init
 loop-init g c =
-    record { pass = c.requires.pass; later = ([], append-nil _); tires = tires_none (split_reading _) _ }
+    record { pass = c.requires.pass; later = ([], append-nil _); tires = tires_none (split_reading _) _; tries = omega arith }
 
 pub read_size-requires-clause-room : goal.read_size-requires-clause-room
 read_size-requires-clause-room g c = subst (λ (z : Slots). HasRoom z) (sym c.loop.invariant.tires.slots) c.requires.room
@@ -26,6 +26,7 @@ loop-preserved g c =
       pass = e.pass;
       later = goes_on _ _ _ i.later e.later;
       tires = tires_next r c.loop.counter _ _ _ i.tires (found_over r _ _ e.read);
+      tries = omega (arith, i.tries, e.tries);
     }
 
 pub returns-in-Some-clause-read : goal.returns-in-Some-clause-read
@@ -33,6 +34,12 @@ returns-in-Some-clause-read g c =
     let all = g.met.L.Links.allowed _ _ c.loop.invariant.pass in
     let some = subst (λ (k : ℕ). 1 ≤ k) c.requires.most.0 c.requires.most.1 in
     ((λ zero. omega (arith, zero, c.loop-test.true)), size_found _ c.loop.counter c.in-Some.size _ _ _ some all c.loop.invariant.tires c.in-Some.ensures.read)
+
+pub returns-in-Some-clause-tries : goal.returns-in-Some-clause-tries
+returns-in-Some-clause-tries g c = omega (arith, c.loop.invariant.tries, c.in-Some.ensures.tries, c.loop-test.true)
+
+pub returns-clause-tries : goal.returns-clause-tries
+returns-clause-tries g c = omega (arith, c.loop.invariant.tries, c.loop.auto.counter-end)
 
 pub returns-clause-read : goal.returns-clause-read
 returns-clause-read g c =

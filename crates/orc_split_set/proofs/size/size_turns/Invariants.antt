@@ -1,4 +1,6 @@
+use Rattle.std.specs.Prelude.{◌*◌}
 use mathlib.Core.List.{IsPrefix}
+use Rattle.orc_heap.specs.Domains.{MakesAtMost}
 use Rattle.orc_ordered_search.specs.Turns.{Tires}
 use Rattle.orc_split_set.specs.SplitSearches.{split_reading}
 use Rattle.orc_split_set.proofs.size.size_turns.Given as goal
@@ -9,4 +11,5 @@ invariant-loop g l = record {
   pass : g.L.Links.belongs l.links l.p;
   later : IsPrefix (g.L.Links.journal l.initial.p) (g.L.Links.journal l.p);
   tires : Tires (split_reading (g.L.Links.numbers l.links)) l.counter (g.L.Links.seat l.links l.initial.p) (g.L.Links.seat l.links l.p);
+  tries : MakesAtMost g.L.Links l.links (2 * l.counter) l.initial.p l.p;
 }

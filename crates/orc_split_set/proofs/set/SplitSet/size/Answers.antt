@@ -1,10 +1,10 @@
 -- What the call did, and the settling after it.
-use Rattle.std.proofs.Common.{arith}
+use Rattle.std.proofs.Common.{[], arith}
 use Rattle.orc_heap.proofs.Pieces.{goes_on}
 use Rattle.orc_heap.proofs.InJournal.{settling_alone}
 use Rattle.orc_history.specs.declared.set.SetEntry.TheVariants.{Asked}
 use Rattle.orc_ordered_search.proofs.Settling.{idle_settled}
-use Rattle.orc_split_set.proofs.Sizing.{none_of, size_again, size_did, size_had, size_keeps}
+use Rattle.orc_split_set.proofs.Sizing.{made_most, none_of, size_again, size_did, size_had, size_keeps}
 use Rattle.orc_split_set.proofs.Called.{called}
 use Rattle.orc_split_set.proofs.set.SplitSet.size.Goals as goal
 
@@ -31,6 +31,7 @@ returns g c =
       no_turns = λ zero. (did.no_turns zero).0;
       no_event = call.no_event;
       again = size_again answer _ call.again;
+      tries = omega (arith, done.tries, made_most 0 _ _ [] settle.nothing.puts (omega arith));
       gives = call.gives;
       settled = λ alone. settle.settled (settling_alone g.L.Links d p c.size_turns-answer.new.p c.settle.new.p done.later settle.later keeps.1 alone);
     }
