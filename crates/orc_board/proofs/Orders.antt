@@ -1,11 +1,10 @@
 -- What the order of replies says: each line has one reply, and lines of one poster rise.
 use Rattle.std.proofs.Common.{◌≡◌, ◌≢◌, ℕ, zero, suc, ◌+◌, ◌%◌, ◌≤◌, ◌<◌, List, [], ◌∷◌, ◌++◌, length, map, Bool, true, false, cond, filter, ◌==◌, inl, inr, refl, ap, sym, ◌∙◌, subst, arith}
 use Rattle.std.specs.List.{range_with_len, AllByRecursion, IsDistinct}
-use Rattle.std.specs.List.Sorted.{IsPermutation, IsStrictlyIncreasing}
+use Rattle.std.specs.List.Sorted.{IsPermutation}
 use Rattle.std.proofs.lemmas.Bool.Decides.{nat_tests}
 use Rattle.std.proofs.lemmas.List.{length-map}
-use Rattle.std.proofs.lemmas.List.FromFn.{length-range_with_len, get_or-range_with_len}
-use Rattle.std.proofs.lemmas.List.Kept.{IsStrictlyIncreasing-filter}
+use Rattle.std.proofs.lemmas.List.FromFn.{length-range_with_len}
 use Rattle.std.proofs.lemmas.List.Sorted.{IsPermutation-map, IsPermutation-sym, length_permutation}
 use Rattle.std.proofs.lemmas.Map.Keys.{IsDistinct-IsPermutation}
 use Rattle.orc_jobs.specs.declared.line.Line.{Line}
@@ -15,7 +14,7 @@ use Rattle.orc_board.specs.declared.replies.PostWord.TheVariants as word
 use Rattle.orc_board.specs.declared.replies.TakeReply.{TakeReply}
 use Rattle.orc_board.specs.Follows.{AreInOrder, own_records, posts_of}
 use Rattle.orc_board.specs.Reportable.{posted_by, posted_of}
-use Rattle.orc_board.proofs.ListFacts.{AllByRecursion-all, AllByRecursion-map, AllByRecursion-both, filter-none, eq-true, eq-no, zero_or, le-cases}
+use Rattle.orc_board.proofs.ListFacts.{AllByRecursion-all, AllByRecursion-map, AllByRecursion-both, filter-none, eq-true, eq-no, zero_or}
 use Rattle.orc_board.proofs.Keyed.{same_by_keys, by_key_below}
 use Rattle.orc_board.proofs.PairLists.{posted_fewer}
 
@@ -117,28 +116,6 @@ posted_few lines posters takers posts takes some o =
     let each : length (map line posts) ≡ length (range_with_len 0 (length lines)) =
     sym (length_permutation (map line posts) (range_with_len 0 (length lines)) (each_line lines posters takers posts takes some o)) in
     omega (arith, posted_fewer posts, length-map posts line, each, length-range_with_len 0 (length lines))
-
-range_rises : (n : ℕ) → IsStrictlyIncreasing (range_with_len 0 n)
-range_rises n k h =
-    let low : k + 1 < n = omega (arith, h, length-range_with_len 0 n) in
-    omega (arith, get_or-range_with_len 0 n k 0 (omega arith), get_or-range_with_len 0 n (k + 1) 0 low)
-
--- the lines of one poster rise
-pub lines_rise : (lines : List Line) (posters takers : ℕ) (posts : List PostReply) (takes : List TakeReply) → AreInOrder lines posters takers posts takes
-    → (p : ℕ) → IsStrictlyIncreasing (map (λ (r : PostReply). r.line) (posts_of p posts))
-lines_rise lines posters takers posts takes o p =
-    let line : PostReply → ℕ = λ r. r.line in
-    let range = posters_in_range lines posters takers posts takes o in
-    let none : posts_of p posts ≡ [] → IsStrictlyIncreasing (map line (posts_of p posts)) =
-    λ e. subst (λ (rs : List PostReply). IsStrictlyIncreasing (map line rs)) (sym e) (λ k h. absurd (omega arith)) in
-    elim (zero_or p) as (λ _. IsStrictlyIncreasing (map line (posts_of p posts))) [
-      | inl z ↦ none (no_posts posters p posts range (λ x h. above_zero p x posters z h))
-      | inr low ↦ elim (le-cases p posters) as (λ _. IsStrictlyIncreasing (map line (posts_of p posts))) [
-        | inl high ↦ subst IsStrictlyIncreasing (sym (o.in_file_order p low high))
-            (IsStrictlyIncreasing-filter (λ i. poster_of posters i == p) (range_with_len 0 (length lines)) (range_rises (length lines)))
-        | inr high ↦ none (no_posts posters p posts range (λ x h. omega (arith, h.1, high)))
-      ]
-    ]
 
 abbrev pub same : ℕ → ℕ → Bool
 same x y = x == y

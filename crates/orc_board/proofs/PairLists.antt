@@ -1,7 +1,6 @@
 -- The pairs of job and position in histories, rows and replies.
-use Rattle.std.proofs.Common.{◌≡◌, ◌%◌, ℕ, ◌+◌, ◌≤◌, ◌<◌, List, [], ◌∷◌, ◌++◌, length, map, Bool, true, false, not, ◌==◌, inl, inr, refl, ap, sym, ◌∙◌, arith, append_assoc, append-nil, length-append}
+use Rattle.std.proofs.Common.{◌≡◌, ◌%◌, ℕ, ◌+◌, ◌≤◌, List, [], ◌∷◌, ◌++◌, length, map, Bool, true, false, not, ◌==◌, inl, inr, refl, ap, sym, ◌∙◌, arith, append_assoc, append-nil, length-append}
 use Rattle.std.specs.List.{range_with_len, AllByRecursion}
-use Rattle.std.proofs.lemmas.Option.{slice_get_within}
 use Rattle.std.proofs.lemmas.List.FromFn.{length-range_with_len}
 use Rattle.std.proofs.lemmas.List.Sums.{length-filter, count_by-le-length}
 use Rattle.orc_history.specs.declared.queue.QueueEntry.{QueueEntry}
@@ -177,14 +176,6 @@ claims_of lines taker agent [] (row ∷ rows) z = absurd z
 claims_of lines taker agent (r ∷ rs) [] z = absurd z
 claims_of lines taker agent (r ∷ rs) (row ∷ rows) z =
     (record { id = z.0.table.id; job = z.0.table.job; value = z.0.table.value }, claims_of lines taker agent rs rows z.1)
-
--- the lines of the replies exist
-pub lines_exist : (lines : List Line) (poster : ℕ) (rs : List PostReply) (rows : List Row) → Pairwise (PosterRow lines poster) rs rows
-    → AllByRecursion (λ (r : PostReply). r.line < length lines) rs
-lines_exist lines poster [] [] z = tt
-lines_exist lines poster [] (row ∷ rows) z = absurd z
-lines_exist lines poster (r ∷ rs) [] z = absurd z
-lines_exist lines poster (r ∷ rs) (row ∷ rows) z = (slice_get_within lines r.line z.0.line z.0.is, lines_exist lines poster rs rows z.1)
 
 posted_one : (i : ℕ) (w : PostWord) → length (posted_by false i w) + length (posted_by true i w) ≤ 1
 posted_one i (word.Posted at) = omega arith

@@ -21,10 +21,10 @@ use Rattle.orc_board.specs.Follows.{WorkersFollow, IsWorker, grouped_by_key, tak
 use Rattle.orc_board.specs.Reportable.{posted_by, posted_of, claim_of, takes_with, is_side, AreReportable, AreReportableOf, IsClaim}
 use Rattle.orc_board.proofs.ListFacts.{AllByRecursion-append, AllByRecursion-map, AllByRecursion-filter, eq-true, eq-yes, zero_or}
 use Rattle.orc_board.proofs.Wholes.{queue_of_rows, Works-queue}
-use Rattle.orc_board.proofs.PairLists.{puts_of, tooks_of, legal_lists, legal_positions, rows_pairs, took_pairs, claims_of, lines_exist}
+use Rattle.orc_board.proofs.PairLists.{puts_of, tooks_of, legal_lists, legal_positions, rows_pairs, took_pairs, claims_of}
 use Rattle.orc_board.proofs.WorkerCases.{own_whole, worker_cases}
 use Rattle.orc_board.proofs.Positions.{ManyPuts, puts_counted, DidAll-places, no_positions}
-use Rattle.orc_board.proofs.Orders.{posters_in_range, no_posts, above_zero, posted_once, lines_rise}
+use Rattle.orc_board.proofs.Orders.{posters_in_range, no_posts, above_zero, posted_once}
 use Rattle.orc_board.proofs.Keyed.{same_by_keys, by_key_below}
 
 abbrev pub Keyed : Type 0
@@ -337,23 +337,11 @@ pub reportable_all : {A B : Type 0} (qs : Bool → View A QueueEntry QueueRefuse
     → ((rush : Bool) → waiting_after [] ((qs rush).history (k rush)) ≡ [])
     → WorkersFollow qs s lines posters takers posts takes k n → AreReportable lines posts takes
 reportable_all {A} {B} qs s lines posters takers posts takes k n some none legal empty f =
-    let in_range : AllByRecursion (λ (r : PostReply). (1 ≤ r.poster) × (r.poster < suc posters)) posts =
-    posters_in_range lines posters takers posts takes f.order in
     record {
       queues = λ rush. reportable_one qs rush s lines posters takers posts takes k n some (none rush) (legal rush) (empty rush) f;
       claimed = subst (AllByRecursion (IsClaim lines)) (sym f.order.by_taker)
           (every_key (IsClaim lines) (λ (r : TakeReply). r.taker) (suc takers) takes
           (λ t l. let low : t ≤ takers = omega arith in let w = f.claiming t low in claims_of lines t (taker_agent posters t) _ w.rows w.table));
-      lines_exist = subst (AllByRecursion (λ (r : PostReply). r.line < length lines)) (sym f.order.by_poster)
-          (every_key (λ (r : PostReply). r.line < length lines) (λ (r : PostReply). r.poster) (suc posters) posts
-          (λ p l. elim (zero_or p) as (λ _. AllByRecursion (λ (r : PostReply). r.line < length lines) (posts_of p posts)) [
-            | inl z ↦ subst (AllByRecursion (λ (r : PostReply). r.line < length lines))
-                (sym (no_posts posters p posts in_range (λ x h. above_zero p x posters z h))) tt
-            | inr g ↦ let high : p ≤ posters = omega arith in let w = f.posting p g high in lines_exist lines p _ w.rows w.table
-          ]));
-      by_poster = (suc posters, f.order.by_poster);
-      in_file_order = lines_rise lines posters takers posts takes f.order;
-      by_taker = (suc takers, f.order.by_taker);
     }
 
 -- where lines are few, no position runs out

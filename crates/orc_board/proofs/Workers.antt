@@ -1,5 +1,5 @@
 -- What a worker's replies stand for grows reply by reply.
-use Rattle.std.proofs.Common.{◌≡◌, ◌≢◌, ℕ, zero, suc, ◌+◌, ◌≤◌, ◌<◌, slice_get, ◌-◌, ◌%◌, List, [], ◌∷◌, ◌++◌, length, map, Bool, true, false, cond, ◌==◌, filter, Some, None, refl, ap, sym, ◌∙◌, subst, arith, add-one, append-nil, length-append}
+use Rattle.std.proofs.Common.{◌≡◌, ◌≢◌, ℕ, zero, suc, ◌+◌, ◌≤◌, ◌<◌, slice_get, ◌-◌, ◌%◌, List, [], ◌∷◌, ◌++◌, length, map, Bool, true, false, cond, ◌==◌, filter, Some, None, refl, ap, sym, ◌∙◌, subst, append_assoc, arith, add-one, append-nil, length-append}
 use mathlib.Core.List.{Sublist as IsSublist, nil-sublist, sublist-append_left, sublist-append_right}
 use mathlib.Core.List.Sublist
 use Rattle.std.specs.List.{range_with_len}
@@ -105,20 +105,35 @@ module _ {T : Type 0} (line : T → ℕ) (posters poster i : ℕ) (replies : Lis
   own-spare n spare room low fits all none =
       omega (arith, none, own-room posters poster i n some low e, own-many line replies (own_records posters poster i) own, fits, all)
 
--- the rush queue's answers to an agent stay, and those to its next reply join them
+-- the rush queue's answers to an agent stay where the journals begin earlier or end later, and that to its next reply joins them
 module _ {A : Type 0} (q : View A QueueEntry QueueRefused) (agent : ℕ) (replies : List TakeReply) where
-  pub asked_later : (own : List QueueEntry) (j k : List A) → AskedRush q agent replies j → Stretch of_queue q agent own j k → AskedRush q agent replies k
-  asked_later own j k asked t =
-      subst (IsSublist (map (rush_answer agent) replies)) (sym t.is) (Sublist.trans asked (sublist-append_left (q.history j) t.part))
+  pub asked_later : (own : List QueueEntry) (j k l : List A) → AskedRush q.history agent replies j k → Stretch of_queue q agent own k l
+      → AskedRush q.history agent replies j l
+  asked_later own j k l asked t = record {
+    part = asked.part ++ t.part;
+    is = t.is ∙ (ap (λ z. z ++ t.part) asked.is ∙ append_assoc (q.history j) asked.part t.part);
+    answers = Sublist.trans asked.answers (sublist-append_left asked.part t.part);
+  }
 
-  pub asked_more : (r : TakeReply) (j k : List A) → AskedRush q agent replies j → EndsWith q agent (rush_answer agent r) j k
-      → AskedRush q agent (replies ++ r ∷ []) k
-  asked_more r j k asked e =
+  pub asked_earlier : (own : List QueueEntry) (i j k : List A) → Stretch of_queue q agent own i j → AskedRush q.history agent replies j k
+      → AskedRush q.history agent replies i k
+  asked_earlier own i j k t asked = record {
+    part = t.part ++ asked.part;
+    is = asked.is ∙ (ap (λ z. z ++ asked.part) t.is ∙ append_assoc (q.history i) t.part asked.part);
+    answers = Sublist.trans asked.answers (sublist-append_right t.part asked.part);
+  }
+
+  pub asked_more : (r : TakeReply) (j k l : List A) → AskedRush q.history agent replies j k → EndsWith q agent (rush_answer agent r) k l
+      → AskedRush q.history agent (replies ++ r ∷ []) j l
+  asked_more r j k l asked e =
       let answer : QueueEntry = rush_answer agent r in
       let last : IsSublist (answer ∷ []) (e.front ++ answer ∷ e.back) =
       Sublist.trans (Sublist.cons-cons answer (nil-sublist e.back)) (sublist-append_right e.front (answer ∷ e.back)) in
-      rw (map-append (rush_answer agent) replies (r ∷ []))
-      (subst (IsSublist (map (rush_answer agent) replies ++ answer ∷ [])) (sym e.is) (Sublist.append asked last))
+      record {
+        part = asked.part ++ (e.front ++ answer ∷ e.back);
+        is = e.is ∙ (ap (λ z. z ++ (e.front ++ answer ∷ e.back)) asked.is ∙ append_assoc (q.history j) asked.part (e.front ++ answer ∷ e.back));
+        answers = rw (map-append (rush_answer agent) replies (r ∷ [])) (Sublist.append asked.answers last);
+      }
 
 -- the rush queue's last answer to a take with this reply
 pub rush_ends : {A : Type 0} (qs : Bool → View A QueueEntry QueueRefused) (agent : ℕ) (r : TakeReply) (j k : Bool → List A)
@@ -138,7 +153,7 @@ taking_none qs s lines taker agent replies j m e = record {
   rows = [];
   table = rw e tt;
   works = Works-none qs s agent j m;
-  rush_first = rw e (nil-sublist ((qs true).history (j true)));
+  asked_rush = rw e (record { part = []; is = sym (append-nil ((qs true).history (j true))); answers = nil-sublist [] });
 }
 
 pub taking_more : {A B : Type 0} (qs : Bool → View A QueueEntry QueueRefused) (s : View B SetEntry ListRefused) (lines : List Line) (taker agent now : ℕ)
@@ -153,7 +168,7 @@ taking_more qs s lines taker agent now replies r j k k2 m n n2 p e same ends rep
       rows = p.rows ++ done.row ∷ [];
       table = Pairwise-snoc (TakerRow lines taker agent) replies p.rows r done.row p.table (record { taker_is = same; table = done.is });
       works = Works-row qs s agent p.works done.stands;
-      rush_first = asked_more (qs true) agent replies r (k true) (k2 true) p.rush_first (rush_ends qs agent r k k2 last);
+      asked_rush = asked_more (qs true) agent replies r (j true) (k true) (k2 true) p.asked_rush (rush_ends qs agent r k k2 last);
     }
 
 pub taking_end : {A B : Type 0} (qs : Bool → View A QueueEntry QueueRefused) (s : View B SetEntry ListRefused) (lines : List Line) (taker agent now : ℕ)

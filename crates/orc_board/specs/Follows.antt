@@ -47,21 +47,23 @@ pub record Posting {A B : Type 0} (qs : Bool → View A QueueEntry QueueRefused)
   pub table : Pairwise (PosterRow lines poster) replies rows
   pub works : Works qs s poster rows j m k n
 
--- what the rush queue, which is asked first, answered before this reply: its job, or else that it was empty
+-- what a take with this reply was answered by the rush queue: the job, or that it was empty
 abbrev pub rush_answer : ℕ → TakeReply → QueueEntry
 rush_answer agent r = cond r.rush (Took agent r.line r.at) (Empty agent)
 
--- the agent asked the rush queue first for each of these replies: those answers stand in that queue's history, in the replies' order
-abbrev pub AskedRush : {A : Type 0} → View A QueueEntry QueueRefused → ℕ → List TakeReply → List A → Type 0
-AskedRush q agent replies k = Sublist (map (rush_answer agent) replies) (q.history k)
+-- between these journals of the rush queue stand its answers to this agent for each of these replies, in their order; there may be more
+pub record AskedRush {A : Type 0} (history : List A → List QueueEntry) (agent : ℕ) (replies : List TakeReply) (j k : List A) : Type 0 where
+  pub part : List QueueEntry
+  pub is : history k ≡ history j ++ part
+  pub answers : Sublist (map (rush_answer agent) replies) part
 
--- what a taker did between these journals is what these replies stand for, with jobs that it passed over; it asked the rush queue first
+-- what a taker did between these journals is what these replies stand for, with jobs that it passed over; and it asked the rush queue for each
 pub record Taking {A B : Type 0} (qs : Bool → View A QueueEntry QueueRefused) (s : View B SetEntry ListRefused) (lines : List Line) (taker agent : ℕ)
     (replies : List TakeReply) (j : Bool → List A) (m : List B) (k : Bool → List A) (n : List B) : Type 0 where
   pub rows : List Row
   pub table : Pairwise (TakerRow lines taker agent) replies rows
   pub works : Works qs s agent rows j m k n
-  pub rush_first : AskedRush (qs true) agent replies (k true)
+  pub asked_rush : AskedRush (qs true).history agent replies (j true) (k true)
 
 -- the same, and at last the jobs that it passed over before it found nothing
 pub record TakingRest {A B : Type 0} (qs : Bool → View A QueueEntry QueueRefused) (s : View B SetEntry ListRefused) (lines : List Line) (taker agent : ℕ)
@@ -72,13 +74,13 @@ pub record TakingRest {A B : Type 0} (qs : Bool → View A QueueEntry QueueRefus
   pub last : Replied qs s (TakenRow lines agent None) agent queues set k n
 
 -- what a taker did between these journals is what these replies stand for, in their order; it passed over no job, and asked the rush
--- queue first
+-- queue for each
 pub record Claiming {A B : Type 0} (qs : Bool → View A QueueEntry QueueRefused) (s : View B SetEntry ListRefused) (lines : List Line) (taker agent : ℕ)
     (replies : List TakeReply) (j : Bool → List A) (m : List B) (k : Bool → List A) (n : List B) : Type 0 where
   pub rows : List Row
   pub table : Pairwise (TookRow lines taker agent) replies rows
   pub works : Works qs s agent rows j m k n
-  pub rush_first : AskedRush (qs true) agent replies (k true)
+  pub asked_rush : AskedRush (qs true).history agent replies (j true) (k true)
 
 -- the records below n that belong to this poster, in file order: record i belongs to poster 1 + (i mod P)
 abbrev pub own_records : ℕ → ℕ → ℕ → List ℕ

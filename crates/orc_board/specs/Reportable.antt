@@ -1,14 +1,13 @@
 -- What the report asks of replies.
-use Rattle.std.specs.Prelude.{◌≡◌, ℕ, ◌<◌, List, [], ◌∷◌, ◌++◌, length, map, filter, Bool, true, false, not, ◌==◌}
+use Rattle.std.specs.Prelude.{ℕ, List, [], ◌∷◌, ◌++◌, length, map, filter, Bool, true, false, not, ◌==◌}
 use Rattle.std.specs.List.{range_with_len, IsDistinct, AllByRecursion}
-use Rattle.std.specs.List.Sorted.{IsPermutation, IsStrictlyIncreasing}
+use Rattle.std.specs.List.Sorted.{IsPermutation}
 use Rattle.orc_jobs.specs.declared.line.Line.{Line}
 use Rattle.orc_board.specs.declared.replies.PostReply.{PostReply}
 use Rattle.orc_board.specs.declared.replies.PostWord.{PostWord}
 use Rattle.orc_board.specs.declared.replies.PostWord.TheVariants as word
 use Rattle.orc_board.specs.declared.replies.TakeReply.{TakeReply}
 use Rattle.orc_board.specs.Table.{IsJob, HasValue}
-use Rattle.orc_board.specs.Follows.{grouped_by_key, posts_of}
 
 -- the line and the position, where line i was posted, or rushed
 abbrev pub posted_by : Bool → ℕ → PostWord → List (ℕ × ℕ)
@@ -41,19 +40,14 @@ pub record IsClaim (lines : List Line) (r : TakeReply) : Type 0 where
 
 -- what is asked of each queue
 pub record AreReportableOf (rush : Bool) (posts : List PostReply) (takes : List TakeReply) : Type 0 where
-  -- the positions of the Posted replies are 0 to n - 1, each once
+  -- the positions of the replies that tell one are 0 to n - 1, each once
   pub positions : IsPermutation (range_with_len 0 (length (posted_of rush posts))) (map (λ (x : ℕ × ℕ). x.1) (posted_of rush posts))
   -- these replies are on different lines
   pub different : IsDistinct (λ x y. x == y) (map (λ (x : ℕ × ℕ). x.0) (posted_of rush posts))
-  -- each of these positions stands in exactly one take reply of that queue, with the line of the Posted reply, and there is no other
+  -- each of these positions stands in exactly one take reply of that queue, with the line of the reply that tells it, and there is no other
   pub claims : IsPermutation (posted_of rush posts) (map claim_of (takes_with rush takes))
 
+-- the same of both, and each take is a claim of a line
 pub record AreReportable (lines : List Line) (posts : List PostReply) (takes : List TakeReply) : Type 0 where
   pub queues : (rush : Bool) → AreReportableOf rush posts takes
   pub claimed : AllByRecursion (IsClaim lines) takes
-  -- the lines of all replies exist
-  pub lines_exist : AllByRecursion (λ (r : PostReply). r.line < length lines) posts
-  -- the replies stand in order of poster, of each one in file order, and in order of taker
-  pub by_poster : (n : ℕ) × (posts ≡ grouped_by_key (λ (r : PostReply). r.poster) n posts)
-  pub in_file_order : (p : ℕ) → IsStrictlyIncreasing (map (λ (r : PostReply). r.line) (posts_of p posts))
-  pub by_taker : (n : ℕ) × (takes ≡ grouped_by_key (λ (r : TakeReply). r.taker) n takes)

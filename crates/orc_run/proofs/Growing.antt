@@ -36,7 +36,14 @@ module _ {A B : Type 0} (qs : Bool → View A QueueEntry QueueRefused) (s : View
           follows = record {
             workers = record {
               posting = λ p low high. let x = w.posting p low high in record { rows = x.rows; table = x.table; works = works_more _ p x.rows x.works };
-              claiming = λ t low. let x = w.claiming t low in record { rows = x.rows; table = x.table; works = works_more _ _ x.rows x.works };
+              claiming = λ t low.
+                  let x = w.claiming t low in
+                  record {
+                    rows = x.rows;
+                    table = x.table;
+                    works = works_more _ _ x.rows x.works;
+                    asked_rush = record { part = x.asked_rush.part; is = (a true).same ∙ x.asked_rush.is; answers = x.asked_rush.answers };
+                  };
               order = w.order;
               queues_zero_last = λ rush.
                   subst (λ (h : List QueueEntry). ZeroLast agent_of_entry h) (sym (a rush).same) (w.queues_zero_last rush);

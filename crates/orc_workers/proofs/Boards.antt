@@ -85,7 +85,7 @@ strict_taker qs s lines taker agent rs k n new fits t =
       table = strict_rows lines taker agent rs t.taking.rows t.taking.table
           (λ b. AllByRecursion-left (TookFits lines b) (queue_of_rows b t.taking.rows) (t.last.row.queues b).own (all b));
       works = Works-more qs s agent t.taking.works silent;
-      rush_first = asked_later (qs true) agent rs [] (t.queues true) (k true) t.taking.rush_first (silent.queues true).stretch;
+      asked_rush = asked_later (qs true) agent rs [] [] (t.queues true) (k true) t.taking.asked_rush (silent.queues true).stretch;
     }
 
 -- what all workers have done, where the journals k and n are those of a pass that learned from all others; q and s are already

@@ -35,6 +35,7 @@ use Rattle.orc_workers.specs.CameBack.{IsNew, IsTold, AllCameBack}
 use Rattle.orc_board.proofs.ListFacts.{AllByRecursion-map}
 use Rattle.orc_board.proofs.Shares.{Did-just, Works-more, Stands-after, prefix_trans}
 use Rattle.orc_board.proofs.Wholes.{Works-before, Works-beside, Stands-beside, Below}
+use Rattle.orc_board.proofs.Workers.{asked_earlier}
 use Rattle.orc_workers.proofs.Resting.{Stands-both, skip_row, resting_stretch, resting_set, ends_last}
 use Rattle.orc_workers.proofs.Learned.{quiet, still_last}
 
@@ -62,7 +63,7 @@ rest_from qs s C lines taker agent takes i j k l m n f h before t = record {
     table = t.taking.table;
     works = Works-before (all_beside qs C) (beside s C) agent before
         (Works-beside qs s C f h agent t.taking.works);
-    rush_first = t.taking.rush_first;
+    asked_rush = asked_earlier ((all_beside qs C) true) agent takes [] (i true) (j true) (t.queues true) (before.queues true).stretch t.taking.asked_rush;
   };
   last = record { row = t.last.row; is = t.last.is; stands = Stands-beside qs s C f h agent t.last.row t.queues k t.set n t.last.stands };
 }

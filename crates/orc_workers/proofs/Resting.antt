@@ -84,8 +84,8 @@ resting_more qs s lines taker agent now replies r j k k2 m n n2 p e same ends re
         rows = p.taking.rows ++ row ∷ [];
         table = Pairwise-snoc (TakerRow lines taker agent) replies p.taking.rows r row p.taking.table (record { taker_is = same; table = table });
         works = Works-row qs s agent p.taking.works all;
-        rush_first = asked_more (qs true) agent replies r (k true) (k2 true)
-            (asked_later (qs true) agent replies (p.last.row.queues true).own (p.queues true) (k true) p.taking.rush_first
+        asked_rush = asked_more (qs true) agent replies r (j true) (k true) (k2 true)
+            (asked_later (qs true) agent replies (p.last.row.queues true).own (j true) (p.queues true) (k true) p.taking.asked_rush
             (p.last.stands.queues true).stretch)
             (rush_ends qs agent r k k2 last);
       };
