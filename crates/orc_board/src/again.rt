@@ -64,6 +64,10 @@ pub(crate) fn remove_key<R: Wait, S: SharedSet>(rt: &R, set: &S, p: &mut S::Pass
 }
 
 /// Puts the job, and makes a call that answers Again once more until it is answered.
+///
+/// # Errors
+///
+/// `NoNode` or `Positions` where the queue's call answers so, never `Again`.
 pub fn put_job<R: Wait, Q: SharedQueue>(
     rt: &R,
     queue: &Q,

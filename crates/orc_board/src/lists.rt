@@ -33,6 +33,10 @@ impl<T> Model for ReplyList<T> {
 
 impl<T: Drop> ReplyList<T> {
     /// An empty list with room for so many replies.
+    ///
+    /// # Errors
+    ///
+    /// `NoMemory` where memory is refused.
     pub fn new(alloc: Global, room: usize) -> Result<Self, NoMemory>
         ensures { IfOk result (λ l. (l.items ≡ []) × (l.spare ≡ room)) }
     {

@@ -6,7 +6,7 @@ ghost use Rattle.orc_program.specs.Refusals.{words_refused};
 
 use orc_feed::{Sink, write_all};
 
-/// Writes that the words are refused, and answers the status.
+/// Writes that the words are refused, and answers the status: 2, or 5 where a write fails.
 pub fn refuse_words<K: Sink>(sink: &mut K) -> u8
     ensures statuses { (result ≡ 2) ⊎ (result ≡ 5) }
     ensures written { result ≡ 2 → Appends (K.written sink.old) (K.written sink.new) words_refused }

@@ -31,6 +31,10 @@ pub struct RestNumbers {
 
 /// The report: the board in order of position, that of the rush queue where some line is a Rush, then the replies in their order,
 /// then what is at rest.
+///
+/// # Errors
+///
+/// `NoMemory` where memory is refused.
 pub fn report_text(
     alloc: Global,
     lines: &Lines,

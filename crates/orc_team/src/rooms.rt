@@ -78,6 +78,10 @@ fn reserve_rooms<T: Drop, F: Fn(usize) -> Result<T, NoMemory>>(
 }
 
 /// Takes room for the replies of a poster to so many lines, or for those of another worker to so many jobs.
+///
+/// # Errors
+///
+/// `NoMemory` where memory is refused.
 pub fn reserve_room<X: Drop>(
     alloc: Global,
     posters: u32,

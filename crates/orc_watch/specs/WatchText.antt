@@ -22,7 +22,7 @@ reply_line r = codes "worker " ++ decimal r.worker ++ codes " line " ++ decimal 
 abbrev pub now_line : ℕ → ℕ → List ℕ
 now_line left right = codes "now " ++ decimal left ++ codes " " ++ decimal right ++ codes "\n"
 
--- how many nodes the cell was given, had reused, and has linked at rest
+-- how many nodes the cell was given, how many were freed to be reused, and how many are linked at rest
 abbrev pub cell_line : ℕ → ℕ → ℕ → List ℕ
 cell_line given reused linked = codes "cell given " ++ decimal given ++ codes " reused " ++ decimal reused ++ codes " linked " ++ decimal linked ++ codes "\n"
 

@@ -10,7 +10,7 @@ use orc_fault::NoMemory;
 use orc_jobs::Text;
 use std::alloc::{AllocError, Global};
 
-/// How many nodes the cell was given, how many of these had been freed before, and how many are linked at rest.
+/// How many nodes the cell was given and how many were freed, each as often as it was, and how many are linked at rest.
 #[derive(Clone, Copy, Drop)]
 pub struct CellNumbers {
     pub given: u64,
