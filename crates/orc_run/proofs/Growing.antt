@@ -1,5 +1,5 @@
 -- Replies that follow three journals follow them also where they go on without an entry.
-use Rattle.std.proofs.Common.{Bool, List, [], ap, subst, sym, ℕ, ◌+◌, ◌∙◌}
+use Rattle.std.proofs.Common.{Bool, true, List, [], ap, subst, sym, ℕ, ◌+◌, ◌∙◌}
 use Rattle.orc_history.specs.declared.queue.QueueEntry.{QueueEntry}
 use Rattle.orc_history.specs.declared.queue.QueueRefused.{QueueRefused}
 use Rattle.orc_history.specs.declared.set.SetEntry.{SetEntry}
