@@ -35,7 +35,7 @@ use Rattle.orc_pairs_rule.specs.declared.entry.CellEntry.TheVariants.{Published}
 use Rattle.orc_pairs_rule.specs.declared.pairs.PairsNote.{PairsNote}
 use Rattle.orc_pairs_rule.specs.PairsDiscipline.{HasPart, IsStaging, PairsMay, entries_of}
 use Rattle.orc_cell.specs.Answers.{AnswersPiece, AnswersAgain, PublishAnswers}
-use Rattle.orc_cell.specs.Publishes.{Answered, IsPublished, KeepsStaging, LetsGo, PublishDone, PublishOver, PublishSpent, PublishesGiven, PublishesTurns, Readies, SideHeld, Staged, Stages, Unstages}
+use Rattle.orc_cell.specs.Publishes.{Answered, IsPublished, KeepsStaging, LetsGo, PublishDone, PublishOver, PublishSpent, PublishesGiven, PublishesTurns, Readies, SideHeld, Staged, Stages, Unstages, nodes_of}
 use Rattle.orc_cell.specs.Turns.{FindsOnly, others_moves}
 use Rattle.orc_cell.specs.declared.publish.New.{New}
 use Rattle.orc_cell.specs.declared.publish.New.TheVariants.{Given, Kept, Zero}
@@ -47,7 +47,7 @@ use Rattle.orc_cell.specs.declared.refused.CellRefused.TheVariants.{Again, NoNod
 use Rattle.orc_cell.proofs.Others.{others_from_own-append}
 use Rattle.orc_cell.proofs.Pieces.{Known, finds_none, part_puts}
 use Rattle.orc_cell.proofs.Staging.{Answered-trans, Piece-trans, answered_end, answered_more, answered_none, finds_staging, found_answered, root_kept, staging-trans, within_call}
-use Rattle.orc_cell.proofs.Swinging.{published_later, published_puts, same_slots, side_kept}
+use Rattle.orc_cell.proofs.Swinging.{published_later, published_not_null, published_puts, same_slots, side_kept}
 
 -- a later piece's Moves by others are Moves of the whole
 pub moved_after : (s a t : Seat PairsNote) (k : ℕ) (xs ys zs : List (Event PairsNote)) (p : Puts s xs a) (q : Puts a ys t) (w : Puts s zs t)
@@ -262,22 +262,21 @@ ready_other n slot root k s a Kept side free all own ne r held =
     side_kept n s a k side [] r.0.puts all own (finds_staging n s a [] f all) (same_slots s a r.0.slots) held
 
 -- a piece that only looks stood before
-found_first : (n : HeapNumbers) (given : ℕ) (s a t : Seat PairsNote) (es : List CellEntry) → FindsOnly s [] a → AllAllowed (PairsMay n) [] a.seen
-    → Answered n given a es t → Answered n given s es t
-found_first n given s a t es f all x =
-    let none : 0 + given ≡ given = omega arith in
-    subst (λ (k : ℕ). Answered n k s es t) none (Answered-trans n 0 given s a t [] es (found_answered n s a [] f all) x)
+found_first : (n : HeapNumbers) (given most : ℕ) (s a t : Seat PairsNote) (es : List CellEntry) → given ≤ most → FindsOnly s [] a
+    → AllAllowed (PairsMay n) [] a.seen → Answered n given a es t → Answered n most s es t
+found_first n given most s a t es some f all x =
+    answered_more n (0 + given) most s t es (omega (arith, some)) (Answered-trans n 0 given s a t [] es (found_answered n s a [] f all) x)
 
 pub go_slots : (n : HeapNumbers) (slot root : ℕ) (s a b t : Seat PairsNote) (new : New) (given : ℕ) (es : List CellEntry) → IsFree s.slots slot
     → IsStaging s.agent root → shown (heap_of n s) (Root root) ≡ Some null → s.fresh ≡ None → Readies n slot root s new a → AnswersPiece n given a es b
-    → LetsGo n root new b t → AllAllowed (PairsMay n) [] a.seen → AllAllowed (PairsMay n) [] t.seen → AnswersPiece n (given + 1) s es t
+    → LetsGo n root new b t → AllAllowed (PairsMay n) [] a.seen → AllAllowed (PairsMay n) [] t.seen → AnswersPiece n (given + nodes_of new) s es t
 go_slots n slot root s a b t (Given value h) given es free own empty none r x l all_a all_t =
     staged_join n slot root value s a b t h free own empty r l given es x
 go_slots n slot root s a b t (Zero h) given es free own empty none r x l all_a all_t = staged_join n slot root 0 s a b t h free own empty r l given es x
 go_slots n slot root s a b t Kept given es free own empty none r x l all_a all_t =
     let last = found_answered n b t [] (finds_none b t l) all_t in
-    let w = answered_end n given s b t es (found_first n given s a b es (finds_none s a r.0) all_a x.answered) last in
-    record { answered = answered_more n given (given + 1) s t es (omega arith) w; fresh = l.fresh ∙ x.fresh }
+    let first = found_first n given (given + 0) s a b es (omega arith) (finds_none s a r.0) all_a x.answered in
+    record { answered = answered_end n (given + 0) s b t es first last; fresh = l.fresh ∙ x.fresh }
 
 ready_puts : (n : HeapNumbers) (slot root : ℕ) (s a : Seat PairsNote) (new : New) → Readies n slot root s new a → (xs : List (Event PairsNote)) × Puts s xs a
 ready_puts n slot root s a (Given value h) r = (r.piece.own, r.piece.puts)
@@ -323,7 +322,7 @@ ready_answered n slot root given turns left right s a b new r free own rd all x 
 pub answers_join : (n : HeapNumbers) (slot root given turns : ℕ) (left right : Option ℕ) (s a b t : Seat PairsNote) (new : New) (r : Result (ℕ × ℕ) CellRefused)
     → IsFree s.slots slot → IsStaging s.agent root → shown (heap_of n s) (Root root) ≡ Some null → s.fresh ≡ None → Readies n slot root s new a
     → PublishAnswers n given turns left right a r b → LetsGo n root new b t → AllAllowed (PairsMay n) [] a.seen → AllAllowed (PairsMay n) [] t.seen
-    → PublishAnswers n (given + 1) turns left right s r t
+    → PublishAnswers n (given + nodes_of new) turns left right s r t
 answers_join n slot root given turns left right s a b t new (Ok now) free own empty none rd x l all_a all_t =
     go_slots n slot root s a b t new given (Published s.agent left right now.0 now.1 ∷ []) free own empty none rd
     (subst (λ (i : ℕ). AnswersPiece n given a (Published i left right now.0 now.1 ∷ []) b) (ready_agent n slot root s a new rd) x) l all_a all_t
@@ -367,28 +366,34 @@ null_missed n s t k all x =
     ] in
     subst (λ es. IsPublished (run_heap n es)) (sym (x.puts.is ∙ seen_is m)) (published_later n before (e ∷ m.later) (since m) now)
 
-pub answers_after : (n : HeapNumbers) (given turns : ℕ) (left right : Option ℕ) (s a t : Seat PairsNote) (r : Result (ℕ × ℕ) CellRefused) → FindsOnly s [] a
-    → AllAllowed (PairsMay n) [] a.seen → PublishAnswers n given turns left right a r t → PublishAnswers n given turns left right s r t
-answers_after n given turns left right s a t (Ok now) f all x =
+-- once a pair was published, root 0 isn't found null
+pub published_tests : (n : HeapNumbers) (s t : Seat PairsNote) (done : Bool) → AllAllowed (PairsMay n) [] t.seen
+    → Tests (At.Root 0) (Want.Null false) None s done t → IsPublished (heap_of n s) → done ≡ false
+published_tests n s t false all x was = refl
+published_tests n s t true all x was = absurd (published_not_null n s t (Tests-found x refl) all was)
+
+pub answers_after : (n : HeapNumbers) (given most turns : ℕ) (left right : Option ℕ) (s a t : Seat PairsNote) (r : Result (ℕ × ℕ) CellRefused) → given ≤ most
+    → FindsOnly s [] a → AllAllowed (PairsMay n) [] a.seen → PublishAnswers n given turns left right a r t → PublishAnswers n most turns left right s r t
+answers_after n given most turns left right s a t (Ok now) some f all x =
     let y = subst (λ (i : ℕ). AnswersPiece n given a (Published i left right now.0 now.1 ∷ []) t) f.finds.puts.agent x in
     record {
-      answered = found_first n given s a t (Published s.agent left right now.0 now.1 ∷ []) f all y.answered;
+      answered = found_first n given most s a t (Published s.agent left right now.0 now.1 ∷ []) some f all y.answered;
       fresh = y.fresh;
     }
-answers_after n given turns left right s a t (Err NoNode) f all x =
-    record { answered = found_first n given s a t [] f all x.answered; fresh = x.fresh }
-answers_after n given turns left right s a t (Err (Spent why)) f all x =
-    record { answered = found_first n given s a t [] f all x.answered; fresh = x.fresh }
-answers_after n given turns left right s a t (Err Again) f all x =
-    let w = found_first n given s a t [] f all x.answers.answered in
+answers_after n given most turns left right s a t (Err NoNode) some f all x =
+    record { answered = found_first n given most s a t [] some f all x.answered; fresh = x.fresh }
+answers_after n given most turns left right s a t (Err (Spent why)) some f all x =
+    record { answered = found_first n given most s a t [] some f all x.answered; fresh = x.fresh }
+answers_after n given most turns left right s a t (Err Again) some f all x =
+    let w = found_first n given most s a t [] some f all x.answers.answered in
     record {
       answers = record { answered = w; fresh = x.answers.fresh };
       moved = moved_after s a t turns _ _ _ f.finds.puts x.answers.answered.piece.puts w.piece.puts x.moved;
     }
 
 -- with no turn nothing is done
-pub answers_none : (n : HeapNumbers) (turns : ℕ) (s : Seat PairsNote) → turns ≡ 0 → s.fresh ≡ None → AnswersAgain n 3 turns s s
-answers_none n turns s zero none = record { answers = record { answered = answered_none n 3 s; fresh = none }; moved = omega (arith, zero) }
+pub answers_none : (n : HeapNumbers) (most turns : ℕ) (s : Seat PairsNote) → turns ≡ 0 → s.fresh ≡ None → AnswersAgain n most turns s s
+answers_none n most turns s zero none = record { answers = record { answered = answered_none n most s; fresh = none }; moved = omega (arith, zero) }
 
 -- a test without a note
 pub tests_only : (at : At) (wanted : Want) (s t : Seat PairsNote) (done : Bool) → Tests at wanted None s done t → FindsOnly s [] t

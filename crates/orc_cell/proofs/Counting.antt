@@ -14,7 +14,7 @@ use Rattle.orc_heap.specs.declared.holds.At.{At}
 use Rattle.orc_heap.specs.declared.holds.Looked.{Looked}
 use Rattle.orc_heap.specs.declared.holds.Looked.TheVariants.{Moved, Stable}
 use Rattle.orc_heap.specs.declared.holds.Want.{Want}
-use Rattle.orc_cell.specs.Publishes.{events_of_turns}
+use Rattle.orc_cell.specs.Publishes.{events_of_turns, nodes_for}
 
 module _ {N : Type 0} where
   -- as many as it put
@@ -53,6 +53,12 @@ pub turn_few : (k turns each s a t : ℕ) → k < turns → a ≤ s + k * each �
 turn_few k turns each s a t below some one =
     let more : (k + 1) * each ≤ turns * each = mul-le-mul_right each (omega (arith, below)) in
     omega (arith, some, one, more)
+
+-- one node at most is given for a half
+pub nodes_few : (given : Option ℕ) (empty : Bool) → nodes_for given empty ≤ 1
+nodes_few given true = omega arith
+nodes_few None false = omega arith
+nodes_few (Some value) false = omega arith
 
 -- a publish of one part at least
 pub publish_few : (left right : Option ℕ) (turns : ℕ) → (left ≢ None) ⊎ (right ≢ None) → 1 ≤ turns → events_of_turns turns left right ≤ 6 * turns + 1

@@ -1,9 +1,7 @@
 -- Turns of a publish.
 use Rattle.std.proofs.Common.{List, None, Option, Some, [], ap, append-nil, arith, refl, subst, sym, ℕ, ◌+◌, ◌∙◌, ◌∷◌, ◌≡◌, ◌≢◌, ◌≤◌}
 use Rattle.orc_heap.proofs.ByAnswer.{unless_fresh}
-use Rattle.orc_heap.proofs.Calls.{Puts-stood}
 use Rattle.orc_heap.proofs.Pieces.{new_is, release_fresh, slot_id, slot_other_id, slot_released}
-use Rattle.orc_heap.proofs.SingleActs.{null_to, some_same}
 use Rattle.orc_heap.specs.Allowed.{AllAllowed, IsLinkedNode}
 use Rattle.orc_heap.specs.Calls.{Releases, event_of}
 use Rattle.orc_heap.specs.Heap.{HeapNumbers, link_to, null, shown}
@@ -12,7 +10,6 @@ use Rattle.orc_heap.specs.OwnEvents.{Puts}
 use Rattle.orc_heap.specs.Seats.{HoldsFresh, IsUntouched, Seat, heap_of}
 use Rattle.orc_heap.specs.Slots.{Hold, Holds, IsFree, Slots, id_in}
 use Rattle.orc_heap.specs.declared.events.Act.TheVariants.{Look}
-use Rattle.orc_heap.specs.declared.events.Event.{Event}
 use Rattle.orc_heap.specs.declared.events.Link.{Link}
 use Rattle.orc_heap.specs.declared.events.Place.TheVariants.{Root}
 use Rattle.orc_pairs_rule.specs.declared.entry.CellEntry.{CellEntry}
@@ -31,18 +28,14 @@ use Rattle.orc_cell.proofs.Pieces.{Known, pair_puts}
 use Rattle.orc_cell.proofs.Readying.{keeps_found, keeps_trans}
 use Rattle.orc_cell.proofs.Reading.{moved_more, null_seen, pair_seen}
 use Rattle.orc_cell.proofs.Staging.{Answered-trans, Piece-trans, answered_none, finds_staging, finds_piece, found_answered, staging-trans}
-use Rattle.orc_cell.proofs.Swinging.{prepared_kept, published_later}
+use Rattle.orc_cell.proofs.Swinging.{prepared_kept, published_not_null}
 
 -- where a look found null, both parts are staged
 pub null_staged : (n : HeapNumbers) (s a : Seat PairsNote) (root : ℕ) (new : New) → RootNull n s a → AllAllowed (PairsMay n) [] a.seen
     → SideHeld n root new s → HasStaged new
 null_staged n s a root (Given value h) r all held = tt
 null_staged n s a root (Zero h) r all held = tt
-null_staged n s a root Kept r all held =
-    let e : Event PairsNote = event_of s (Look (Root 0) null) None in
-    let m = Puts-stood (PairsMay n) s a [] e [] r.puts all in
-    let now = published_later n s.seen m.before m.first held in
-    null_to now.0 (some_same (sym m.here.fits ∙ now.1))
+null_staged n s a root Kept r all held = published_not_null n s a r.puts all held
 
 -- from null on
 pub first_turn : (n : HeapNumbers) (s a t : Seat PairsNote) (left right : Option ℕ) (pair : Hold) (turn : PublishTurn) → RootNull n s a → a.fresh ≡ s.fresh

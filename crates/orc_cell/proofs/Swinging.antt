@@ -3,7 +3,7 @@ use Rattle.std.proofs.Common.{Bool, List, None, Option, Some, [], ap, arith, fal
 use Rattle.std.proofs.lemmas.Bool.{ne_eqb}
 use Rattle.std.specs.List.{slice_get}
 use Rattle.std.specs.Prelude.{MatchBool, if◌then◌else◌, unwrap_or, ◌||◌}
-use Rattle.orc_heap.proofs.Calls.{part_allowed}
+use Rattle.orc_heap.proofs.Calls.{Puts-stood, part_allowed}
 use Rattle.orc_heap.proofs.Changes.{get-change_same}
 use Rattle.orc_heap.proofs.Moved.{target_roots}
 use Rattle.orc_heap.proofs.Pieces.{new_is}
@@ -11,7 +11,7 @@ use Rattle.orc_heap.proofs.Runs.{run_heap-snoc}
 use Rattle.orc_heap.proofs.Stays.{stays}
 use Rattle.orc_heap.specs.Acts.{as_linked, heap_after, set_link}
 use Rattle.orc_pairs_rule.specs.Laws.Kinds.{each_kind}
-use Rattle.orc_heap.proofs.SingleActs.{link_same, root_other, some_same}
+use Rattle.orc_heap.proofs.SingleActs.{link_same, null_to, root_other, some_same}
 use Rattle.orc_heap.proofs.Told.{named_told}
 use Rattle.orc_heap.specs.Allowed.{AllAllowed}
 use Rattle.orc_heap.proofs.ByAnswer.{unless_same}
@@ -23,7 +23,7 @@ use Rattle.orc_heap.specs.Seats.{HoldsFresh, HoldsWant, IsUntouched, Seat, heap_
 use Rattle.orc_heap.specs.declared.holds.Want.{Want}
 use Rattle.orc_heap.specs.declared.holds.Want.TheVariants.{Node as WantNode, Null as WantNull}
 use Rattle.orc_heap.specs.Slots.{Hold, Holds, Slots, id_in}
-use Rattle.orc_heap.specs.declared.events.Act.TheVariants.{Move}
+use Rattle.orc_heap.specs.declared.events.Act.TheVariants.{Look, Move}
 use Rattle.orc_heap.specs.declared.events.Event.{Event}
 use Rattle.orc_heap.specs.declared.events.Link.{Link}
 use Rattle.orc_heap.specs.declared.events.Place.{Place}
@@ -271,6 +271,14 @@ published_puts n s t own p all x =
     subst (λ es. IsPublished (run_heap n es)) (sym p.is)
     (stays (PairsMay n) (λ es. IsPublished (run_heap n es)) (λ es e y may. published_next n es e y may) s.seen p.part x
     (part_allowed (PairsMay n) s t own p all))
+
+-- so no look of root 0 finds null
+pub published_not_null : (n : HeapNumbers) (s t : Seat PairsNote) → Puts s (event_of s (Look (Root 0) null) None ∷ []) t → AllAllowed (PairsMay n) [] t.seen
+    → IsPublished (heap_of n s) → ⊥
+published_not_null n s t p all was =
+    let m = Puts-stood (PairsMay n) s t [] (event_of s (Look (Root 0) null) None) [] p all in
+    let still = published_later n s.seen m.before m.first was in
+    null_to still.0 (some_same (sym m.here.fits ∙ still.1))
 
 -- a staged part stays so over a piece of a call
 pub side_kept : (n : HeapNumbers) (s t : Seat PairsNote) (root : ℕ) (new : New) (own : List (Event PairsNote)) → Puts s own t

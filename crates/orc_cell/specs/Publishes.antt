@@ -54,12 +54,16 @@ abbrev pub given_for : Half → Option ℕ → Option ℕ → Option ℕ
 given_for Left left right = left
 given_for Right left right = right
 
--- how many events are made for a part once, before the turns: an Aim, if it is given
-abbrev pub aims_once : Option ℕ → ℕ
-aims_once None = 0
-aims_once (Some value) = 1
+-- how many parts are given for a half, one or none: each takes one node, and one Aim before the turns
+abbrev pub part_count : Option ℕ → ℕ
+part_count None = 0
+part_count (Some value) = 1
 
--- how many are made for it in each turn at most: two Looks and an Aim, if it isn't given
+-- how many nodes are given for a half: one, if a part is given for it or no pair was published yet
+abbrev pub nodes_for : Option ℕ → Bool → ℕ
+nodes_for given empty = if empty then 1 else part_count given
+
+-- how many events are made for a half in each turn at most: two Looks and an Aim, if no part is given for it
 abbrev pub events_for : Option ℕ → ℕ
 events_for None = 3
 events_for (Some value) = 0
@@ -70,7 +74,7 @@ events_a_turn left right = 3 + events_for left + events_for right
 
 -- how many the aims at the parts that are given, and so many turns, make at most
 abbrev pub events_of_turns : ℕ → Option ℕ → Option ℕ → ℕ
-events_of_turns turns left right = aims_once left + aims_once right + turns * events_a_turn left right
+events_of_turns turns left right = part_count left + part_count right + turns * events_a_turn left right
 
 -- the agent's staging roots
 abbrev pub staging_root : Half → ℕ → ℕ
@@ -119,6 +123,11 @@ abbrev pub given_of : New → Option ℕ
 given_of (Given value h) = Some value
 given_of (Zero h) = None
 given_of Kept = None
+
+-- how many nodes were given for a part of the new pair: one, if it is staged
+abbrev pub nodes_of : New → ℕ
+nodes_of Kept = 0
+nodes_of new = 1
 
 -- a part is staged
 abbrev pub HasStaged : New → Type 0

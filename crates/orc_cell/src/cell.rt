@@ -12,6 +12,7 @@ ghost use Rattle.orc_pairs_rule.specs.{
 };
 ghost use Rattle.orc_cell.specs.{
   CellCalls.{Enters, EntersNone, FindsWorn, GivesAtMost, IsUsable, LacksRow, StagesPart, UsesAllTurns, history},
+  Publishes.{IsPublished, part_count},
   Turns.{IsCellDomain},
   declared.refused.CellRefused.{CellRefused},
 };
@@ -68,8 +69,9 @@ impl<L: Links<Rule = Pairs>> Cell<L> {
     }
 
     /// Replaces the parts that are given, at least one, and keeps the others, all at once, in at most `turns` tries.
-    /// Answers both parts as they are then. It gives at most three nodes, and leaves its agent's staging roots null. Its agent
-    /// makes at most 6 events in each try, and 15 for what comes before and after them.
+    /// Answers both parts as they are then. It gives at most three nodes, and where its pass had seen a published pair, no
+    /// more than the new pair and the parts that are given. It leaves its agent's staging roots null. Its agent makes at most 6
+    /// events in each try, and 15 for what comes before and after them.
     ///
     /// # Errors
     ///
@@ -97,6 +99,8 @@ impl<L: Links<Rule = Pairs>> Cell<L> {
         ensures no_node { result ≡ Err CellRefused.NoNode → LacksRow L.Links self.now.links p.old p.new }
         ensures spent { (why : SpentRow) → result ≡ Err (CellRefused.Spent why) → FindsWorn L.Links self.now.links why p.old p.new }
         ensures gives { GivesAtMost L.Links self.now.links 3 p.old p.new }
+        ensures shared { IsPublished (heap L.Links self.now.links p.old)
+            → GivesAtMost L.Links self.now.links (1 + part_count left + part_count right) p.old p.new }
         ensures tries { MakesAtMost L.Links self.now.links (6 * turns + 15) p.old p.new }
         ensures settled { IsCallAlone L.Links self.now.links p.old p.new → L.backlog p.new ≡ 0 }
     {

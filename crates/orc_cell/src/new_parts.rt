@@ -17,7 +17,7 @@ ghost use Rattle.orc_history.specs.Journals.{Within};
 ghost use Rattle.orc_pairs_rule.specs.PairsDiscipline.{IsStaging, PairsMay};
 ghost use Rattle.std.specs.Prelude.{false};
 ghost use Rattle.orc_cell.specs.{
-  Publishes.{IsPublished, LetsGo, MovesFreely, MovesStaging, Readies, SideHeld, Stages, Unstages, given_of},
+  Publishes.{IsPublished, LetsGo, MovesFreely, MovesStaging, Readies, SideHeld, Stages, Unstages, given_of, nodes_for, nodes_of},
   Turns.{IsCellDomain},
 };
 
@@ -148,6 +148,7 @@ pub(crate) fn ready<L: Links<Rule = Pairs>>(
     ensures tries { MakesAtMost L.Links links.now 4 p.old p.new }
     ensures ready { IfOk result (λ new. Readies (L.numbers links.now) at.slot at.root (L.seat links.now p.old) new (L.seat links.now p.new)) }
     ensures given { IfOk result (λ new. given_of new ≡ given) }
+    ensures count { IfOk result (λ new. nodes_of new ≡ nodes_for given empty) }
     ensures none { IfErr result (λ e. Only [] (L.seat links.now p.old) (L.seat links.now p.new)) }
     ensures lacking { IfErr result (λ e. Within (length (L.journal p.old)) (length (L.journal p.new))
         (L.lacking links.now (L.seat links.now p.old).agent (L.journal p.new))) }

@@ -12,7 +12,7 @@ ghost use Rattle.orc_heap.specs.{
 };
 ghost use Rattle.orc_history.specs.Journals.{Within};
 ghost use Rattle.orc_cell.specs.{
-  Publishes.{Aims, AimsGiven, ComesAfter, IsHalfReady, IsPartOf, IsPrepared, MayPublish, NotFresh, PublishesFrom, PublishesGiven, PublishesTurns, SideHeld, Staged, SwingsPair, aim_act, aims_once, events_a_turn, events_for, events_of_turns, given_of, half_at, staging_root},
+  Publishes.{Aims, AimsGiven, ComesAfter, IsHalfReady, IsPartOf, IsPrepared, MayPublish, NotFresh, PublishesFrom, PublishesGiven, PublishesTurns, SideHeld, Staged, SwingsPair, aim_act, events_a_turn, events_for, events_of_turns, given_of, half_at, part_count, staging_root},
   declared.publish.{Half.{Half}, PublishTurn.{PublishTurn}},
   Turns.{HoldsPart, IsCellDomain, IsPairOf},
 };
@@ -177,7 +177,7 @@ fn aim_given<L: Links<Rule = Pairs>>(
     requires new { SideHeld (L.numbers links.now) (staging_root half (L.seat links.now p.old).agent) new.now (L.seat links.now p.old) }
     ensures pass { L.belongs links.now p.new }
     ensures later { IsPrefix (L.journal p.old) (L.journal p.new) }
-    ensures tries { MakesAtMost L.Links links.now (aims_once (given_of new.now)) p.old p.new }
+    ensures tries { MakesAtMost L.Links links.now (part_count (given_of new.now)) p.old p.new }
     ensures aimed { AimsGiven (L.numbers links.now) half pair.now new.now (L.seat links.now p.old) result (L.seat links.now p.new) }
     ensures worn { IfErr result (λ e. Within (length (L.journal p.old)) (length (L.journal p.new))
         (L.worn links.now (L.seat links.now p.old).agent e (L.journal p.new))) }

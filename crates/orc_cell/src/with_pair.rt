@@ -14,7 +14,7 @@ ghost use Rattle.orc_history.specs.Parts.{part_begin};
 ghost use Rattle.orc_cell.specs.{
   Answers.{PublishAnswers},
   Causes.{CausedInPart, CausedWithin},
-  Publishes.{IsPublished, SideHeld, events_of_turns, given_of, staging_root},
+  Publishes.{IsPublished, SideHeld, events_of_turns, given_of, nodes_for, part_count, staging_root},
   Turns.{FindsOnly, IsCellDomain},
   declared.publish.Half.{Half},
   declared.refused.CellRefused.{CellRefused},
@@ -83,7 +83,8 @@ fn publish_right<L: Links<Rule = Pairs>>(
     ensures pass { L.belongs links.now p.new }
     ensures later { IsPrefix (L.journal p.old) (L.journal p.new) }
     ensures tries { MakesAtMost L.Links links.now (8 + events_of_turns turns (given_of left.now) right.0) p.old p.new }
-    ensures answered { PublishAnswers (L.numbers links.now) 2 turns (given_of left.now) right.0 (L.seat links.now p.old) result (L.seat links.now p.new) }
+    ensures answered { PublishAnswers (L.numbers links.now) (1 + nodes_for right.0 right.1) turns (given_of left.now) right.0 (L.seat links.now p.old) result
+        (L.seat links.now p.new) }
     ensures refused { IfErr result (λ why. CausedWithin L.Links links.now p.old p.new why) }
 {
     let part = match ready(links, p, Staging { slot: 2, root }, right.0, right.1) {
@@ -118,7 +119,8 @@ pub(crate) fn publish_both<L: Links<Rule = Pairs>>(
     ensures pass { L.belongs links.now p.new }
     ensures later { IsPrefix (L.journal p.old) (L.journal p.new) }
     ensures tries { MakesAtMost L.Links links.now (13 + events_of_turns turns left.0 right.0) p.old p.new }
-    ensures answered { PublishAnswers (L.numbers links.now) 3 turns left.0 right.0 (L.seat links.now p.old) result (L.seat links.now p.new) }
+    ensures answered { PublishAnswers (L.numbers links.now) (1 + nodes_for right.0 right.1 + nodes_for left.0 left.1) turns left.0 right.0
+        (L.seat links.now p.old) result (L.seat links.now p.new) }
     ensures refused { IfErr result (λ why. CausedWithin L.Links links.now p.old p.new why) }
 {
     let at = Staging {
@@ -143,6 +145,7 @@ fn is_null<L: Links<Rule = Pairs>>(links: &L, p: &mut L::Pass) -> bool
     ensures tries { MakesAtMost L.Links links.now 1 p.old p.new }
     ensures only { FindsOnly (L.seat links.now p.old) [] (L.seat links.now p.new) }
     ensures published { result ≡ false → IsPublished (heap_of (L.numbers links.now) (L.seat links.now p.new)) }
+    ensures was_published { IsPublished (heap_of (L.numbers links.now) (L.seat links.now p.old)) → result ≡ false }
     ensures begun { part_begin L.agent_of (L.seat links.now p.old).agent (L.journal p.old) (L.journal p.new) < length (L.journal p.new) }
 {
     links.same(p, &At::Root(PAIR), &Want::Null(false), None)
@@ -169,6 +172,8 @@ pub(crate) fn publish_parts<L: Links<Rule = Pairs>>(
     ensures later { IsPrefix (L.journal p.old) (L.journal p.new) }
     ensures tries { MakesAtMost L.Links links.now (6 * turns + 15) p.old p.new }
     ensures answered { PublishAnswers (L.numbers links.now) 3 turns left right (L.seat links.now p.old) result (L.seat links.now p.new) }
+    ensures shared { IsPublished (heap_of (L.numbers links.now) (L.seat links.now p.old)) → PublishAnswers (L.numbers links.now)
+        (1 + part_count left + part_count right) turns left right (L.seat links.now p.old) result (L.seat links.now p.new) }
     ensures no_turns { turns ≡ 0 → result ≡ Err CellRefused.Again }
     ensures nothing { turns ≡ 0 → Only [] (L.seat links.now p.old) (L.seat links.now p.new) }
     ensures refused { IfErr result (λ why. CausedInPart L.Links links.now p.old p.new why) }

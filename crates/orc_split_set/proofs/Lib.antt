@@ -12,6 +12,7 @@ pub mod Rooting
 pub mod Preparing
 pub mod Calling
 pub mod Growing
+pub mod Absent
 pub mod Counting
 pub mod Crowding
 pub mod Passes

@@ -14,6 +14,7 @@ use Rattle.orc_history.specs.SetHistory.{agent_of_set_entry}
 use Rattle.orc_history.specs.declared.set.ListRefused.{ListRefused}
 use Rattle.orc_history.specs.declared.set.SetEntry.{SetEntry}
 use Rattle.orc_ordered_search.specs.Causes.{Cause, UsesTurns}
+use Rattle.orc_ordered_search.specs.Inserts.{SeesAbsent}
 use Rattle.orc_split_rule.specs.SplitDiscipline.{IsSize, entries_in, entries_of, greatest, size_of}
 use Rattle.orc_split_rule.specs.SplitOrder.{bucket_of, key_place}
 use Rattle.orc_split_rule.specs.declared.split.SplitNote.{SplitNote}
@@ -21,6 +22,7 @@ use Rattle.orc_split_set.specs.Crowds.{keys_before}
 use Rattle.orc_split_set.specs.Growths.{HasGrow}
 use Rattle.orc_split_set.specs.Looks.{HasStart, ReachesIn, looks_in}
 use Rattle.orc_split_set.specs.Rootings.{IsRootSet}
+use Rattle.orc_split_set.specs.SplitSearches.{split_reading}
 use Rattle.orc_split_set.specs.Stops.{LinksNewDummy}
 use Rattle.orc_split_set.specs.declared.bucket.Rooted.{Rooted}
 use Rattle.orc_split_set.specs.declared.bucket.Rooted.TheVariants.{Done, Moved, NoNode, Spent as RootedSpent}
@@ -74,6 +76,11 @@ module _ {L D P S : Type 0} (members : LinksOf L D P S SplitNote) (links : L) wh
   abbrev pub FindsWorn : Spent → P → P → Type 0
   FindsWorn why old new = WithinPart members.agent_of (agent members links old) (members.journal old) (members.journal new)
       (members.worn links (agent members links old) why (members.journal new))
+
+  -- Looks of the call found the key absent: an unmarked link of a place below it in split order, and a run of marked nodes from there to null
+  -- or to a node above it
+  abbrev pub FindsAbsent : ℕ → P → P → Type 0
+  FindsAbsent key old new = SeesAbsent (split_reading (members.numbers links)) (key_place key) (call_events old new) (members.seat links new)
 
   -- what a refused try tells: in the call's part no row could be given to the call's agent, or a row was worn
   abbrev pub PartTells : Rooted → P → P → Type 0

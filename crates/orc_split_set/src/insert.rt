@@ -6,7 +6,8 @@ ghost use Rattle.orc_fault.specs.declared.Spent.{Spent};
 ghost use Rattle.orc_heap.specs.{Seats.{IsIdle, Seat, heap_of}, Slots.{Slots}, declared.events.Place.{Place}};
 ghost use Rattle.orc_history.specs.{declared.set.SetEntry.{SetEntry}, Parts.{WithinPart}};
 ghost use Rattle.orc_ordered_search.specs.{
-  Inserts.{HasRoomFor, InsertAnswers, Inserts, InsertsTurns, KeepsNode, answer_by},
+  Inserts.{HasRoomFor, InsertAnswers, Inserts, InsertsTurns, KeepsNode, SeesAbsent, answer_by},
+  Turns.{made_from},
   declared.turn.InsertTurn.{InsertTurn},
 };
 ghost use Rattle.orc_split_rule.specs.{SplitDiscipline.{greatest}, SplitOrder.{key_place}, declared.split.SplitNote.{SplitNote}};
@@ -46,6 +47,11 @@ fn insert_from<L: Links<Rule = Split>>(
         → BeginsAt (L.numbers links.now) start (key_place key) left s (L.seat links.now p.old)
         → (bucket many : ℕ) → BeginsBy (heap_of (L.numbers links.now) s) start bucket → result.0 ≡ InsertTurn.Answered true many
         → CountsFrom bucket key s many (L.seat links.now p.new) }
+    ensures absent { (start : Place) (slots : Slots) (s : Seat SplitNote) → HasRoomFor slots
+        → KeepsNode (split_reading (L.numbers links.now)) key 1 node slots s
+        → BeginsAt (L.numbers links.now) start (key_place key) left s (L.seat links.now p.old)
+        → result.0 ≡ InsertTurn.NoNode → SeesAbsent (split_reading (L.numbers links.now)) (key_place key) (made_from s (L.seat links.now p.new))
+        (L.seat links.now p.new) }
     ensures lacking { result.0 ≡ InsertTurn.NoNode → WithinPart L.agent_of (L.seat links.now p.old).agent (L.journal p.old) (L.journal p.new)
         (L.lacking links.now (L.seat links.now p.old).agent (L.journal p.new)) }
     ensures worn { (why : Spent) → result.0 ≡ InsertTurn.Spent why
@@ -74,6 +80,8 @@ fn insert_turn<L: Links<Rule = Split>>(
         (L.seat links.now p.old) result.0 result.1 (L.seat links.now p.new) }
     ensures counted { (many : ℕ) → result.0 ≡ InsertTurn.Answered true many → CountsKeys (L.numbers links.now) key (L.seat links.now p.old) many
         (L.seat links.now p.new) }
+    ensures absent { result.0 ≡ InsertTurn.NoNode → SeesAbsent (split_reading (L.numbers links.now)) (key_place key)
+        (made_from (L.seat links.now p.old) (L.seat links.now p.new)) (L.seat links.now p.new) }
     ensures lacking { result.0 ≡ InsertTurn.NoNode → WithinPart L.agent_of (L.seat links.now p.old).agent (L.journal p.old) (L.journal p.new)
         (L.lacking links.now (L.seat links.now p.old).agent (L.journal p.new)) }
     ensures worn { (why : Spent) → result.0 ≡ InsertTurn.Spent why
@@ -104,6 +112,8 @@ fn insert_turns<L: Links<Rule = Split>>(
         (L.seat links.now p.old) result.0 result.1 (L.seat links.now p.new) }
     ensures counted { (many : ℕ) → result.0 ≡ InsertTurn.Answered true many → CountsKeys (L.numbers links.now) key (L.seat links.now p.old) many
         (L.seat links.now p.new) }
+    ensures absent { result.0 ≡ InsertTurn.NoNode → SeesAbsent (split_reading (L.numbers links.now)) (key_place key)
+        (made_from (L.seat links.now p.old) (L.seat links.now p.new)) (L.seat links.now p.new) }
     ensures lacking { result.0 ≡ InsertTurn.NoNode → WithinPart L.agent_of (L.seat links.now p.old).agent (L.journal p.old) (L.journal p.new)
         (L.lacking links.now (L.seat links.now p.old).agent (L.journal p.new)) }
     ensures worn { (why : Spent) → result.0 ≡ InsertTurn.Spent why
@@ -139,6 +149,8 @@ pub(crate) fn insert_key<L: Links<Rule = Split>>(
         (L.seat links.now p.old) (answer_by result) (L.seat links.now p.new) }
     ensures counted { (many : ℕ) → result ≡ InsertTurn.Answered true many → CountsKeys (L.numbers links.now) key (L.seat links.now p.old) many
         (L.seat links.now p.new) }
+    ensures absent { result ≡ InsertTurn.NoNode → SeesAbsent (split_reading (L.numbers links.now)) (key_place key)
+        (made_from (L.seat links.now p.old) (L.seat links.now p.new)) (L.seat links.now p.new) }
     ensures lacking { result ≡ InsertTurn.NoNode → WithinPart L.agent_of (L.seat links.now p.old).agent (L.journal p.old) (L.journal p.new)
         (L.lacking links.now (L.seat links.now p.old).agent (L.journal p.new)) }
     ensures worn { (why : Spent) → result ≡ InsertTurn.Spent why

@@ -7,7 +7,7 @@ ghost use Rattle.orc_history.specs.{Journals.{Within}, declared.set.{ListRefused
 ghost use Rattle.orc_ordered_search.specs.Entries.{entry_by};
 ghost use Rattle.orc_split_rule.specs.SplitDiscipline.{IsSize};
 ghost use Rattle.orc_split_set.specs.{
-  SetCalls.{Enters, EntersNone, FindsWorn, GivesAtMost, GrowsCrowded, HadSize, HasCause, IsUsable, LacksRow, LinksDummy, LooksFew, RootsBucket, UsesAllTurns, set_history},
+  SetCalls.{Enters, EntersNone, FindsAbsent, FindsWorn, GivesAtMost, GrowsCrowded, HadSize, HasCause, IsUsable, LacksRow, LinksDummy, LooksFew, RootsBucket, UsesAllTurns, set_history},
   Rootings.{IsRootSet},
   Stops.{HasDummyOnChain},
   Laws.SetLaws.{cause_stays, entries_below, history_grows, seen_legal},
@@ -128,6 +128,7 @@ impl<L: Links<Rule = Split>> SplitSet<L> {
         ensures none { IfErr result (λ e. EntersNone L.Links self.now.links p.old p.new) }
         ensures again { result ≡ Err ListRefused.Again → UsesAllTurns L.Links self.now.links turns p.old p.new }
         ensures no_node { result ≡ Err ListRefused.NoNode → LacksRow L.Links self.now.links p.old p.new }
+        ensures absent { result ≡ Err ListRefused.NoNode → FindsAbsent L.Links self.now.links key p.old p.new }
         ensures spent { (why : Spent) → result ≡ Err (ListRefused.Spent why) → FindsWorn L.Links self.now.links why p.old p.new }
         ensures gives { GivesAtMost L.Links self.now.links 1 p.old p.new }
     {
@@ -222,11 +223,12 @@ impl<L: Links<Rule = Split>> SharedSet for SplitSet<L> {
         ensures no_event { turns ≡ 0 → MakesNoEvent L.Links self.now.links p.old p.new }
         ensures again { result ≡ Err ListRefused.Again → UsesAllTurns L.Links self.now.links turns p.old p.new }
         ensures no_node { result ≡ Err ListRefused.NoNode → LacksRow L.Links self.now.links p.old p.new }
+        ensures absent { result ≡ Err ListRefused.NoNode → FindsAbsent L.Links self.now.links key p.old p.new }
         ensures spent { (why : Spent) → result ≡ Err (ListRefused.Spent why) → FindsWorn L.Links self.now.links why p.old p.new }
         ensures gives { GivesAtMost L.Links self.now.links 3 p.old p.new }
         ensures settled { IsCallAlone L.Links self.now.links p.old p.new → L.backlog p.new ≡ 0 }
     {
-        let _rooted = prepare(&self.links, p, self.greatest, key, turns);
+        let _rooted = prepare(&self.links, p, self.greatest, key, turns); // whatever comes of it, the turns follow
         let turn = insert_key(&self.links, p, self.greatest, key, turns);
         let _grown = grow_after(&self.links, p, self.greatest, turn);
         self.links.settle(p);

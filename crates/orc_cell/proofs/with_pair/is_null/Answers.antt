@@ -5,7 +5,7 @@ use Rattle.orc_heap.specs.Heap.{null}
 use Rattle.orc_heap.specs.declared.events.Act.TheVariants.{Look}
 use Rattle.orc_heap.specs.declared.events.Place.TheVariants.{Root}
 use Rattle.orc_pairs_rule.proofs.Coming.{unnoted_later}
-use Rattle.orc_cell.proofs.Answering.{null_missed, tests_only, tests_puts}
+use Rattle.orc_cell.proofs.Answering.{null_missed, published_tests, tests_only, tests_puts}
 use Rattle.orc_heap.proofs.Parting.{part_begun_seats}
 use Rattle.orc_cell.proofs.Counting.{tested_few}
 use Rattle.orc_cell.proofs.with_pair.is_null.Goals as goal
@@ -26,6 +26,11 @@ returns-clause-published g c =
     let e = c.same.ensures in
     λ is. null_missed _ _ _ (record { holds = g.met.L.Links.obeys _ _ c.requires.pass; all = g.met.L.Links.allowed _ _ c.requires.pass })
     (g.met.L.Links.allowed _ _ e.pass) (Tests-missed e.tested is)
+
+pub returns-clause-was_published : goal.returns-clause-was_published
+returns-clause-was_published g c =
+    let e = c.same.ensures in
+    λ was. published_tests _ _ _ c.same.result (g.met.L.Links.allowed _ _ e.pass) e.tested was
 
 pub returns-clause-begun : goal.returns-clause-begun
 returns-clause-begun g c =

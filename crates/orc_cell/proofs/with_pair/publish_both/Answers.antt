@@ -1,6 +1,6 @@
 -- The left part is made ready, and let go at the end.
 use Rattle.std.proofs.Common.{ap, arith, inl, inr, subst, sym, ℕ, ◌*◌, ◌+◌, ◌∙◌, ◌≢◌}
-use Rattle.orc_cell.specs.Publishes.{SideHeld, given_of}
+use Rattle.orc_cell.specs.Publishes.{SideHeld, given_of, nodes_for}
 use Rattle.orc_cell.proofs.Answering.{answers_join, caused_call, pair_lacking, ready_agent, ready_fresh, ready_held, ready_null, ready_published, ready_slot, ready_answered}
 use Rattle.orc_cell.proofs.Counting.{made}
 use Rattle.orc_cell.proofs.with_pair.publish_both.Goals as goal
@@ -39,23 +39,24 @@ publish_right-answer-requires g c =
 pub let_go-requires : goal.let_go-requires
 let_go-requires g c =
     let x = c.publish_right-answer.ensures in
-    let (own, held, fresh) = ready_answered _ 1 c.args.roots.0 2 c.args.turns _ _ _
+    let (own, held, fresh) = ready_answered _ 1 c.args.roots.0 (1 + nodes_for c.args.right.0 c.args.right.1) c.args.turns _ _ _
     _ _ c.in-Ok.part c.publish_right-answer.result c.requires.slots.0 (inl c.requires.roots.0)
     c.in-Ok.ensures.ready (g.met.L.Links.allowed _ _ x.pass) x.answered in
     record { pass = x.pass; there = c.requires.there.0; staging = own; held = held; no_fresh = fresh }
 
 pub returns-in-Err-clause-answered : goal.returns-in-Err-clause-answered
 returns-in-Err-clause-answered g c =
-    pair_lacking _ 3 _ _ (omega arith) c.requires.no_fresh c.in-Err.ensures.none
+    pair_lacking _ _ _ _ (omega arith) c.requires.no_fresh c.in-Err.ensures.none
     (g.met.L.Links.allowed _ _ c.in-Err.ensures.pass)
 
 pub returns-clause-answered : goal.returns-clause-answered
 returns-clause-answered g c =
     let e = c.in-Ok.ensures in
-    rw (← e.given) (answers_join (g.L.Links.numbers _) 1 c.args.roots.0 2 c.args.turns (given_of c.in-Ok.part) c.args.right.0
-    (g.L.Links.seat _ c.args.p.now) _ _ (g.L.Links.seat _ c.let_go.new.p) c.in-Ok.part c.publish_right-answer.result c.requires.slots.0
-    (inl c.requires.roots.0) c.requires.null.0 c.requires.no_fresh e.ready c.publish_right-answer.ensures.answered c.let_go.ensures.gone
-    (g.met.L.Links.allowed _ _ e.pass) (g.met.L.Links.allowed _ _ c.let_go.ensures.pass))
+    rw (← e.count, ← e.given) (answers_join (g.L.Links.numbers _) 1 c.args.roots.0 (1 + nodes_for c.args.right.0 c.args.right.1) c.args.turns
+    (given_of c.in-Ok.part) c.args.right.0 (g.L.Links.seat _ c.args.p.now) _ _ (g.L.Links.seat _ c.let_go.new.p) c.in-Ok.part
+    c.publish_right-answer.result c.requires.slots.0 (inl c.requires.roots.0) c.requires.null.0 c.requires.no_fresh e.ready
+    c.publish_right-answer.ensures.answered c.let_go.ensures.gone (g.met.L.Links.allowed _ _ e.pass)
+    (g.met.L.Links.allowed _ _ c.let_go.ensures.pass))
 
 pub returns-clause-refused : goal.returns-clause-refused
 returns-clause-refused g c =

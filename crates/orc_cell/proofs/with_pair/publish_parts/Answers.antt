@@ -1,15 +1,20 @@
 -- No turn, or the test of root 0, and then the parts.
-use Rattle.std.proofs.Common.{[], ap, arith, inl, inr, slice_get, sym, ℕ, ◌*◌, ◌+◌, ◌∙◌}
+use Rattle.std.proofs.Common.{[], ap, arith, false, inl, inr, slice_get, sym, ℕ, ◌*◌, ◌+◌, ◌∙◌, ◌≡◌}
 use Rattle.orc_heap.specs.Slots.{Slots}
+use Rattle.orc_cell.specs.Publishes.{nodes_for, part_count}
 use Rattle.orc_cell.proofs.Answering.{answers_after, answers_none, caused_in_part}
 use Rattle.orc_cell.proofs.Pieces.{only_none}
 use Rattle.orc_cell.proofs.Staging.{finds_staging}
-use Rattle.orc_cell.proofs.Counting.{publish_few}
+use Rattle.orc_cell.proofs.Counting.{nodes_few, publish_few}
 use Rattle.orc_cell.proofs.with_pair.publish_parts.Goals as goal
 
 pub returns-then-turns-eq0-clause-answered : goal.returns-then-turns-eq0-clause-answered
 returns-then-turns-eq0-clause-answered g c =
-    answers_none _ c.args.turns _ c.if-turns-eq0.true c.requires.idle.fresh
+    answers_none _ _ c.args.turns _ c.if-turns-eq0.true c.requires.idle.fresh
+
+pub returns-then-turns-eq0-clause-shared : goal.returns-then-turns-eq0-clause-shared
+returns-then-turns-eq0-clause-shared g c = λ was.
+    answers_none _ _ c.args.turns _ c.if-turns-eq0.true c.requires.idle.fresh
 
 pub publish_both-requires-clause-no_fresh : goal.publish_both-requires-clause-no_fresh
 publish_both-requires-clause-no_fresh g c = c.is_null-empty.ensures.only.finds.fresh ∙ c.requires.idle.fresh
@@ -38,8 +43,18 @@ publish_both-requires-clause-slots g c =
 pub returns-clause-answered : goal.returns-clause-answered
 returns-clause-answered g c =
     let e = c.is_null-empty.ensures in
-    answers_after _ 3 c.args.turns c.args.left c.args.right _ _ _ c.publish_both.result e.only
+    answers_after _ _ 3 c.args.turns c.args.left c.args.right _ _ _ c.publish_both.result
+    (omega (arith, nodes_few c.args.left c.is_null-empty.result, nodes_few c.args.right c.is_null-empty.result)) e.only
     (g.met.L.Links.allowed _ _ e.pass) c.publish_both.ensures.answered
+
+pub returns-clause-shared : goal.returns-clause-shared
+returns-clause-shared g c = λ was.
+    let e = c.is_null-empty.ensures in
+    let none : c.is_null-empty.result ≡ false = e.was_published was in
+    let left : nodes_for c.args.left c.is_null-empty.result ≡ part_count c.args.left = ap (nodes_for c.args.left) none in
+    let right : nodes_for c.args.right c.is_null-empty.result ≡ part_count c.args.right = ap (nodes_for c.args.right) none in
+    answers_after _ _ (1 + part_count c.args.left + part_count c.args.right) c.args.turns c.args.left c.args.right _ _ _ c.publish_both.result
+    (omega (arith, left, right)) e.only (g.met.L.Links.allowed _ _ e.pass) c.publish_both.ensures.answered
 
 pub returns-then-turns-eq0-clause-nothing : goal.returns-then-turns-eq0-clause-nothing
 returns-then-turns-eq0-clause-nothing g c = λ zero. only_none _

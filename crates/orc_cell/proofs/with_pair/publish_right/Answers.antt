@@ -43,13 +43,13 @@ let_go-requires g c =
 
 pub returns-in-Err-clause-answered : goal.returns-in-Err-clause-answered
 returns-in-Err-clause-answered g c =
-    pair_lacking _ 2 _ _ (omega arith) c.requires.no_fresh c.in-Err.ensures.none
+    pair_lacking _ _ _ _ (omega arith) c.requires.no_fresh c.in-Err.ensures.none
     (g.met.L.Links.allowed _ _ c.in-Err.ensures.pass)
 
 pub returns-clause-answered : goal.returns-clause-answered
 returns-clause-answered g c =
     let e = c.in-Ok.ensures in
-    rw (← e.given) (answers_join (g.L.Links.numbers _) 2 c.args.root 1 c.args.turns (given_of c.args.left.now) (given_of c.in-Ok.part)
+    rw (← e.count, ← e.given) (answers_join (g.L.Links.numbers _) 2 c.args.root 1 c.args.turns (given_of c.args.left.now) (given_of c.in-Ok.part)
     (g.L.Links.seat _ c.args.p.now) _ _ (g.L.Links.seat _ c.let_go.new.p) c.in-Ok.part c.publish_pair-answer.result c.requires.slots.0
     (inr c.requires.root) c.requires.null c.requires.no_fresh e.ready c.publish_pair-answer.ensures.answered c.let_go.ensures.gone
     (g.met.L.Links.allowed _ _ e.pass) (g.met.L.Links.allowed _ _ c.let_go.ensures.pass))

@@ -88,3 +88,7 @@ returns-clause-counted g c = λ start slots s room k b bucket many by is.
     (g.met.L.Links.seen_is d c.insert_found.new.p e.pass) in
     absent_counts n start bucket c.args.key many added.left added.first added.right s t u f (g.met.L.Links.obeys d c.search_for-found.new.p x.pass)
     (g.met.L.Links.allowed d c.search_for-found.new.p x.pass) by grows
+
+pub returns-clause-absent : goal.returns-clause-absent
+returns-clause-absent g c = λ start slots s room k b is.
+    c.insert_found.ensures.absent (sought g (goal.at.returns-clause-absent g c).After-search_for-found start slots s room k b) is

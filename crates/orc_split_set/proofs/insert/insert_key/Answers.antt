@@ -1,8 +1,12 @@
 -- The node in hand is let go after the turns.
+use Rattle.std.proofs.Common.{subst}
 use Rattle.orc_history.specs.declared.set.SetEntry.TheVariants.{Added}
+use Rattle.orc_ordered_search.specs.Inserts.{InsertsTurns}
+use Rattle.orc_ordered_search.specs.declared.turn.InsertTurn.{InsertTurn}
 use Rattle.orc_ordered_search.proofs.Inserting.{ends_held, ends_of, idle_room, turns_answer}
 use Rattle.orc_heap.proofs.Parting.{part_goes_on}
 use Rattle.orc_split_set.specs.SplitSearches.{split_reading}
+use Rattle.orc_split_set.proofs.Absent.{absent_still}
 use Rattle.orc_split_set.proofs.Crowding.{own_sooner, seen_grows}
 use Rattle.orc_split_set.proofs.insert.insert_key.Goals as goal
 
@@ -56,3 +60,16 @@ returns-clause-counted g c = λ many is sees.
     let grows = seen_grows events g.L.Links.agent_of (g.met.L.Links.steps_add d) k (g.L.Links.journal c.let_go.new.p) t u f.later is_t
     (g.met.L.Links.seen_is d c.let_go.new.p f.pass) in
     e.counted many is (own_sooner s t u grew grows sees)
+
+pub returns-clause-absent : goal.returns-clause-absent
+returns-clause-absent g c = λ is.
+    let d = c.args.links.now in
+    let n = g.L.Links.numbers d in
+    let s = g.L.Links.seat d c.args.p.now in
+    let t = g.L.Links.seat d c.insert_turns-turn.new.p in
+    let e = c.insert_turns-turn.ensures in
+    let f = c.let_go.ensures in
+    let ends = subst (λ (turn : InsertTurn). InsertsTurns (split_reading n) c.args.key 1 (λ answer. Added s.agent c.args.key answer) c.args.turns s turn
+    c.insert_turns-turn.result.1 t) is e.inserted in
+    absent_still n c.args.key s t (g.L.Links.seat d c.let_go.new.p) ends.1.0 ends.1.1.made.puts f.let_go.puts (g.met.L.Links.allowed d c.let_go.new.p f.pass)
+    (e.absent is)

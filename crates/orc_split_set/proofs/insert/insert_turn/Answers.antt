@@ -1,6 +1,8 @@
 -- Where the turn's search begins, and what it found.
-use Rattle.std.proofs.Common.{refl}
+use Rattle.std.proofs.Common.{refl, subst}
 use Rattle.orc_history.specs.declared.set.SetEntry.TheVariants.{Added}
+use Rattle.orc_ordered_search.specs.Inserts.{Inserts}
+use Rattle.orc_ordered_search.specs.declared.turn.InsertTurn.{InsertTurn}
 use Rattle.orc_ordered_search.proofs.Inserting.{has_room, keeps_on}
 use Rattle.orc_ordered_search.proofs.Making.{found_over}
 use Rattle.orc_heap.proofs.Parting.{part_of_next}
@@ -9,6 +11,7 @@ use Rattle.orc_split_rule.specs.SplitDiscipline.{size_of}
 use Rattle.orc_split_rule.specs.SplitOrder.{bucket_of}
 use Rattle.orc_split_set.specs.Beginnings.{seat_before}
 use Rattle.orc_split_set.specs.SplitSearches.{split_reading}
+use Rattle.orc_split_set.proofs.Absent.{absent_next}
 use Rattle.orc_split_set.proofs.Crowding.{seen_grows, turn_counts}
 use Rattle.orc_split_set.proofs.Ordered.{split_ordering}
 use Rattle.orc_split_set.proofs.insert.insert_turn.Goals as goal
@@ -85,3 +88,20 @@ returns-in-From-clause-counted g c = λ many is.
     turn_counts n c.args.key many s (seat_before s t) u b.own bucket b.quiet grows (λ sees. refl)
     (λ sees. e.counted b.start slots (seat_before s t) room kept b.begins bucket many
     (b.near (record { part = sees.part; is = sees.is; own = sees.own })).0 is)
+
+pub returns-in-From-clause-absent : goal.returns-in-From-clause-absent
+returns-in-From-clause-absent g c = λ is.
+    let d = c.args.links.now in
+    let n = g.L.Links.numbers d in
+    let s = g.L.Links.seat d c.args.p.now in
+    let t = g.L.Links.seat d c.begin.new.p in
+    let u = g.L.Links.seat d c.insert_from.new.p in
+    let (slots, room, k) = c.requires.keeps in
+    let b = c.in-From.ensures.begun in
+    let all = g.met.L.Links.allowed d c.begin.new.p c.in-From.ensures.pass in
+    let kept = keeps_after (split_ordering n) c.args.key 1 c.args.node slots s (seat_before s t) b.own k b.quiet refl
+    (g.met.L.Links.obeys d c.args.p.now c.requires.pass) all in
+    let e = c.insert_from.ensures in
+    let ends = subst (λ (turn : InsertTurn). Inserts (split_reading n) c.args.key 1 (λ answer. Added s.agent c.args.key answer) 1 slots c.args.node
+    (seat_before s t) turn c.insert_from.result.1 u) is (e.inserted b.start slots (seat_before s t) room kept b.begins) in
+    absent_next n c.args.key s (seat_before s t) u b.own b.quiet.puts ends.0 ends.1.made.puts (e.absent b.start slots (seat_before s t) room kept b.begins is)

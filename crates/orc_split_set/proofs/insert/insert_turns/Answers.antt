@@ -7,6 +7,7 @@ use Rattle.orc_ordered_search.specs.declared.turn.InsertTurn.{InsertTurn}
 use Rattle.orc_ordered_search.proofs.Inserting.{inserts_done, inserts_next, inserts_none}
 use Rattle.orc_heap.proofs.Parting.{part_of_next}
 use Rattle.orc_split_set.specs.SplitSearches.{split_reading}
+use Rattle.orc_split_set.proofs.Absent.{absent_next}
 use Rattle.orc_split_set.proofs.Crowding.{seen_grows, turns_count}
 use Rattle.orc_split_set.proofs.insert.insert_turns.Goals as goal
 
@@ -86,3 +87,16 @@ returns-in_default-clause-counted g c = λ many is.
     (g.L.Links.journal c.insert_turn-turn.new.p) t u e.later (g.met.L.Links.seen_is d c.loop.p i.pass)
     (g.met.L.Links.seen_is d c.insert_turn-turn.new.p e.pass) in
     turns_count n c.args.key many i.on.given c.loop.counter s t u i.on.own i.on.over grows (e.counted many is)
+
+pub returns-in_default-clause-absent : goal.returns-in_default-clause-absent
+returns-in_default-clause-absent g c = λ is.
+    let d = c.args.links.now in
+    let n = g.L.Links.numbers d in
+    let s = g.L.Links.seat d c.args.p.now in
+    let t = g.L.Links.seat d c.loop.p in
+    let u = g.L.Links.seat d c.insert_turn-turn.new.p in
+    let i = c.loop.invariant in
+    let e = c.insert_turn-turn.ensures in
+    let ends = subst (λ (turn : InsertTurn). Inserts (split_reading n) c.args.key 1 (λ answer. Added t.agent c.args.key answer) 1 s.slots c.loop.node t turn
+    c.insert_turn-turn.result.1 u) is (e.inserted s.slots c.requires.room i.on.keeps) in
+    absent_next n c.args.key s t u i.on.own i.on.over.made.puts ends.0 ends.1.made.puts (e.absent is)

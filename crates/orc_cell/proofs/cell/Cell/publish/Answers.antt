@@ -74,6 +74,8 @@ returns g c =
       spent = λ why is. part_goes_on g.L.Links.agent_of agent (g.L.Links.worn d agent why) _ _ _ (g.met.L.Links.worn_stays d agent why) done.later
           settle.later (err_of _ is done.refused);
       gives = gave_at_most ends.after.answered.piece;
+      shared = λ was. gave_at_most
+          (publish_ends _ _ _ _ _ _ _ _ settle.nothing (g.met.L.Links.allowed _ _ settle.pass) r (done.shared was)).after.answered.piece;
       tries = omega (arith, done.tries, made settle.nothing.puts);
       settled = λ alone. settle.settled
           (settling_alone g.L.Links d c.args.p.now c.publish_parts-answer.new.p c.settle.new.p done.later settle.later ends.before alone);

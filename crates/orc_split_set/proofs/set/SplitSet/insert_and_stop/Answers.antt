@@ -5,11 +5,12 @@ use Rattle.orc_history.specs.declared.set.ListRefused.TheVariants.{Again}
 use Rattle.orc_history.specs.declared.set.ListRefused.{ListRefused}
 use Rattle.orc_history.specs.declared.set.SetEntry.{SetEntry}
 use Rattle.orc_history.specs.declared.set.SetEntry.TheVariants.{Added}
-use Rattle.orc_ordered_search.proofs.Settling.{Did, idle_settled, insert_did, insert_keeps}
+use Rattle.orc_ordered_search.proofs.Settling.{Did, idle_settled, insert_did, insert_keeps, insert_puts}
 use Rattle.orc_ordered_search.specs.Inserts.{answer_by}
 use Rattle.orc_ordered_search.proofs.Inserting.{turn_lacks, turn_worn}
 use Rattle.orc_split_set.specs.SplitSearches.{split_reading}
 use Rattle.orc_split_set.specs.declared.bucket.Rooted.TheVariants.{NoNode, Spent}
+use Rattle.orc_split_set.proofs.Absent.{absent_still}
 use Rattle.orc_split_set.proofs.Called.{called}
 use Rattle.orc_split_set.proofs.Telling.{told_on}
 use Rattle.orc_split_set.proofs.set.SplitSet.insert_and_stop.Goals as goal
@@ -28,6 +29,7 @@ returns g c =
     let did = subst (λ (x : Result Bool ListRefused). Did (split_reading (g.L.Links.numbers d)) (x ≡ Err Again) 1 c.args.turns entry s x u) (sym is_answer)
     (insert_did _ s _ u settle.nothing entry _ (answer_by turn) done.inserted) in
     let keeps = insert_keeps _ entry _ s _ (answer_by turn) done.inserted c.requires.usable.1 in
+    let put = insert_puts (split_reading _) entry c.args.turns s _ (answer_by turn) done.inserted in
     let grows = goes_on _ _ _ done.later settle.later in
     let call = called g.L.Links g.met.L.Links.steps_add g.met.L.Links.seen_is g.met.L.Links.allowed g.met.L.Links.agents_below d p c.settle.new.p
     c.requires.usable.0 settle.pass grows 1 _ entry _ did in
@@ -40,6 +42,8 @@ returns g c =
       none = call.none;
       again = call.again;
       no_node = λ is. on NoNode (done.lacking (turn_lacks turn (sym is_answer ∙ is)));
+      absent = λ is. absent_still (g.L.Links.numbers d) c.args.key s (g.L.Links.seat d c.insert_key-turn.new.p) u put.0 put.1 settle.nothing.puts
+          (g.met.L.Links.allowed d c.settle.new.p settle.pass) (done.absent (turn_lacks turn (sym is_answer ∙ is)));
       spent = λ why is. on (Spent why) (done.worn why (turn_worn turn why (sym is_answer ∙ is)));
       gives = call.gives;
     }

@@ -9,9 +9,10 @@ use Rattle.orc_history.specs.declared.set.SetEntry.{SetEntry}
 use Rattle.orc_history.specs.declared.set.SetEntry.TheVariants.{Added}
 use Rattle.orc_ordered_search.proofs.Inserting.{turn_lacks, turn_worn}
 use Rattle.orc_ordered_search.proofs.Licences.{insert_licence}
-use Rattle.orc_ordered_search.proofs.Settling.{Did, idle_settled, insert_keeps}
+use Rattle.orc_ordered_search.proofs.Settling.{Did, idle_settled, insert_keeps, insert_puts}
 use Rattle.orc_ordered_search.specs.Inserts.{InsertAnswers, answer_by}
 use Rattle.orc_split_rule.specs.SplitDiscipline.{IsSize, greatest}
+use Rattle.orc_split_set.proofs.Absent.{absent_call}
 use Rattle.orc_split_set.proofs.Called.{called}
 use Rattle.orc_split_set.proofs.Calling.{call_idle, did_after, if_ok, insert_after, roots_call}
 use Rattle.orc_split_set.proofs.Crowded.{grows_call}
@@ -58,6 +59,7 @@ returns g c =
     let did = subst (λ (x : Result Bool ListRefused). Did (split_reading n) (x ≡ Err Again) 3 turns entry s x u) (sym is_answer)
     (did_after _ before.prepared.own turns before.prepared.none s t0 first 2 3 entry u (answer_by turn) (omega arith) inner) in
     let keeps = insert_keeps _ entry turns t0 t (answer_by turn) inserted (call_idle first c.requires.usable.1) in
+    let put = insert_puts (split_reading n) entry turns t0 t (answer_by turn) inserted in
     let since = goes_on _ _ _ before.later done.later in
     let since_grown = goes_on _ _ _ since grown.later in
     let rest = goes_on _ _ _ grown.later settle.later in
@@ -108,6 +110,9 @@ returns g c =
       no_event = call.no_event;
       again = call.again;
       no_node = lacks;
+      absent = λ is. let no_node = turn_lacks turn (sym is_answer ∙ is) in
+          absent_call n c.args.key turn c.grow_after-grown.result s t0 t _ u before.prepared.own put.0 first.made.puts put.1 grown.grown settle.nothing all
+          no_node (done.absent no_node);
       spent = worn;
       gives = call.gives;
       settled = λ alone. settle.settled (settling_alone g.L.Links d p p2 q since_grown settle.later
