@@ -32,13 +32,7 @@ impl<R: Threads + Wait + Sync, G: Gate + Sync> Setup<'_, R, G> {
             takers,
             rows,
         };
-        run_lines(
-            self.rt,
-            self.alloc,
-            &task,
-            set_of(self.settings),
-            self.gate,
-        )
+        run_lines(self.rt, self.alloc, &task, set_of(self.settings), self.gate)
     }
 }
 
