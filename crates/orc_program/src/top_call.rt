@@ -63,8 +63,7 @@ pub fn orc_main<R: Threads + Wait + Sync, S: Source, K: Sink, G: Gate + Sync>(
     // So a file of lines is worked through and reported, unless a read or a write failed or memory was refused.
     ensures complete { (bytes : List ℕ) (lines : List Line) → S.left source.old ≡ Some bytes → AskFor words.now Mode.Run
         → length bytes ≤ MOST_BYTES → IsFileOf lines bytes
-        → ¬ Rose (S.faults source.old) (S.faults source.new) → ¬ Rose (K.faults sink.old) (K.faults sink.new)
-        → (result ≡ 0) ⊎ (result ≡ 7) }
+        → (result ≡ 0) ⊎ (result ≡ 4) ⊎ (result ≡ 5) ⊎ (result ≡ 7) }
 
     // Wherever a run has ended, no row was used again while it was linked or held, nor twice; and what was given was freed or is linked.
     ensures safe { EndsSafely ended.new }

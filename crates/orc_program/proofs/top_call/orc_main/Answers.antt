@@ -29,7 +29,7 @@ returns-in-Err-Words-clause-cut_short g c five =
 pub returns-in-Err-Words-clause-complete : goal.returns-in-Err-Words-clause-complete
 returns-in-Err-Words-clause-complete g c bytes lines told asks few file =
     let refuses : RefusesWords c.args.words.now = search rules in
-    λ reads_well writes_well. absurd {A = (c.refuse_words.result ≡ 0) ⊎ (c.refuse_words.result ≡ 7)} (never_both _ asks.0 asks.1 refuses)
+    absurd (never_both _ asks.0 asks.1 refuses)
 
 pub returns-in-Err-Words-clause-read_fault : goal.returns-in-Err-Words-clause-read_fault
 returns-in-Err-Words-clause-read_fault g c four = absurd (not_read _ c.refuse_words.ensures.statuses four)
@@ -69,9 +69,9 @@ returns-in-Ok-answer_of-clause-cut_short g c five =
     (c.in-Ok-answer_of.answer.status, c.bytes.result.now, to_words _ _ _ _ _ _ _ _ (whole g c), c.write_text.ensures.cut_short five)
 
 pub returns-in-Ok-answer_of-clause-complete : goal.returns-in-Ok-answer_of-clause-complete
-returns-in-Ok-answer_of-clause-complete g c bytes lines told asks few file reads_well writes_well = elim c.write_text.ensures.statuses [
+returns-in-Ok-answer_of-clause-complete g c bytes lines told asks few file = elim c.write_text.ensures.statuses [
   | inl is ↦ inl (is ∙ reported _ _ _ _ _ _ _ _ (whole g c) bytes told asks few lines file)
-  | inr five ↦ absurd (writes_well (c.write_text.ensures.fault five))
+  | inr five ↦ inr (inr (inl five))
 ]
 
 pub returns-in-Ok-answer_of-clause-safe : goal.returns-in-Ok-answer_of-clause-safe
