@@ -38,7 +38,8 @@ use std::thread::Threads;
 /// | 7 | memory was refused | nothing |
 /// | 8 | the bytes are refused as a trace | `shape: WORD`, `step N: unreadable`, `step N: not allowed` |
 ///
-/// The order is: words, reading, size, grammar, the run, writing.
+/// The order is: words, reading, size, grammar, the run, writing. What has ended of a run, a watch or a pipeline is left at rest in
+/// `ended`, also where a write fails.
 pub fn orc_main<R: Threads + Wait + Sync, S: Source, K: Sink, G: Gate + Sync>(
     rt: &R,
     alloc: Global,
