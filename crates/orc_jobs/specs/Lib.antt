@@ -6,3 +6,4 @@ pub mod JobValue
 pub mod GoodLines
 pub mod Generated
 pub mod OneRecord
+pub mod Laws

@@ -39,4 +39,13 @@ pub trait FromRecord: Drop {
     fn from_record(alloc: Global, row: &ByteRecord) -> Result<Self, RecordRefused<Self::Cause>>
         ensures ok { IfOk result (λ line. (fields_of row.now ≡ spelling line) × is_line line) }
         ensures err { IfErr result (Explains has_cause (fields_of row.now)) };
+
+    // a line is known by its record
+    ghost same_line: { (a b : Self) → is_line a → is_line b → spelling a ≡ spelling b → a ≡ b };
+
+    // the record of a line has no cause
+    ghost no_cause: { (line : Self) (why : Self.Cause) → is_line line → ¬ has_cause (spelling line) why };
+
+    // a record has one cause at most
+    ghost one_cause: { (fields : List (List ℕ)) (a b : Self.Cause) → has_cause fields a → has_cause fields b → a ≡ b };
 }

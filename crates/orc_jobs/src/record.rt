@@ -1,5 +1,8 @@
 ghost use Rattle.std.specs.Prelude.{◌≡◌, IfNone, IfSome};
-ghost use Rattle.orc_jobs.specs.JobGrammar.{HasCause, IsLine, IsOpWord, record_of, operation_word};
+ghost use Rattle.orc_jobs.specs.{
+  JobGrammar.{HasCause, IsLine, IsOpWord, record_of, operation_word},
+  Laws.JobLines.{known_by_record, line_has_no_cause, record_has_one_cause},
+};
 
 use crate::number::is_number_list;
 use crate::{
@@ -16,6 +19,12 @@ impl FromRecord for Line {
     ghost is_line = { IsLine };
 
     ghost has_cause = { HasCause };
+
+    ghost same_line = { known_by_record };
+
+    ghost no_cause = { line_has_no_cause };
+
+    ghost one_cause = { record_has_one_cause };
 
     fn from_record(alloc: Global, row: &ByteRecord) -> Result<Line, RecordRefused<Cause>> {
         let verb = field_of(row, 0);

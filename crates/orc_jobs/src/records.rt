@@ -1,7 +1,10 @@
 //! Files of records, of which each stands for a line.
-ghost use Rattle.std.specs.Prelude.{◌≡◌, ◌≤◌, IfErr, IfOk, OnOk, length};
+ghost use Rattle.std.specs.Prelude.{◌≡◌, ◌≤◌, List, ℕ, IfErr, IfOk, OnOk, length};
 ghost use Rattle.csv.specs.{Records.{fields_of}, Reading.{NotLengths, error_kind}};
-ghost use Rattle.orc_jobs.specs.{OneRecord.{RefusesFile, RefusesRecord}, RecordFiles.{IsFile, TakesRecord}};
+ghost use Rattle.orc_jobs.specs.{
+  OneRecord.{GivesFault, GivesLines, RefusesFile, RefusesRecord},
+  RecordFiles.{IsFile, TakesRecord},
+};
 
 use crate::{FromRecord, LineList, RecordRefused};
 use csv::{ByteRecord, Error, ErrorKind, ReaderBuilder};
@@ -23,6 +26,23 @@ pub enum FileRefused<C> {
 /// The lines of a file. It is refused at its first record that has a cause, or at a record past
 /// the first 65,535, whatever is in it. A byte order mark at the start is passed over.
 pub fn read_records<L: FromRecord>(
+    alloc: Global,
+    bytes: &[u8],
+) -> Result<LineList<L>, FileRefused<L::Cause>>
+    ensures ok { IfOk result (λ lines. IsFile L.spelling L.is_line lines bytes.now) }
+    ensures err { IfErr result (RefusesFile L.spelling L.is_line L.has_cause bytes.now) }
+
+    // A file of lines is read as these, and another is refused as it must be, unless memory runs out.
+    ensures only { (file : List L) → IsFile L.spelling L.is_line file bytes.now → GivesLines file result }
+    ensures bad { (at : ℕ) (why : L.Cause) → RefusesFile L.spelling L.is_line L.has_cause bytes.now (FileRefused.Malformed at why)
+        → GivesFault (FileRefused.Malformed at why) result }
+    ensures many { RefusesFile L.spelling L.is_line L.has_cause bytes.now FileRefused.TooMany → GivesFault FileRefused.TooMany result }
+{
+    read_each(alloc, bytes)
+}
+
+// Reads record by record, and stops at the first fault.
+fn read_each<L: FromRecord>(
     alloc: Global,
     bytes: &[u8],
 ) -> Result<LineList<L>, FileRefused<L::Cause>>

@@ -1,2 +1,3 @@
 pub mod WatchGrammar
 pub mod WatchText
+pub mod Laws

@@ -1,6 +1,9 @@
 ghost use Rattle.std.specs.Prelude.{◌≡◌, IfErr, IfOk};
 ghost use Rattle.csv.specs.Records.{fields_of};
-ghost use Rattle.orc_watch.specs.WatchGrammar.{HasCause, IsLine, record_of};
+ghost use Rattle.orc_watch.specs.{
+  WatchGrammar.{HasCause, IsLine, record_of},
+  Laws.WatchLines.{known_by_record, line_has_no_cause, record_has_one_cause},
+};
 
 use crate::{WatchCause, WatchLine};
 use csv::ByteRecord;
@@ -15,6 +18,12 @@ impl FromRecord for WatchLine {
     ghost is_line = { IsLine };
 
     ghost has_cause = { HasCause };
+
+    ghost same_line = { known_by_record };
+
+    ghost no_cause = { line_has_no_cause };
+
+    ghost one_cause = { record_has_one_cause };
 
     fn from_record(
         _alloc: Global,

@@ -2,8 +2,6 @@ use Rattle.std.proofs.lemmas.Result.{IfOk-weaker}
 use Rattle.orc_jobs.specs.GoodLines.{AreGood}
 use Rattle.orc_jobs.specs.JobGrammar.{IsFileOf}
 use Rattle.orc_jobs.proofs.GoodLinesLemmas.{good_file}
-use Rattle.orc_jobs.proofs.FileLaws.{reads-bad, reads-file, reads-many}
-use Rattle.orc_jobs.proofs.GrammarLaws.{laws}
 use Rattle.orc_jobs.proofs.read.read_jobs.Goals as goal
 
 pub returns-clause-good : goal.returns-clause-good
@@ -12,10 +10,10 @@ returns-clause-good c =
     (λ lines h. good_file lines c.args.bytes.now c.requires h) c.read_records.ensures.ok
 
 pub returns-clause-only : goal.returns-clause-only
-returns-clause-only c = reads-file laws c.args.bytes.now c.read_records.result c.read_records.ensures.ok c.read_records.ensures.err
+returns-clause-only c = c.read_records.ensures.only
 
 pub returns-clause-bad : goal.returns-clause-bad
-returns-clause-bad c = reads-bad laws c.args.bytes.now c.read_records.result c.read_records.ensures.ok c.read_records.ensures.err
+returns-clause-bad c = c.read_records.ensures.bad
 
 pub returns-clause-many : goal.returns-clause-many
-returns-clause-many c = reads-many laws c.args.bytes.now c.read_records.result c.read_records.ensures.ok c.read_records.ensures.err
+returns-clause-many c = c.read_records.ensures.many

@@ -2,7 +2,7 @@ use Rattle.std.proofs.Common.{true, ◌≡◌, ◌<◌, ◌≤◌, All, List, �
 use Rattle.csv.specs.Reading.{Reached, Ready, is_flexible, default_config, source_of, strip_bom}
 use Rattle.csv.specs.declared.parser.State.TheVariants as st
 use Rattle.csv.specs.declared.reader.Trim.TheVariants as trim
-use Rattle.orc_jobs.proofs.records.read_records.Given as goal
+use Rattle.orc_jobs.proofs.records.read_each.Given as goal
 
 abbrev pub invariant-loop-row : goal.invariant-loop-row
 invariant-loop-row g l = record {
