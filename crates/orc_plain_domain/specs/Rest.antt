@@ -45,9 +45,10 @@ module _ {D N : Type 0} {d : discipline.Ghosts D N} {m : machine.Ghosts Plain N 
     pub all : CoversAll (domain_bounds r.domain).agents (shows r.domain.board r.pass.pass)
 
   -- this is the domain at rest, which had these passes: its board has shown one whole list of events, which goes on from what each
-  -- pass had seen
+  -- pass had seen, and is what all had seen, where they had seen one list
   pub record IsRestOf (domain : PlainDomain D N) (passes : List (PlainPass D N (PlainShape N) PlainOp (PlainStep N) (Unit {0}) (Unit {0}) d m))
       (r : PlainRest D N d m) : Type 0 where
     pub domain_is : rest_domain r ≡ domain
     pub shown : IsShown r
     pub heard : All (λ p. IsPrefix (journal_of p) (rest_journal r)) passes
+    pub journal : (seen : List (Event N)) → All (λ p. journal_of p ≡ seen) passes → rest_journal r ≡ seen

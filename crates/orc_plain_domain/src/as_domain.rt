@@ -1,9 +1,9 @@
 //! The domain from its making to its rest, as each domain offers it.
 
-ghost use Rattle.std.specs.Prelude.{◌≡◌, ◌+◌, [], All, IfOk, refl};
+ghost use Rattle.std.specs.Prelude.{◌≡◌, ◌+◌, List, [], All, IfOk, refl};
 ghost use mathlib.Core.List.{IsPrefix};
 ghost use Rattle.orc_any_domain.specs.Domains.{AreAllIdle, heap_numbers};
-ghost use Rattle.orc_heap.specs.{Moves.{gives_in}, Seeds.{SeedAllowed, opening_events}};
+ghost use Rattle.orc_heap.specs.{Moves.{gives_in}, Seeds.{SeedAllowed, opening_events}, declared.events.Event.{Event}};
 ghost use Rattle.orc_plain_domain.specs.{
   Ends.{AreAll, FirstSawAll, first_seen},
   Passes.{domain_bounds, domain_opening, journal_of, seat_of},
@@ -24,6 +24,8 @@ fn drain_passes<D: Discipline>(domain: &PlainDomain<D>, passes: &mut Vec<PlainPa
     ensures all { AreAll domain.now passes.new.items }
     ensures own { FirstSawAll domain.now passes.new.items }
     ensures heard { All (λ p. IsPrefix (journal_of p) (first_seen domain.now passes.new.items)) passes.old.items }
+    ensures quiet { (seen : List (Event D.Note)) → All (λ p. journal_of p ≡ seen) passes.old.items
+        → first_seen domain.now passes.new.items ≡ seen }
 {
     domain.drain_all(passes.as_mut_slice());
 }

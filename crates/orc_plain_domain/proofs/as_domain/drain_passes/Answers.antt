@@ -1,8 +1,9 @@
--- The passes are all passes of their domain, and idle, and each has been heard.
+-- The passes are all passes of their domain, and idle, each has been heard, and no event is new.
 use Rattle.std.proofs.Common.{rules, subst, sym}
 use Rattle.std.proofs.lemmas.List.{places, with_items_is}
-use Rattle.orc_plain_domain.specs.Ends.{AllHear, AreAll, AreIdle}
-use Rattle.orc_plain_domain.proofs.Hearing.{each_heard}
+use Rattle.orc_plain_domain.specs.Ends.{AllHear, AreAll, AreIdle, IsNoLonger}
+use Rattle.orc_plain_domain.proofs.Hearing.{each_heard, nothing_more}
+use Rattle.orc_plain_domain.proofs.Resting.{some_passes}
 use Rattle.orc_plain_domain.proofs.as_domain.drain_passes.Goals as goal
 
 pub drain_all-requires-clause-all : goal.drain_all-requires-clause-all
@@ -23,3 +24,19 @@ returns-clause-heard g c =
     subst (λ ps. AllHear c.args.domain.now ps c.drain_all.new.passes) c.as_mut_slice.ensures.value c.drain_all.ensures.learned in
     rw (with_items_is c.args.passes.now c.drain_all.new.passes (search (rules, places)))
     (each_heard c.args.domain.now before c.drain_all.new.passes (λ i p low. (c.requires.each i p low).0) heard)
+
+pub returns-clause-quiet : goal.returns-clause-quiet
+returns-clause-quiet g c =
+    let before = c.args.passes.now.items in
+    let after = c.drain_all.new.passes in
+    let all : AreAll c.args.domain.now before = record {
+      many = c.requires.many;
+      belong = λ i p low. (c.requires.each i p low).0;
+      order = c.requires.order;
+    } in
+    let heard : AllHear c.args.domain.now before after =
+    subst (λ ps. AllHear c.args.domain.now ps after) c.as_mut_slice.ensures.value c.drain_all.ensures.learned in
+    let longest : IsNoLonger c.args.domain.now before after =
+    subst (λ ps. IsNoLonger c.args.domain.now ps after) c.as_mut_slice.ensures.value c.drain_all.ensures.longest in
+    rw (with_items_is c.args.passes.now after (search (rules, places)))
+    (nothing_more c.args.domain.now before after all.belong heard (some_passes c.args.domain.now before all) longest)
