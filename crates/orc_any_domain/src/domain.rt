@@ -3,7 +3,7 @@
 ghost use Rattle.std.specs.Prelude.{◌≡◌, ◌+◌, ℕ, [], All, IfOk, List};
 ghost use mathlib.Core.List.{IsPrefix};
 ghost use Rattle.orc_any_domain.specs.Domains.{AreAllIdle, heap_numbers};
-ghost use Rattle.orc_heap.specs.Seeds.{SeedAllowed, opening_events};
+ghost use Rattle.orc_heap.specs.{Moves.{gives_in}, Seeds.{SeedAllowed, opening_events}};
 ghost use Rattle.orc_words.specs.Bounds.{Bounds, bounds_of};
 
 use orc_fault::NoMemory;
@@ -61,14 +61,21 @@ pub trait Domain: Links {
         requires { AreAllIdle Self.Links self passes.items }
         ensures { rests self passes.items result };
 
-    /// How many rows were given and freed, each as often as it was, and how many are out: what was given was freed or is out.
+    /// How many rows were given and freed, each as often as it was, and how many are out: as many were given as what is left tells of,
+    /// and what was given was freed or is out.
     fn counts(rest: &Self::Rest) -> RowCounts
+        ensures given { (domain : Self) (passes : List Self.Pass) → rests domain passes rest.now
+            → result.given ≡ gives_in (Self.events domain (left rest.now)) }
         ensures balance { (domain : Self) (passes : List Self.Pass) → rests domain passes rest.now
             → result.given ≡ result.reused + result.linked };
 
     // what each pass had seen is a beginning of what is left
     ghost goes_on: { (d : Self) (passes : List Self.Pass) (r : Self.Rest) → rests d passes r
         → All (λ p. IsPrefix (Self.journal p) (left r)) passes };
+
+    // where all passes had seen one journal, what is left tells of no event more
+    ghost rests_quietly: { (d : Self) (passes : List Self.Pass) (r : Self.Rest) (seen : List Self.Step) → rests d passes r
+        → All (λ p. Self.journal p ≡ seen) passes → Self.events d (left r) ≡ Self.events d seen };
 
     // the heap's numbers, the agents and the rows are those of the sizes
     ghost numbers_are: { (d : Self) → Self.numbers d ≡ heap_numbers (bounds d) };

@@ -39,3 +39,4 @@ pub mod InTurn
 pub mod NextDrain
 pub mod DrainingAll
 pub mod Quiet
+pub mod Gives

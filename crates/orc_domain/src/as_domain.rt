@@ -3,7 +3,7 @@
 ghost use Rattle.std.specs.Prelude.{◌≡◌, ◌+◌, [], All, IfOk, refl};
 ghost use mathlib.Core.List.{IsPrefix};
 ghost use Rattle.orc_any_domain.specs.Domains.{AreAllIdle, heap_numbers};
-ghost use Rattle.orc_heap.specs.Seeds.{SeedAllowed, opening_events};
+ghost use Rattle.orc_heap.specs.{Moves.{gives_in}, Seeds.{SeedAllowed, opening_events}};
 ghost use Rattle.orc_machine_board.specs.Rules.{run_of};
 ghost use Rattle.orc_machine_rest.specs.Ends.{CountsOf};
 ghost use Rattle.orc_domain.specs.{
@@ -11,6 +11,7 @@ ghost use Rattle.orc_domain.specs.{
   Passes.{domain_bounds, domain_opening, journal_of, seat_of},
   Rest.{IsRestOf, rest_domain, rest_journal},
 };
+ghost use Rattle.orc_projection.specs.Projection.{project};
 ghost use Rattle.orc_rest.specs.Rest.{IsAtRest};
 ghost use Rattle.orc_words.specs.Bounds.{bounds_of};
 
@@ -71,12 +72,16 @@ impl<D: Discipline> Domain for OrcDomain<D> {
 
     fn counts(rest: &OrcRest<D>) -> RowCounts
         ensures counts { CountsOf (domain_bounds (rest_domain rest.now)) (rest_journal rest.now) result }
+        ensures given { (domain : _) (passes : _) → IsRestOf domain passes rest.now
+            → result.given ≡ gives_in (project (domain_bounds domain) (rest_journal rest.now)) }
         ensures balance { (domain : _) (passes : _) → IsRestOf domain passes rest.now → result.given ≡ result.reused + result.linked }
     {
         rest.counts
     }
 
     ghost goes_on = { λ d passes r h. h.heard };
+
+    ghost rests_quietly = { λ d passes r seen h same. (h.journal seen same).quiet };
 
     ghost numbers_are = { λ d. refl };
 

@@ -79,6 +79,8 @@ impl<D: Discipline> Domain for PlainDomain<D> {
 
     ghost goes_on = { λ d passes r h. h.heard };
 
+    ghost rests_quietly = { λ d passes r seen h same. h.journal seen same };
+
     ghost numbers_are = { λ d. refl };
 
     ghost agents_are = { λ d. refl };
