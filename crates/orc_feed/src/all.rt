@@ -67,6 +67,10 @@ pub fn read_all<S: Source>(
 }
 
 /// Writes all of a text.
+///
+/// # Errors
+///
+/// `Failed` where a write failed or took no byte. A beginning of the text may have been written.
 pub fn write_all<K: Sink>(sink: &mut K, text: &[u8]) -> Result<(), Failed>
     ensures ok { OnOk result (Appends (K.written sink.old) (K.written sink.new) text.now) }
     ensures err { OnErr result (AppendsPrefix (K.written sink.old) (K.written sink.new) text.now) }

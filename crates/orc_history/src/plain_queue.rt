@@ -38,7 +38,12 @@ impl Model for PlainQueue {
 }
 
 impl PlainQueue {
-    /// An empty queue for at most `room` items, whose first Put has the position `first`, at most 2^62.
+    /// An empty queue for at most `room` items, whose first Put has the position `first`, at most 2^62. It stores the entries of
+    /// 4 × `room` + 4 calls, after which it refuses each call with `Again`.
+    ///
+    /// # Errors
+    ///
+    /// `NoMemory` where memory is refused.
     pub fn new(alloc: Global, room: u32, first: u64) -> Result<PlainQueue, NoMemory>
         requires { first ≤ 2 ^ 62 }
         ensures { IfOk result (λ q. q ≡ record { room = room; first = first; whole = true }) }

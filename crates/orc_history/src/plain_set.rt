@@ -35,7 +35,11 @@ impl Model for PlainSet {
 }
 
 impl PlainSet {
-    /// An empty set for at most `room` keys.
+    /// An empty set for at most `room` keys. It stores the entries of 4 × `room` + 4 calls, after which it refuses each call with `Again`.
+    ///
+    /// # Errors
+    ///
+    /// `NoMemory` where memory is refused.
     pub fn new(alloc: Global, room: u32) -> Result<PlainSet, NoMemory>
         ensures { IfOk result (λ s. s ≡ record { room = room; whole = true }) }
     {

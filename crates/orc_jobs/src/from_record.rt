@@ -35,7 +35,11 @@ pub trait FromRecord: Drop {
     // this is the cause of a record
     ghost has_cause: { List (List ℕ) → Self.Cause → Type 0 };
 
-    /// The line that a record stands for, or the first cause that applies to it.
+    /// The line that a record stands for.
+    ///
+    /// # Errors
+    ///
+    /// The first cause that applies to the record, or want of memory.
     fn from_record(alloc: Global, row: &ByteRecord) -> Result<Self, RecordRefused<Self::Cause>>
         ensures ok { IfOk result (λ line. (fields_of row.now ≡ spelling line) × is_line line) }
         ensures err { IfErr result (Explains has_cause (fields_of row.now)) };

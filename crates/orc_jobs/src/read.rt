@@ -12,6 +12,10 @@ use std::alloc::Global;
 
 /// The lines of a job file. It is refused at its first record that has a cause, or at a record past
 /// the first 65,535, whatever is in it. A byte order mark at the start is passed over.
+///
+/// # Errors
+///
+/// As `read_records`.
 pub fn read_jobs(alloc: Global, bytes: &[u8]) -> Result<Lines, FileRefused<Cause>>
     requires { length bytes.now ≤ MOST_BYTES }
     ensures ok { IfOk result (λ lines. IsFileOf lines bytes.now) }

@@ -25,6 +25,10 @@ pub enum FileRefused<C> {
 
 /// The lines of a file. It is refused at its first record that has a cause, or at a record past
 /// the first 65,535, whatever is in it. A byte order mark at the start is passed over.
+///
+/// # Errors
+///
+/// `Malformed` and `TooMany` as said, before any later fault; `NoMemory` where memory is refused.
 pub fn read_records<L: FromRecord>(
     alloc: Global,
     bytes: &[u8],

@@ -21,6 +21,10 @@ impl Model for Text {
 
 impl Text {
     /// A text of these bytes.
+    ///
+    /// # Errors
+    ///
+    /// `NoMemory` where memory is refused.
     pub fn from_slice(alloc: Global, bytes: &[u8]) -> Result<Text, NoMemory>
         ensures { IfOk result (λ t. t ≡ bytes.now) }
     {

@@ -51,7 +51,7 @@ abbrev pub TellsTrace : Told → List ℕ → List ℕ → Type 0
 TellsTrace told.Census bytes text = (played : Replayed) × IsReplay bytes played × (text ≡ replay_line played)
 TellsTrace told.Audit bytes text = (audit : Audit) × IsAudit bytes audit × (text ≡ audit_lines audit)
 
--- the lines of a file are worked through and told, or the bytes are refused at their first record outside the grammar
+-- the lines of a file are worked through and told, or the bytes are refused at their first record that has a cause or is one too many
 abbrev pub AnswersFile : {L C : Type 0} → (List L → Type 0) → (FileRefused C → Type 0) → (C → List ℕ) → (List L → Ended → List ℕ → Type 0) → Ended → ℕ → List ℕ → Type 0
 AnswersFile {L} is_file refuses word has_told ended status text =
     ((status ≡ 0) × ((lines : List L) × is_file lines × has_told lines ended text))

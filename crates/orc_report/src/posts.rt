@@ -8,6 +8,10 @@ use orc_board::{PostReply, PostWord};
 use std::alloc::AllocError;
 
 /// Appends a line for each reply, in which this word says that a job was put at a position of the queue.
+///
+/// # Errors
+///
+/// `AllocError` where memory is refused. The text may have got a part of the lines.
 pub fn push_posts(text: &mut String, put: &str, posts: &[PostReply]) -> Result<(), AllocError>
     ensures { OnOk result (string_bytes text.new ≡ string_bytes text.old ++ flat_map (post_line put.now) posts.now) }
 {

@@ -88,7 +88,7 @@ pub record IsSkipRow (lines : List Line) (agent : ℕ) (row : StageRow) : Type 0
   pub from : row.from ≡ just (Took agent job at ∷ [])
   pub to : row.to ≡ nothing
 
--- a refusal that a stage tells as no value: in a run it is never for want of positions
+-- a refusal that a stage tells as no value
 abbrev pub IsNoPlace : QueueRefused → Type 0
 IsNoPlace why = (why ≡ queue_refused.NoNode) ⊎ (why ≡ queue_refused.Positions)
 

@@ -34,7 +34,7 @@ pub fn empty_desks<Q: SharedQueue>(
 ///
 /// # Errors
 ///
-/// `NoMemory` where memory is refused.
+/// `NoMemory` where memory is refused. The first of the desks may have got their pass.
 pub fn add_queue<Q: SharedQueue>(
     queue: &Q,
     desks: &mut [StageDesk<Q::Pass>],

@@ -39,12 +39,14 @@ pub record AreSeated {D T Z : Type 0} (R N : Worker D T → Type 0) (many : ℕ)
   pub nobody_is_done : done.items ≡ []
   pub room : vec_len done + vec_len waiting ≤ vec_capacity done
 
--- room for a poster's replies to so many lines, or for so many of a worker that takes jobs
+-- room for a poster's replies to so many lines, or for so many of a worker that takes jobs, and no other
 pub record IsEmptyRoom {X : Type 0} (posters lines jobs agent : ℕ) (room : Room X) : Type 0 where
   pub no_posts : room.posts.items ≡ []
   pub no_takes : room.takes.items ≡ []
   pub post_room : agent ≤ posters → room.posts.spare ≡ lines
   pub take_room : posters < agent → room.takes.spare ≡ jobs
+  pub no_post_room : posters < agent → room.posts.spare ≡ 0
+  pub no_take_room : agent ≤ posters → room.takes.spare ≡ 0
 
 -- the lists of a room are its posts, at false, and its takes, at true; of each, a reply in it
 abbrev pub reply_of : Type 0 → Bool → Type 0

@@ -99,8 +99,8 @@ pub fn reserve_room<X: Drop>(
 
 // For how many posts and takes an agent needs room.
 fn rooms_of(agent: usize, posters: u32, lines: usize, jobs: usize) -> (usize, usize)
-    ensures poster { agent ≤ posters → result.0 ≡ lines }
-    ensures other { posters < agent → result.1 ≡ jobs }
+    ensures poster { agent ≤ posters → result ≡ (lines, 0) }
+    ensures other { posters < agent → result ≡ (0, jobs) }
 {
     if agent <= posters as usize {
         (lines, 0)

@@ -12,6 +12,10 @@ use orc_words::Words;
 use std::alloc::{AllocError, Global};
 
 /// The line of a trace that was played.
+///
+/// # Errors
+///
+/// `NoMemory` where memory is refused.
 pub fn replay_text(alloc: Global, replayed: &Replayed) -> Result<String, NoMemory>
     ensures { IfOk result (λ text. string_bytes text ≡ replay_line replayed.now) }
 {
@@ -30,6 +34,10 @@ pub fn replay_text(alloc: Global, replayed: &Replayed) -> Result<String, NoMemor
 }
 
 /// The lines of an audit: the steps, the worst backlog, the lives of rows that were taken, and the first leak.
+///
+/// # Errors
+///
+/// `NoMemory` where memory is refused.
 pub fn audit_text(alloc: Global, audit: &Audit) -> Result<String, NoMemory>
     ensures { IfOk result (λ text. string_bytes text ≡ audit_lines audit.now) }
 {

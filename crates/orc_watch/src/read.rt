@@ -12,6 +12,10 @@ use std::alloc::Global;
 
 /// The lines of a watch file. It is refused at its first record that has a cause, or at a record past the first 65,535,
 /// whatever is in it. A byte order mark at the start is passed over.
+///
+/// # Errors
+///
+/// As `read_records`.
 pub fn read_watch(alloc: Global, bytes: &[u8]) -> Result<WatchLines, FileRefused<WatchCause>>
     ensures ok { IfOk result (λ lines. IsFileOf lines bytes.now) }
     ensures err { IfErr result (Refuses bytes.now) }
