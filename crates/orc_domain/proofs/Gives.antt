@@ -1,5 +1,5 @@
 -- A step is a Give where it is a GateTake that succeeds, so as many rows are given as Gives stand in the events.
-use Rattle.std.proofs.Common.{Bool, List, None, Option, Some, [], arith, cond, false, refl, suc, sym, true, zero, ℕ, ◌&&◌, ◌+◌, ◌++◌, ◌==◌, ◌∙◌, ◌∷◌, ◌≡◌}
+use Rattle.std.proofs.Common.{Bool, List, None, Option, Some, [], arith, cond, false, refl, suc, sym, true, zero, ℕ, ◌&&◌, ◌+◌, ◌==◌, ◌∙◌, ◌∷◌, ◌≡◌}
 use Rattle.std.specs.Option.{option_map}
 use Rattle.std.specs.Prelude.{if◌then◌else◌}
 use Rattle.orc_core.specs.Actions.{action_of}
@@ -13,7 +13,6 @@ use Rattle.orc_heap.specs.Acts.{aim_act}
 use Rattle.orc_heap.specs.Moves.{give_with, gives_in}
 use Rattle.orc_heap.specs.declared.events.Act.{Act}
 use Rattle.orc_heap.specs.declared.events.Act.TheVariants.{Give, Look, Miss, Move}
-use Rattle.orc_heap.specs.declared.events.Event.{Event}
 use Rattle.orc_heap.specs.declared.events.Place.{Place}
 use Rattle.orc_projection.specs.PresentIds.{PresentIds, no_ids, node_link, node_place}
 use Rattle.orc_projection.specs.Projection.{act_of, events_of, exchange_act, ids_after, is_taken, load_act, project, project_from}
