@@ -15,6 +15,7 @@ use Rattle.orc_history.specs.declared.set.SharedSet.{Ghosts as SetOf}
 use Rattle.orc_history.specs.QueueHistory.{agent_of_entry, IsLegalQueue, waiting_after}
 use Rattle.orc_history.specs.SetHistory.{agent_of_set_entry}
 use Rattle.orc_board.specs.Desk.{seen_in}
+use Rattle.orc_board.specs.Runs.{Ran}
 use Rattle.orc_jobs.specs.declared.line.Line.{Line}
 use Rattle.orc_jobs.specs.Line.{jobs_in}
 use Rattle.orc_board.specs.declared.replies.PostReply.{PostReply}
@@ -26,7 +27,7 @@ use Rattle.orc_workers.specs.Team.{BoardWorker}
 use Rattle.orc_board.specs.Stretches.{View, queue_views, set_view, beside, all_beside, pick, Row}
 use Rattle.orc_history.specs.Lists.{Pairwise}
 use Rattle.orc_board.specs.Follows.{TakerRow, Posting, TakingRest, ZeroLast, LastIsEmpty, IsWorker, own_records, grouped_by_key, taker_agent, posts_of, takes_of, none}
-use Rattle.orc_workers.specs.CameBack.{IsTold, AllCameBack, HasEnded}
+use Rattle.orc_workers.specs.CameBack.{IsTold, AllCameBack}
 use Rattle.orc_board.proofs.ListFacts.{AllByRecursion-map, le-cases}
 use Rattle.orc_board.proofs.Ends.{posters_of}
 use Rattle.orc_workers.proofs.Learned.{zero_ended}
@@ -195,15 +196,13 @@ module _ {P R A B : Type 0} (qs : Bool → View A QueueEntry QueueRefused) (s : 
         found_empty = λ t low high. empty_at_taker t low high takes take_at;
       }
 
--- the whole
-pub over_of : {Q S P R A B : Type 0} (q : QueueOf Q P A) (s : SetOf S R B) (queue rush : Q) (set : S) (lines : List Line) (posters takers : ℕ) (desk : Desk P R)
-    (own : List TakeReply) (ws : List (BoardWorker P R)) (desks : List (Desk P R)) (posts : List PostReply) (takes : List TakeReply)
-    → 1 ≤ posters → length lines ≤ 65535 → ((b : Bool) → q.first (pick queue rush b) ≡ 0) → length ws ≡ posters + takers
-    → AllCameBack q s queue rush set lines posters takers desk own ws
-    → desks ≡ (desk ∷ []) ++ map (λ (w : BoardWorker P R). w.desk) ws → posts ≡ [] ++ all_of (λ (w : BoardWorker P R). w.replies.posts.items) ws
-    → takes ≡ own ++ all_of (λ (w : BoardWorker P R). w.replies.takes.items) ws
-    → HasEnded q s queue rush set lines posters takers desks posts takes
-over_of {P = P} {R = R} {A = A} q s queue rush set lines posters takers desk own ws desks posts takes some short first many c desks_are posts_are takes_are =
+-- all replies, put together, follow what the caller's desk has seen at last
+pub ran_of : {Q S P R A B : Type 0} (q : QueueOf Q P A) (s : SetOf S R B) (queue rush : Q) (set : S) (lines : List Line) (posters takers : ℕ) (desk : Desk P R)
+    (own : List TakeReply) (ws : List (BoardWorker P R)) (posts : List PostReply) (takes : List TakeReply)
+    → 1 ≤ posters → length lines ≤ 65535 → ((b : Bool) → q.first (pick queue rush b) ≡ 0) → AllCameBack q s queue rush set lines posters takers desk own ws
+    → posts ≡ all_of (λ (w : BoardWorker P R). w.replies.posts.items) ws → takes ≡ own ++ all_of (λ (w : BoardWorker P R). w.replies.takes.items) ws
+    → Ran (queue_views q queue rush) (set_view s set) lines posters takers posts takes (seen_in q desk) (s.journal desk.set)
+ran_of {P = P} {R = R} {A = A} q s queue rush set lines posters takers desk own ws posts takes some short first c posts_are takes_are =
     let C : ℕ → Type 0 = IsWorker posters takers in
     let k : Bool → List A = seen_in q desk in
     let n = s.journal desk.set in
@@ -212,8 +211,8 @@ over_of {P = P} {R = R} {A = A} q s queue rush set lines posters takers desk own
     let agents : (b : Bool) → AllByRecursion (λ e. agent_of_entry e ≤ posters + takers) (es b) = λ b.
     AllByRecursion-map (λ e. agent_of_entry e < pick (suc (posters + takers)) (suc (posters + takers)) b) (λ e. agent_of_entry e ≤ posters + takers)
     (λ e h. omega (arith, h, two b)) (es b) (c.known.queues_below b) in
-    let work = put_together (all_beside (queue_views q queue rush) C) (beside (set_view s set) C) lines posters takers k n own ws c.numbered many c.told c.taking posts
-    takes posts_are takes_are agents c.queues_zero_last c.set_zero_last in
+    let work = put_together (all_beside (queue_views q queue rush) C) (beside (set_view s set) C) lines posters takers k n own ws c.numbered c.many c.told
+    c.taking posts takes posts_are takes_are agents c.queues_zero_last c.set_zero_last in
     let legal : (b : Bool) → IsLegalQueue 0 (es b) = λ b. subst (λ (x : ℕ). IsLegalQueue x (es b)) (first b) (c.known.queues_legal b) in
     let more : length takes ≡ length own + length (all_of (λ (w : BoardWorker P R). w.replies.takes.items) ws) =
     ap length takes_are ∙ length-append own (all_of (λ (w : BoardWorker P R). w.replies.takes.items) ws) in
@@ -222,33 +221,26 @@ over_of {P = P} {R = R} {A = A} q s queue rush set lines posters takers desk own
       | inl e ↦ inl (λ b. zero_ended (es b) (legal b) (c.queues_zero_last b) (e b))
       | inr full ↦ inr (omega (arith, full, more))
     ] in
-    let is : HasEnded q s queue rush set lines posters takers (desk ∷ map (λ (w : BoardWorker P R). w.desk) ws) posts takes = record {
-      idle = (c.caller, c.idle);
-      all = ap suc (length-map ws (λ (w : BoardWorker P R). w.desk) ∙ many);
-      seen = (((λ b. refl), refl), c.seen);
-      ran = ran_board (queue_views q queue rush) (set_view s set) lines posters takers posts takes k n some c.none_first
-          (λ b agent seen from to h. let big = c.known.many_puts b agent seen from to h in omega (arith, big, first b)) short legal c.known.set_legal end work;
-    } in
-    subst (λ (ds : List (Desk P R)). HasEnded q s queue rush set lines posters takers ds posts takes) (sym desks_are) is
+    ran_board (queue_views q queue rush) (set_view s set) lines posters takers posts takes k n some c.none_first
+    (λ b agent seen from to h. let big = c.known.many_puts b agent seen from to h in omega (arith, big, first b)) short legal c.known.set_legal end work
 
 -- there are no more replies of either kind than lines
 pub few_replies : {Q S P R A B : Type 0} (q : QueueOf Q P A) (s : SetOf S R B) (queue rush : Q) (set : S) (lines : List Line) (posters takers : ℕ)
     (desk : Desk P R) (own : List TakeReply) (ws : List (BoardWorker P R))
-    → 1 ≤ posters → length lines ≤ 65535 → ((b : Bool) → q.first (pick queue rush b) ≡ 0) → length ws ≡ posters + takers
-    → AllCameBack q s queue rush set lines posters takers desk own ws
+    → 1 ≤ posters → length lines ≤ 65535 → ((b : Bool) → q.first (pick queue rush b) ≡ 0) → AllCameBack q s queue rush set lines posters takers desk own ws
     → (length (all_of (λ (w : BoardWorker P R). w.replies.posts.items) ws) ≤ length lines) × (length own + length
     (all_of (λ (w : BoardWorker P R). w.replies.takes.items) ws) ≤ length lines)
-few_replies {P = P} {R = R} q s queue rush set lines posters takers desk own ws some short first many c =
+few_replies {P = P} {R = R} q s queue rush set lines posters takers desk own ws some short first c =
     let posts : List PostReply = all_of (λ (w : BoardWorker P R). w.replies.posts.items) ws in
     let takes : List TakeReply = own ++ all_of (λ (w : BoardWorker P R). w.replies.takes.items) ws in
-    let over = over_of q s queue rush set lines posters takers desk own ws (desk ∷ map (λ (w : BoardWorker P R). w.desk) ws) posts takes some short first many c refl
-    refl refl in
-    let order = over.ran.follows.workers.order in
+    let ran = ran_of q s queue rush set lines posters takers desk own ws posts takes some short first c refl refl in
+    let order = ran.follows.workers.order in
     let line : PostReply → ℕ = λ r. r.line in
     let each : length (map line posts) ≡ length (range_with_len 0 (length lines)) =
     sym (length_permutation (map line posts) (range_with_len 0 (length lines)) (each_line lines posters takers posts takes some order)) in
     let claims : (b : Bool) → length (takes_with b takes) ≡ length (posted_of b posts) = λ b.
-    sym (length-map (takes_with b takes) claim_of) ∙ length_permutation (posted_of b posts) (map claim_of (takes_with b takes)) (over.ran.reportable.queues b).claims in
+    sym (length-map (takes_with b takes) claim_of) ∙ length_permutation (posted_of b posts)
+    (map claim_of (takes_with b takes)) (ran.reportable.queues b).claims in
     let few : length (posted_of false posts) + length (posted_of true posts) ≤ length lines = posted_few lines posters takers posts takes some order in (
       omega (arith, length-map posts line, each, length-range_with_len 0 (length lines)),
       omega (arith, sides takes, claims false, claims true, few, length-append own (all_of (λ (w : BoardWorker P R). w.replies.takes.items) ws)),

@@ -15,12 +15,11 @@ use Rattle.orc_board.specs.declared.replies.TakeReply.{TakeReply}
 use Rattle.orc_board.specs.declared.desk.Desk.{Desk}
 use Rattle.orc_team.specs.Seats.{AreNumbered}
 use Rattle.orc_board.specs.Desk.{IsDesk, seen_in}
-use Rattle.orc_workers.specs.Desks.{AreIdle, HaveSeen, queue_seen, set_seen}
+use Rattle.orc_workers.specs.Desks.{AreIdle, HaveSeen}
 use Rattle.orc_board.specs.Stretches.{View, queue_views, set_view, beside, all_beside, pick}
 use Rattle.orc_board.specs.Follows.{TakingRest, ZeroLast, LastIsEmpty, IsWorker, none}
 use Rattle.orc_workers.specs.Learning.{LawsTell}
 use Rattle.orc_workers.specs.Team.{BoardWorker, DidPost, DidTake}
-use Rattle.orc_board.specs.Runs.{Ran}
 
 -- a worker's passes have seen no entry
 pub record IsNew {Q S P R A B : Type 0} (q : QueueOf Q P A) (s : SetOf S R B) (queue rush : Q) (set : S) (w : BoardWorker P R) : Type 0 where
@@ -51,11 +50,3 @@ pub record AllCameBack {Q S P R A B : Type 0} (q : QueueOf Q P A) (s : SetOf S R
   pub queues_zero_last : (b : Bool) → ZeroLast agent_of_entry (q.history (pick queue rush b) (seen_in q desk b))
   pub set_zero_last : ZeroLast agent_of_set_entry (s.history set (s.journal desk.set))
   pub last : ((b : Bool) → LastIsEmpty 0 (q.history (pick queue rush b) (seen_in q desk b))) ⊎ (length lines ≤ length takes)
-
--- what a run leaves: idle desks in order, which have all seen the same journals, and replies that follow these
-pub record HasEnded {Q S P R A B : Type 0} (q : QueueOf Q P A) (s : SetOf S R B) (queue rush : Q) (set : S) (lines : List Line) (posters takers : ℕ)
-    (desks : List (Desk P R)) (posts : List PostReply) (takes : List TakeReply) : Type 0 where
-  pub idle : AreIdle q s queue rush set 0 desks
-  pub all : length desks ≡ suc (posters + takers)
-  pub seen : HaveSeen q s (queue_seen q desks) (set_seen s desks) desks
-  pub ran : Ran (queue_views q queue rush) (set_view s set) lines posters takers posts takes (queue_seen q desks) (set_seen s desks)

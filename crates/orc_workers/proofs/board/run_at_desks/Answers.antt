@@ -1,4 +1,5 @@
-use Rattle.std.proofs.Common.{rules, ◌≡◌, ◌+◌, ◌≤◌, ◌++◌, ◌∷◌, [], ap, sym, ◌∙◌, length, map, arith, List, false, true}
+use Rattle.std.proofs.Common.{rules, ◌≡◌, ◌+◌, ◌≤◌, ◌++◌, ◌∷◌, [], ap, refl, sym, ◌∙◌, length, map, arith, List, false, true}
+use Rattle.std.proofs.lemmas.List.{length-map}
 use Rattle.orc_board.specs.declared.desk.Desk.{Desk}
 use Rattle.orc_board.specs.declared.replies.PostReply.{PostReply}
 use Rattle.orc_board.specs.declared.replies.TakeReply.{TakeReply}
@@ -10,7 +11,7 @@ use Rattle.orc_workers.specs.Desks.{IsFreshDesk}
 use Rattle.orc_workers.specs.CameBack.{IsNew}
 use Rattle.orc_workers.specs.Team.{BoardWorker, IsReady}
 use Rattle.orc_team.proofs.Teams.{for_both}
-use Rattle.orc_workers.proofs.Over.{over_of}
+use Rattle.orc_workers.proofs.Over.{ran_of}
 use Rattle.orc_workers.proofs.Seated.{ready_at}
 use Rattle.orc_workers.proofs.board.run_at_desks.Goals as goal
 
@@ -56,32 +57,29 @@ hand_back-requires g c =
 
 pub returns : goal.returns
 returns g c =
-    let first : c.push.new.self.items ≡ c.run_seated-desk.result.desk ∷ [] =
-    c.in-Ok.ensures.items
-    ∙ ap (λ (xs : List (Desk g.row.Q-Pass.Denot g.row.S-Pass.Denot)). xs ++ c.run_seated-desk.result.desk ∷ []) c.seat-waiting.ensures.none in
-    let desks : c.hand_back.new.desks.items ≡ (c.run_seated-desk.result.desk ∷ []) ++ map (λ (w : BoardWorker g.row.Q-Pass.Denot g.row.S-Pass.Denot). w.desk)
-    c.run_seated-desk.result.workers.items =
-    c.hand_back.ensures.desks
-    ∙ ap (λ (xs : List (Desk g.row.Q-Pass.Denot g.row.S-Pass.Denot)). xs ++ map (λ (w : BoardWorker g.row.Q-Pass.Denot g.row.S-Pass.Denot). w.desk)
-    c.run_seated-desk.result.workers.items) first in
-    let posts = c.hand_back.ensures.replies false
-    ∙ ap (λ (xs : List PostReply). xs ++ all_of (λ (w : BoardWorker g.row.Q-Pass.Denot g.row.S-Pass.Denot). w.replies.posts.items)
-    c.run_seated-desk.result.workers.items) c.in_ok-posts.ensures.0 in
-    let takes = c.hand_back.ensures.replies true
-    ∙ ap (λ (xs : List TakeReply). xs ++ all_of (λ (w : BoardWorker g.row.Q-Pass.Denot g.row.S-Pass.Denot). w.replies.takes.items)
-    c.run_seated-desk.result.workers.items)
-    (c.append.ensures.items ∙ ap (λ (xs : List TakeReply). xs ++ c.run_seated-desk.result.takes.items) c.in_ok-takes.ensures.0) in
-    let over = over_of g.Q.SharedQueue g.S.SharedSet c.args.queue.now c.args.rush.now c.args.set.now c.args.lines.now c.args.posters c.args.takers
-    c.run_seated-desk.result.desk c.run_seated-desk.result.takes.items c.run_seated-desk.result.workers.items _ _ _
-    c.requires.posters c.requires.good.few (for_both _ c.requires.first.0 c.requires.first.1) c.run_seated-desk.ensures.back.many c.run_seated-desk.ensures.back desks posts takes in
+    let W : Type 0 = BoardWorker g.row.Q-Pass.Denot g.row.S-Pass.Denot in
+    let D : Type 0 = Desk g.row.Q-Pass.Denot g.row.S-Pass.Denot in
+    let caller : D = c.run_seated-desk.result.desk in
+    let ws : List W = c.run_seated-desk.result.workers.items in
+    let first : c.push.new.self.items ≡ caller ∷ [] = c.in-Ok.ensures.items ∙ ap (λ (ds : List D). ds ++ caller ∷ []) c.seat-waiting.ensures.none in
+    let desks : c.hand_back.new.desks.items ≡ caller ∷ map (λ (w : W). w.desk) ws =
+    c.hand_back.ensures.desks ∙ ap (λ (ds : List D). ds ++ map (λ (w : W). w.desk) ws) first in
+    let posts =
+    c.hand_back.ensures.replies false ∙ ap (λ (rs : List PostReply). rs ++ all_of (λ (w : W). w.replies.posts.items) ws) c.in_ok-posts.ensures.0 in
+    let takes = c.hand_back.ensures.replies true ∙ ap (λ (rs : List TakeReply). rs ++ all_of (λ (w : W). w.replies.takes.items) ws)
+    (c.append.ensures.items ∙ ap (λ (rs : List TakeReply). rs ++ c.run_seated-desk.result.takes.items) c.in_ok-takes.ensures.0) in
+    let back = c.run_seated-desk.ensures.back in
+    let ran = ran_of g.Q.SharedQueue g.S.SharedSet c.args.queue.now c.args.rush.now c.args.set.now c.args.lines.now c.args.posters c.args.takers
+    caller c.run_seated-desk.result.takes.items ws _ _ c.requires.posters c.requires.good.few (for_both _ c.requires.first.0 c.requires.first.1) back
+    posts takes in
     record {
-      idle = over.idle;
-      all = over.all ∙ omega arith;
-      seen = over.seen;
-      follows = over.ran.follows;
-      queues_legal = over.ran.queues_legal;
-      set_legal = over.ran.set_legal;
-      empty = over.ran.empty;
-      reportable = over.ran.reportable;
+      idle = rw desks (back.caller, back.idle);
+      all = ap length desks ∙ omega (arith, length-map ws (λ (w : W). w.desk), back.many);
+      seen = rw desks (((λ b. refl), refl), back.seen);
+      follows = rw desks ran.follows;
+      queues_legal = rw desks ran.queues_legal;
+      set_legal = rw desks ran.set_legal;
+      empty = rw desks ran.empty;
+      reportable = ran.reportable;
       kept = tt;
     }

@@ -65,6 +65,5 @@ returns-clause-back g c =
 
 pub returns-clause-few : goal.returns-clause-few
 returns-clause-few g c =
-    let back = returns-clause-back g c in
     few_replies g.Q.SharedQueue g.S.SharedSet c.args.queue.now c.args.rush.now c.args.set.now c.args.lines.now c.args.posters c.args.takers
-    _ _ _ c.requires.posters c.requires.good.few (for_both _ c.requires.first.0 c.requires.first.1) back.many back
+    _ _ _ c.requires.posters c.requires.good.few (for_both _ c.requires.first.0 c.requires.first.1) (returns-clause-back g c)
