@@ -3,7 +3,11 @@ use Rattle.std.proofs.Common.{◌≡◌, ◌≢◌, ◌%◌, ◌+◌, ◌-◌, �
 use Rattle.orc_board.proofs.Workers.{own-more, own-no, own-spare}
 use Rattle.orc_board.specs.Follows.{own_records}
 use Rattle.orc_board.specs.ListWithRoom.{ListWithRoom}
-use Rattle.orc_team.specs.Replies.{IsThrough}
+
+-- there is one reply to each of its records among so many, in file order, within this room
+pub record IsThrough {R : Type 0} (line : R → ℕ) (workers worker room records : ℕ) (replies : ListWithRoom R) : Type 0 where
+  pub in_file_order : map line replies.items ≡ own_records workers worker records
+  pub spare : length replies.items + replies.spare ≡ room
 
 pub through_none : {R : Type 0} (line : R → ℕ) (workers worker : ℕ) (replies : ListWithRoom R) → replies.items ≡ []
     → IsThrough line workers worker replies.spare 0 replies

@@ -2,4 +2,3 @@ pub mod Team
 pub mod Site
 pub mod Seats
 pub mod Learning
-pub mod Replies

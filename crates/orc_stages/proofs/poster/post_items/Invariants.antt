@@ -1,6 +1,6 @@
 use Rattle.std.proofs.Common.{◌≡◌}
 use Rattle.orc_board.specs.declared.replies.PostReply.{PostReply}
-use Rattle.orc_team.specs.Replies.{IsThrough}
+use Rattle.orc_team.proofs.Replies.{IsThrough}
 use Rattle.orc_stages.specs.Calls.{PostsItems}
 use Rattle.orc_stages.proofs.poster.post_items.Given as goal
 

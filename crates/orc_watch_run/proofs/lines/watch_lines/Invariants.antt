@@ -1,5 +1,5 @@
 use Rattle.orc_watch.specs.declared.reply.WatchReply.{WatchReply}
-use Rattle.orc_team.specs.Replies.{IsThrough}
+use Rattle.orc_team.proofs.Replies.{IsThrough}
 use Rattle.orc_watch_run.specs.Passes.{IsUsablePassOf}
 use Rattle.orc_watch_run.specs.WatchCalls.{Watches}
 use Rattle.orc_watch_run.proofs.lines.watch_lines.Given as goal
