@@ -1,4 +1,4 @@
--- What Looks found and what a link left, as a call goes on.
+-- What a link left, as a call goes on.
 use Rattle.std.proofs.Common.{Bool, List, Option, [], subst, sym, ℕ}
 use Rattle.orc_heap.specs.Allowed.{AllAllowed}
 use Rattle.orc_heap.specs.Heap.{HeapNumbers}
@@ -13,12 +13,9 @@ use Rattle.orc_ordered_search.specs.Inserts.{Inserts, InsertsTurns}
 use Rattle.orc_ordered_search.specs.Turns.{made_from}
 use Rattle.orc_ordered_search.specs.declared.turn.InsertTurn.{InsertTurn}
 use Rattle.orc_ordered_search.specs.declared.turn.InsertTurn.TheVariants.{Answered, NoNode, Over, Spent}
-use Rattle.orc_list.specs.Inserts.{LeavesRunOff, SeesAbsent}
+use Rattle.orc_list.specs.Inserts.{LeavesRunOff}
 use Rattle.orc_list.specs.Searches.{list_reading}
-use Rattle.orc_ordered_search.proofs.Quiets.{above_puts, below_puts}
-use Rattle.orc_ordered_search.proofs.Seen.{sees_right, sees_run_right}
 use Rattle.orc_ordered_search.proofs.Since.{made_still, made_trans}
-use Rattle.orc_list.proofs.Ordered.{list_ordering}
 use Rattle.orc_list.proofs.Passing.{leaves_on, leaves_right}
 
 -- the events of one turn or more
@@ -39,42 +36,11 @@ turns_puts n key turns entry kept s t (Spent why) f = (f.1.0, f.1.1.made.puts)
 module _ (n : HeapNumbers) (key : ℕ) (s t u : Seat ChainNote) (own : List (Event ChainNote)) (p : Puts s own t) where
   -- with turns before
 
-  pub absent_next : (ys : List (Event ChainNote)) → Puts t ys u → SeesAbsent n key (made_from t u) u → SeesAbsent n key (made_from s u) u
-  absent_next ys q a =
-      let es = made_from s t in
-      let fs = made_from t u in
-      subst (λ z. SeesAbsent n key z u) (sym (made_trans s t u own ys p q)) (record {
-        place = a.place;
-        from = a.from;
-        plain = a.plain;
-        below = a.below;
-        sees = sees_right es fs a.place a.from a.sees;
-        over = a.over;
-        to = a.to;
-        sees_run = sees_run_right es fs a.from a.over a.to a.sees_run;
-        above = a.above;
-      })
-
   pub leaves_next : (ys : List (Event ChainNote)) → Puts t ys u → LeavesRunOff key (made_from t u) (heap_of n u) → LeavesRunOff key (made_from s u) (heap_of n u)
   leaves_next ys q l =
       subst (λ z. LeavesRunOff key z (heap_of n u)) (sym (made_trans s t u own ys p q)) (leaves_right (heap_of n u) key (made_from s t) (made_from t u) l)
 
   -- and with no event after them
-
-  pub absent_still : Puts t [] u → AllAllowed (ChainMay n) [] u.seen → SeesAbsent n key (made_from s t) t → SeesAbsent n key (made_from s u) u
-  absent_still q all a =
-      let x = list_ordering n in
-      subst (λ z. SeesAbsent n key z u) (sym (made_still s t u own p q)) (record {
-        place = a.place;
-        from = a.from;
-        plain = a.plain;
-        below = below_puts x t u [] q all a.place key a.below;
-        sees = a.sees;
-        over = a.over;
-        to = a.to;
-        sees_run = a.sees_run;
-        above = above_puts x t u [] q all a.to key a.above;
-      })
 
   pub leaves_still : Puts t [] u → ChainHolds n t.seen → AllAllowed (ChainMay n) [] u.seen → LeavesRunOff key (made_from s t) (heap_of n t)
       → LeavesRunOff key (made_from s u) (heap_of n u)

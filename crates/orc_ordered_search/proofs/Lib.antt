@@ -25,3 +25,4 @@ pub mod Settling
 pub mod Causes
 pub mod Licences
 pub mod Preceding
+pub mod Absent

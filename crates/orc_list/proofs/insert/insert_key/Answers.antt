@@ -9,7 +9,9 @@ use Rattle.orc_chain_rule.specs.declared.chain.ChainNote.{ChainNote}
 use Rattle.orc_ordered_search.specs.Inserts.{InsertAnswers}
 use Rattle.orc_ordered_search.proofs.Inserting.{ends_held, ends_of, idle_room, turn_added, turn_lacks, turn_worn, turns_answer}
 use Rattle.orc_list.specs.Searches.{list_reading}
-use Rattle.orc_list.proofs.Inserting.{absent_still, leaves_still, turns_puts}
+use Rattle.orc_list.proofs.Inserting.{leaves_still, turns_puts}
+use Rattle.orc_ordered_search.proofs.Absent.{absent_still}
+use Rattle.orc_list.proofs.Ordered.{list_ordering}
 use Rattle.orc_list.proofs.Making.{made_on}
 use Rattle.orc_list.proofs.insert.insert_key.Given.{Over}
 use Rattle.orc_list.proofs.insert.insert_key.Goals.{After-insert_turns-turn}
@@ -62,7 +64,7 @@ returns-clause-off g c = λ yes.
 pub returns-clause-absent : goal.returns-clause-absent
 returns-clause-absent g c = λ is.
     let (own, puts) = made g (goal.at.returns-clause-absent g c).After-insert_turns-turn in
-    absent_still _ c.args.key _ _
+    absent_still (list_ordering _) c.args.key _ _
     _ own puts c.let_go.ensures.let_go.puts (g.met.L.Links.allowed _ _ c.let_go.ensures.pass)
     (c.insert_turns-turn.ensures.absent (turn_lacks c.insert_turns-turn.result.0 (sym c.answer_of.ensures ∙ is)))
 

@@ -11,7 +11,9 @@ use Rattle.orc_ordered_search.specs.declared.turn.InsertTurn.{InsertTurn}
 use Rattle.orc_ordered_search.proofs.Inserting.{inserts_done, inserts_next, inserts_none}
 use Rattle.orc_list.specs.Searches.{list_reading}
 use Rattle.orc_list.specs.Turns.{MadeFew}
-use Rattle.orc_list.proofs.Inserting.{absent_next, inserts_puts, leaves_next}
+use Rattle.orc_list.proofs.Inserting.{inserts_puts, leaves_next}
+use Rattle.orc_ordered_search.proofs.Absent.{absent_next}
+use Rattle.orc_list.proofs.Ordered.{list_ordering}
 use Rattle.orc_list.proofs.Making.{made_most, made_next, made_none}
 use Rattle.orc_list.proofs.insert.insert_turns.Given.{Over}
 use Rattle.orc_list.proofs.insert.insert_turns.Goals.{In_default}
@@ -95,7 +97,7 @@ pub returns-in_default-clause-absent : goal.returns-in_default-clause-absent
 returns-in_default-clause-absent g c = λ is.
     let i = c.loop.invariant in
     let (own, puts) = last g (goal.at.returns-in_default-clause-absent g c).In_default in
-    absent_next _ c.args.key _ _ _
+    absent_next (list_ordering _) c.args.key _ _ _
     i.on.own i.on.over.made.puts own puts (c.insert_turn-turn.ensures.absent is)
 
 pub returns-in_default-clause-lacking : goal.returns-in_default-clause-lacking

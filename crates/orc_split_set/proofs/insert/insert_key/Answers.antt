@@ -6,7 +6,9 @@ use Rattle.orc_ordered_search.specs.declared.turn.InsertTurn.{InsertTurn}
 use Rattle.orc_ordered_search.proofs.Inserting.{ends_held, ends_of, idle_room, turns_answer}
 use Rattle.orc_heap.proofs.Parting.{part_goes_on}
 use Rattle.orc_split_set.specs.SplitSearches.{split_reading}
-use Rattle.orc_split_set.proofs.Absent.{absent_still}
+use Rattle.orc_ordered_search.proofs.Absent.{absent_still}
+use Rattle.orc_split_rule.specs.SplitOrder.{key_place}
+use Rattle.orc_split_set.proofs.Ordered.{split_ordering}
 use Rattle.orc_split_set.proofs.Crowding.{own_sooner, seen_grows}
 use Rattle.orc_split_set.proofs.insert.insert_key.Goals as goal
 
@@ -71,5 +73,5 @@ returns-clause-absent g c = λ is.
     let f = c.let_go.ensures in
     let ends = subst (λ (turn : InsertTurn). InsertsTurns (split_reading n) c.args.key 1 (λ answer. Added s.agent c.args.key answer) c.args.turns s turn
     c.insert_turns-turn.result.1 t) is e.inserted in
-    absent_still n c.args.key s t (g.L.Links.seat d c.let_go.new.p) ends.1.0 ends.1.1.made.puts f.let_go.puts (g.met.L.Links.allowed d c.let_go.new.p f.pass)
+    absent_still (split_ordering n) (key_place c.args.key) s t (g.L.Links.seat d c.let_go.new.p) ends.1.0 ends.1.1.made.puts f.let_go.puts (g.met.L.Links.allowed d c.let_go.new.p f.pass)
     (e.absent is)

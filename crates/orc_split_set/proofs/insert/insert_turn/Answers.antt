@@ -11,7 +11,8 @@ use Rattle.orc_split_rule.specs.SplitDiscipline.{size_of}
 use Rattle.orc_split_rule.specs.SplitOrder.{bucket_of}
 use Rattle.orc_split_set.specs.Beginnings.{seat_before}
 use Rattle.orc_split_set.specs.SplitSearches.{split_reading}
-use Rattle.orc_split_set.proofs.Absent.{absent_next}
+use Rattle.orc_ordered_search.proofs.Absent.{absent_next}
+use Rattle.orc_split_rule.specs.SplitOrder.{key_place}
 use Rattle.orc_split_set.proofs.Crowding.{seen_grows, turn_counts}
 use Rattle.orc_split_set.proofs.Ordered.{split_ordering}
 use Rattle.orc_split_set.proofs.insert.insert_turn.Goals as goal
@@ -104,4 +105,4 @@ returns-in-From-clause-absent g c = λ is.
     let e = c.insert_from.ensures in
     let ends = subst (λ (turn : InsertTurn). Inserts (split_reading n) c.args.key 1 (λ answer. Added s.agent c.args.key answer) 1 slots c.args.node
     (seat_before s t) turn c.insert_from.result.1 u) is (e.inserted b.start slots (seat_before s t) room kept b.begins) in
-    absent_next n c.args.key s (seat_before s t) u b.own b.quiet.puts ends.0 ends.1.made.puts (e.absent b.start slots (seat_before s t) room kept b.begins is)
+    absent_next (split_ordering n) (key_place c.args.key) s (seat_before s t) u b.own b.quiet.puts ends.0 ends.1.made.puts (e.absent b.start slots (seat_before s t) room kept b.begins is)

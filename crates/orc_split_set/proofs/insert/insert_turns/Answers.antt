@@ -7,7 +7,9 @@ use Rattle.orc_ordered_search.specs.declared.turn.InsertTurn.{InsertTurn}
 use Rattle.orc_ordered_search.proofs.Inserting.{inserts_done, inserts_next, inserts_none}
 use Rattle.orc_heap.proofs.Parting.{part_of_next}
 use Rattle.orc_split_set.specs.SplitSearches.{split_reading}
-use Rattle.orc_split_set.proofs.Absent.{absent_next}
+use Rattle.orc_ordered_search.proofs.Absent.{absent_next}
+use Rattle.orc_split_rule.specs.SplitOrder.{key_place}
+use Rattle.orc_split_set.proofs.Ordered.{split_ordering}
 use Rattle.orc_split_set.proofs.Crowding.{seen_grows, turns_count}
 use Rattle.orc_split_set.proofs.insert.insert_turns.Goals as goal
 
@@ -99,4 +101,4 @@ returns-in_default-clause-absent g c = λ is.
     let e = c.insert_turn-turn.ensures in
     let ends = subst (λ (turn : InsertTurn). Inserts (split_reading n) c.args.key 1 (λ answer. Added t.agent c.args.key answer) 1 s.slots c.loop.node t turn
     c.insert_turn-turn.result.1 u) is (e.inserted s.slots c.requires.room i.on.keeps) in
-    absent_next n c.args.key s t u i.on.own i.on.over.made.puts ends.0 ends.1.made.puts (e.absent is)
+    absent_next (split_ordering n) (key_place c.args.key) s t u i.on.own i.on.over.made.puts ends.0 ends.1.made.puts (e.absent is)

@@ -4,6 +4,7 @@ use Rattle.orc_heap.proofs.InJournal.{settling_alone}
 use Rattle.orc_heap.proofs.Pieces.{goes_on}
 use Rattle.orc_history.specs.declared.set.SetEntry.{SetEntry}
 use Rattle.orc_history.specs.declared.set.SetEntry.TheVariants.{Added}
+use Rattle.orc_ordered_search.proofs.Absent.{absent_still}
 use Rattle.orc_ordered_search.proofs.Causes.{did_enter, did_give, did_not_enter, did_nothing}
 use Rattle.orc_ordered_search.proofs.Settling.{idle_settled, insert_did, insert_keeps, insert_puts}
 use Rattle.orc_list.specs.Searches.{list_reading}
@@ -11,7 +12,7 @@ use Rattle.orc_list.proofs.Causes.{did_few, none_of_again, turns_used}
 use Rattle.orc_list.proofs.Making.{made_on}
 use Rattle.orc_list.proofs.Ordered.{list_ordering}
 use Rattle.orc_ordered_search.proofs.Parts.{within_goes_on}
-use Rattle.orc_list.proofs.Inserting.{absent_still, leaves_still}
+use Rattle.orc_list.proofs.Inserting.{leaves_still}
 use Rattle.orc_list.proofs.list.List.insert.Goals as goal
 
 pub returns : goal.returns
@@ -59,7 +60,7 @@ returns g c =
       tries = did_few turns 1 s u (made_on turns s t u own puts settle.nothing.puts done.few) gives;
       no_node = λ is. within_goes_on by s.agent (g.L.Links.lacking d s.agent) (g.met.L.Links.lacking_stays d s.agent) j k m done.later settle.later
           (done.lacking is);
-      absent = λ is. absent_still n c.args.key s t u own puts settle.nothing.puts all (done.absent is);
+      absent = λ is. absent_still x c.args.key s t u own puts settle.nothing.puts all (done.absent is);
       off_the_chain = λ is. leaves_still n c.args.key s t u own puts settle.nothing.puts (g.met.L.Links.obeys d c.insert_key-answer.new.p done.pass) all
           (done.off is);
       spent = λ why is. within_goes_on by s.agent (g.L.Links.worn d s.agent why) (g.met.L.Links.worn_stays d s.agent why) j k m done.later settle.later

@@ -10,7 +10,9 @@ use Rattle.orc_ordered_search.specs.Inserts.{answer_by}
 use Rattle.orc_ordered_search.proofs.Inserting.{turn_lacks, turn_worn}
 use Rattle.orc_split_set.specs.SplitSearches.{split_reading}
 use Rattle.orc_split_set.specs.declared.bucket.Rooted.TheVariants.{NoNode, Spent}
-use Rattle.orc_split_set.proofs.Absent.{absent_still}
+use Rattle.orc_ordered_search.proofs.Absent.{absent_still}
+use Rattle.orc_split_rule.specs.SplitOrder.{key_place}
+use Rattle.orc_split_set.proofs.Ordered.{split_ordering}
 use Rattle.orc_split_set.proofs.Called.{called}
 use Rattle.orc_split_set.proofs.Telling.{told_on}
 use Rattle.orc_split_set.proofs.set.SplitSet.insert_and_stop.Goals as goal
@@ -42,7 +44,7 @@ returns g c =
       none = call.none;
       again = call.again;
       no_node = λ is. on NoNode (done.lacking (turn_lacks turn (sym is_answer ∙ is)));
-      absent = λ is. absent_still (g.L.Links.numbers d) c.args.key s (g.L.Links.seat d c.insert_key-turn.new.p) u put.0 put.1 settle.nothing.puts
+      absent = λ is. absent_still (split_ordering (g.L.Links.numbers d)) (key_place c.args.key) s (g.L.Links.seat d c.insert_key-turn.new.p) u put.0 put.1 settle.nothing.puts
           (g.met.L.Links.allowed d c.settle.new.p settle.pass) (done.absent (turn_lacks turn (sym is_answer ∙ is)));
       spent = λ why is. on (Spent why) (done.worn why (turn_worn turn why (sym is_answer ∙ is)));
       gives = call.gives;
