@@ -22,3 +22,4 @@ pub mod Reaching
 pub mod Stopping
 pub mod Telling
 pub mod Called
+pub mod FewEvents

@@ -3,6 +3,7 @@ pub mod NewNodes
 pub mod Crowds
 pub mod Rootings
 pub mod Looks
+pub mod FewEvents
 pub mod Beginnings
 pub mod Growths
 pub mod Stops

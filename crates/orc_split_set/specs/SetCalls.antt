@@ -19,6 +19,7 @@ use Rattle.orc_split_rule.specs.SplitDiscipline.{IsSize, entries_in, entries_of,
 use Rattle.orc_split_rule.specs.SplitOrder.{bucket_of, key_place}
 use Rattle.orc_split_rule.specs.declared.split.SplitNote.{SplitNote}
 use Rattle.orc_split_set.specs.Crowds.{keys_before}
+use Rattle.orc_split_set.specs.FewEvents.{AreFewBySearch}
 use Rattle.orc_split_set.specs.Growths.{HasGrow}
 use Rattle.orc_split_set.specs.Looks.{HasStart, ReachesIn, looks_in}
 use Rattle.orc_split_set.specs.Rootings.{IsRootSet}
@@ -57,6 +58,11 @@ module _ {L D P S : Type 0} (members : LinksOf L D P S SplitNote) (links : L) wh
   -- it gave at most so many nodes
   abbrev pub GivesAtMost : ℕ → P → P → Type 0
   GivesAtMost most old new = gives_in (call_events old new) ≤ most
+
+  -- it made few: at most two for each node at whose link it looked, and 22, in each of so many searches, and so many more in all. Of the 22
+  -- are two for a read of the number of buckets, two for the root of each of at most 8 buckets, and four beside the nodes
+  abbrev pub MakesFewBySearch : ℕ → ℕ → P → P → Type 0
+  MakesFewBySearch searches more old new = AreFewBySearch 22 searches more (call_events old new)
 
   -- the call itself linked the bucket's dummy, which is on the chain after it; before it no Move had made a link to that node
   abbrev pub LinksDummy : ℕ → P → P → Type 0

@@ -1,12 +1,13 @@
 //! Answers whether a key is present, and takes it out.
 
-ghost use Rattle.std.specs.Prelude.{◌≡◌, ◌<◌, ◌≤◌, ◌+◌, ◌*◌, ◌-◌, ℕ, Ok, Err, List, Option};
+ghost use Rattle.std.specs.Prelude.{◌≡◌, ◌<◌, ◌≤◌, ◌+◌, ◌*◌, ◌-◌, ◌^◌, ℕ, Ok, Err, List, Option};
 ghost use mathlib.Core.List.{IsPrefix};
 ghost use Rattle.orc_heap.specs.{Seats.{Seat, heap_of}, declared.events.Place.{Place}};
 ghost use Rattle.orc_ordered_chains.specs.Chains.{IsPath};
 ghost use Rattle.orc_ordered_search.specs.{Entries.{entry_by}, Searches.{HasRoom}, Turns.{AnswersTurn, AnswersTurns}};
 ghost use Rattle.orc_split_rule.specs.{SplitDiscipline.{greatest}, SplitOrder.{key_place}, declared.split.SplitNote.{SplitNote}};
 ghost use Rattle.orc_split_set.specs.{
+  FewEvents.{MadeFewBySearch},
   Looks.{HasStart, LoadsFew, MayEnd, ReachesIn, bucket_now, root_loads, search_loads},
   SplitSearches.{BeginsAt, split_reading},
 };
@@ -34,6 +35,7 @@ fn call_from<L: Links<Rule = Split>>(
         × BeginsAt (L.numbers links.now) start (key_place key) left s (L.seat links.now p.old) }
     ensures pass { L.belongs links.now p.new }
     ensures later { IsPrefix (L.journal p.old) (L.journal p.new) }
+    ensures tries { MadeFewBySearch 4 1 0 (L.seat links.now p.old) (L.seat links.now p.new) }
     ensures answered { (start : Place) (s : Seat SplitNote) → HasRoom s.slots
         → BeginsAt (L.numbers links.now) start (key_place key) left s (L.seat links.now p.old)
         → AnswersTurn (split_reading (L.numbers links.now)) (λ yes. entry_by call s.agent key yes) s result (L.seat links.now p.new) }
@@ -59,6 +61,7 @@ fn call_turn<L: Links<Rule = Split>>(
     requires room { HasRoom (L.seat links.now p.old).slots }
     ensures pass { L.belongs links.now p.new }
     ensures later { IsPrefix (L.journal p.old) (L.journal p.new) }
+    ensures tries { (k : ℕ) → most ≤ 2 ^ k → MadeFewBySearch (6 + 2 * k) 1 0 (L.seat links.now p.old) (L.seat links.now p.new) }
     ensures answered { AnswersTurn (split_reading (L.numbers links.now)) (λ yes. entry_by call (L.seat links.now p.old).agent key yes)
         (L.seat links.now p.old) result (L.seat links.now p.new) }
     ensures few { call ≡ Call.Ask
@@ -88,6 +91,7 @@ pub(crate) fn call_turns<L: Links<Rule = Split>>(
     requires room { HasRoom (L.seat links.now p.old).slots }
     ensures pass { L.belongs links.now p.new }
     ensures later { IsPrefix (L.journal p.old) (L.journal p.new) }
+    ensures tries { (k : ℕ) → most ≤ 2 ^ k → MadeFewBySearch (6 + 2 * k) turns 0 (L.seat links.now p.old) (L.seat links.now p.new) }
     ensures answered { AnswersTurns (split_reading (L.numbers links.now)) (λ yes. entry_by call (L.seat links.now p.old).agent key yes) turns
         (L.seat links.now p.old) result (L.seat links.now p.new) }
     ensures few { call ≡ Call.Ask

@@ -1,8 +1,8 @@
 //! Where a search begins: at the dummy of the nearest bucket that has one.
 
-ghost use Rattle.std.specs.Prelude.{◌≡◌, ◌≤◌, ◌<◌, ◌+◌, ◌/◌, List, None, Some, []};
+ghost use Rattle.std.specs.Prelude.{◌≡◌, ◌≤◌, ◌<◌, ◌+◌, ◌/◌, ◌*◌, ◌^◌, List, None, Some, [], ℕ};
 ghost use mathlib.Core.List.{IsPrefix};
-ghost use Rattle.orc_heap.specs.{Seats.{Seat, heap_of}, declared.events.Event.{Event}};
+ghost use Rattle.orc_heap.specs.{Domains.{MakesAtMost}, Seats.{Seat, heap_of}, declared.events.Event.{Event}};
 ghost use Rattle.orc_ordered_search.specs.Searches.{HasRoom, Quiet};
 ghost use Rattle.orc_split_rule.specs.{
   SplitDiscipline.{IsSize, greatest, size_of},
@@ -48,6 +48,7 @@ fn begin_at<L: Links<Rule = Split>>(
         → (L.seat links.now p.old).slots ≡ s.slots → GoesNear (L.numbers links.now) new size s result (L.seat links.now p.new) }
     ensures held { result ≡ None → (L.seat links.now p.new).slots ≡ (L.seat links.now p.old).slots }
     ensures agent { (L.seat links.now p.new).agent ≡ (L.seat links.now p.old).agent }
+    ensures tries { MakesAtMost L.Links links.now 2 p.old p.new }
     ensures few { (begun : Begun) → result ≡ Some begun → LoadsFew (root_loads (bucket_of (node_value new) size)) (L.seat links.now p.old)
         (L.seat links.now p.new) }
     ensures none { result ≡ None → HasStart (heap_of (L.numbers links.now) (L.seat links.now p.old)) (bucket_of (node_value new) size)
@@ -79,6 +80,8 @@ pub(crate) fn begin_near<L: Links<Rule = Split>>(
     requires room { HasRoom (L.seat links.now p.old).slots }
     ensures pass { L.belongs links.now p.new }
     ensures later { IsPrefix (L.journal p.old) (L.journal p.new) }
+    ensures agent { (L.seat links.now p.new).agent ≡ (L.seat links.now p.old).agent }
+    ensures tries { (k : ℕ) → size ≤ 2 ^ k → MakesAtMost L.Links links.now (2 * k) p.old p.new }
     ensures begun { (s : Seat SplitNote) (own : List (Event SplitNote)) → Quiet (split_reading (L.numbers links.now)) s own (L.seat links.now p.old)
         → (L.seat links.now p.old).slots ≡ s.slots → BeginsByBucket (L.numbers links.now) new size s result (L.seat links.now p.new) }
     ensures few { HasStart (heap_of (L.numbers links.now) (L.seat links.now p.old)) (bucket_of (node_value new) size)
@@ -106,6 +109,8 @@ pub(crate) fn begin<L: Links<Rule = Split>>(
     requires room { HasRoom (L.seat links.now p.old).slots }
     ensures pass { L.belongs links.now p.new }
     ensures later { IsPrefix (L.journal p.old) (L.journal p.new) }
+    ensures agent { (L.seat links.now p.new).agent ≡ (L.seat links.now p.old).agent }
+    ensures tries { (k : ℕ) → most ≤ 2 ^ k → MakesAtMost L.Links links.now (2 + 2 * k) p.old p.new }
     ensures begun { BeginsKey (L.numbers links.now) key (L.seat links.now p.old) result (L.seat links.now p.new) }
     ensures few { HasStart (heap_of (L.numbers links.now) (L.seat links.now p.old))
         (bucket_of key (size_of (L.numbers links.now) (L.seat links.now p.old).seen))

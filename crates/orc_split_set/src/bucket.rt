@@ -1,8 +1,9 @@
 //! What a call does before its turns: its key's bucket gets a dummy, and a root that names it.
 
-ghost use Rattle.std.specs.Prelude.{◌≡◌, ◌<◌, ◌≤◌, ◌+◌, ◌++◌, [], ℕ, List, None};
+ghost use Rattle.std.specs.Prelude.{◌≡◌, ◌<◌, ◌≤◌, ◌+◌, ◌*◌, ◌^◌, ◌++◌, [], ℕ, List, None};
 ghost use mathlib.Core.List.{IsPrefix};
 ghost use Rattle.orc_heap.specs.{
+  Domains.{MakesAtMost},
   Seats.{IsIdle, Seat, heap_of},
   Slots.{Holds, id_in},
   declared.events.{Event.{Event}, Place.{Place}},
@@ -17,6 +18,7 @@ ghost use Rattle.orc_split_rule.specs.{
 };
 ghost use Rattle.orc_split_set.specs.{
   Crowds.{seat_after},
+  FewEvents.{MadeFewBySearch},
   Looks.{HasStart, LoadsFew, bucket_now, root_loads},
   Rootings.{Anchors, AnchorsAndGoes, Prepares, Roots},
   SetCalls.{NewTells, PartTells},
@@ -54,6 +56,7 @@ fn anchor<L: Links<Rule = Split>>(links: &L, p: &mut L::Pass, bucket: u32, dummy
         × IsDummy (heap_of (L.numbers links.now) (L.seat links.now p.old)) (id_in (L.seat links.now p.old).slots dummy.now) bucket }
     ensures pass { L.belongs links.now p.new }
     ensures later { IsPrefix (L.journal p.old) (L.journal p.new) }
+    ensures tries { MakesAtMost L.Links links.now 1 p.old p.new }
     ensures anchored { Anchors (L.numbers links.now) bucket (L.seat links.now p.old) result (L.seat links.now p.new) }
     ensures told { NewTells L.Links links.now result p.old p.new }
 {
@@ -82,6 +85,7 @@ fn anchor_and_go<L: Links<Rule = Split>>(
         × IsDummy (heap_of (L.numbers links.now) (L.seat links.now p.old)) (id_in (L.seat links.now p.old).slots dummy) bucket }
     ensures pass { L.belongs links.now p.new }
     ensures later { IsPrefix (L.journal p.old) (L.journal p.new) }
+    ensures tries { MakesAtMost L.Links links.now 1 p.old p.new }
     ensures anchored { AnchorsAndGoes (L.numbers links.now) bucket dummy (L.seat links.now p.old) result (L.seat links.now p.new) }
     ensures told { NewTells L.Links links.now result p.old p.new }
 {
@@ -105,6 +109,9 @@ fn add_dummy<L: Links<Rule = Split>>(
         × FindsAbsent (split_reading (L.numbers links.now)) start (dummy_place bucket) passed left first right s (L.seat links.now p.old) }
     ensures pass { L.belongs links.now p.new }
     ensures later { IsPrefix (L.journal p.old) (L.journal p.new) }
+    ensures tries { (start : Place) (passed : ℕ) (s : Seat SplitNote) → HasRoomFor s.slots → s.fresh ≡ None
+        → FindsAbsent (split_reading (L.numbers links.now)) start (dummy_place bucket) passed left first right s (L.seat links.now p.old)
+        → MadeFewBySearch 4 1 4 s (L.seat links.now p.new) }
     ensures rooted { (start : Place) (passed : ℕ) (s : Seat SplitNote) → HasRoomFor s.slots → s.fresh ≡ None
         → FindsAbsent (split_reading (L.numbers links.now)) start (dummy_place bucket) passed left first right s (L.seat links.now p.old)
         → Roots (L.numbers links.now) bucket s result (L.seat links.now p.new) }
@@ -146,6 +153,7 @@ fn root_from<L: Links<Rule = Split>>(
         × BeginsAt (L.numbers links.now) start (dummy_place bucket) left s (L.seat links.now p.old) }
     ensures pass { L.belongs links.now p.new }
     ensures later { IsPrefix (L.journal p.old) (L.journal p.new) }
+    ensures tries { MadeFewBySearch 4 1 4 (L.seat links.now p.old) (L.seat links.now p.new) }
     ensures rooted { (start : Place) (s : Seat SplitNote) → HasRoomFor s.slots → s.fresh ≡ None
         → BeginsAt (L.numbers links.now) start (dummy_place bucket) left s (L.seat links.now p.old)
         → Roots (L.numbers links.now) bucket s result (L.seat links.now p.new) }
@@ -177,6 +185,7 @@ fn root_from<L: Links<Rule = Split>>(
 fn size_within(bucket: u32, most: u32) -> u32
     requires bucket { 1 ≤ bucket }
     ensures low { result ≤ bucket }
+    ensures within { result ≤ most }
     ensures size { (all : ℕ) → IsSize all most → IsSize all result }
 {
     let mut size = most;
@@ -195,6 +204,7 @@ fn root_near<L: Links<Rule = Split>>(links: &L, p: &mut L::Pass, bucket: u32, si
         × ((L.seat links.now p.old).slots ≡ s.slots) × IsIdle s }
     ensures pass { L.belongs links.now p.new }
     ensures later { IsPrefix (L.journal p.old) (L.journal p.new) }
+    ensures tries { (k : ℕ) → size ≤ 2 ^ k → MadeFewBySearch (4 + 2 * k) 1 4 (L.seat links.now p.old) (L.seat links.now p.new) }
     ensures rooted { (s : Seat SplitNote) (own : List (Event SplitNote)) → Quiet (split_reading (L.numbers links.now)) s own (L.seat links.now p.old)
         → (L.seat links.now p.old).slots ≡ s.slots → IsIdle s → Roots (L.numbers links.now) bucket s result (L.seat links.now p.new) }
     ensures told { PartTells L.Links links.now result p.old p.new }
@@ -213,6 +223,7 @@ fn root_bucket<L: Links<Rule = Split>>(links: &L, p: &mut L::Pass, bucket: u32, 
     requires idle { IsIdle (L.seat links.now p.old) }
     ensures pass { L.belongs links.now p.new }
     ensures later { IsPrefix (L.journal p.old) (L.journal p.new) }
+    ensures tries { (k : ℕ) → size ≤ 2 ^ k → MadeFewBySearch (4 + 2 * k) 1 6 (L.seat links.now p.old) (L.seat links.now p.new) }
     ensures rooted { Roots (L.numbers links.now) bucket (L.seat links.now p.old) result (L.seat links.now p.new) }
     ensures told { PartTells L.Links links.now result p.old p.new }
     ensures few { HasStart (heap_of (L.numbers links.now) (L.seat links.now p.old)) bucket
@@ -245,6 +256,7 @@ pub(crate) fn prepare<L: Links<Rule = Split>>(
     requires idle { IsIdle (L.seat links.now p.old) }
     ensures pass { L.belongs links.now p.new }
     ensures later { IsPrefix (L.journal p.old) (L.journal p.new) }
+    ensures tries { (k : ℕ) → most ≤ 2 ^ k → MadeFewBySearch (6 + 2 * k) 1 6 (L.seat links.now p.old) (L.seat links.now p.new) }
     ensures idle { IsIdle (L.seat links.now p.new) }
     ensures prepared { Prepares (L.numbers links.now) key turns (L.seat links.now p.old) result (L.seat links.now p.new) }
     ensures told { PartTells L.Links links.now result p.old p.new }

@@ -2,7 +2,7 @@
 
 ghost use Rattle.std.specs.Prelude.{◌≡◌, ◌*◌, ◌≤◌, ◌↔◌, None, Some, true};
 ghost use mathlib.Core.List.{IsPrefix};
-ghost use Rattle.orc_heap.specs.{Seats.{IsIdle, heap_of}, Slots.{IsFree, id_in}};
+ghost use Rattle.orc_heap.specs.{Domains.{MakesAtMost}, Seats.{IsIdle, heap_of}, Slots.{IsFree, id_in}};
 ghost use Rattle.orc_ordered_search.specs.Searches.{HoldsIfAny, target_at};
 ghost use Rattle.orc_split_rule.specs.{SplitDiscipline.{greatest}, Watches.{StandsFor}};
 ghost use Rattle.orc_split_set.specs.{
@@ -44,6 +44,7 @@ fn double<L: Links<Rule = Split>>(
     requires fresh { (L.seat links.now p.old).fresh ≡ None }
     ensures pass { L.belongs links.now p.new }
     ensures later { IsPrefix (L.journal p.old) (L.journal p.new) }
+    ensures tries { MakesAtMost L.Links links.now 4 p.old p.new }
     ensures doubled { Doubles (L.numbers links.now) (ShowsSize (L.numbers links.now) (target_at (L.seat links.now p.old).slots old.now)
         (L.seat links.now p.old)) (L.seat links.now p.old) result (L.seat links.now p.new) }
     ensures told { NewTells L.Links links.now result p.old p.new }
@@ -76,6 +77,7 @@ fn double_held<L: Links<Rule = Split>>(links: &L, p: &mut L::Pass, most: u32, no
     requires fresh { (L.seat links.now p.old).fresh ≡ None }
     ensures pass { L.belongs links.now p.new }
     ensures later { IsPrefix (L.journal p.old) (L.journal p.new) }
+    ensures tries { MakesAtMost L.Links links.now 4 p.old p.new }
     ensures doubled { DoublesAndGoes (L.numbers links.now) (ShowsSize (L.numbers links.now) (Some (id_in (L.seat links.now p.old).slots node))
         (L.seat links.now p.old)) node (L.seat links.now p.old) result (L.seat links.now p.new) }
     ensures told { NewTells L.Links links.now result p.old p.new }
@@ -94,6 +96,7 @@ fn grow<L: Links<Rule = Split>>(links: &L, p: &mut L::Pass, most: u32) -> Rooted
     requires idle { IsIdle (L.seat links.now p.old) }
     ensures pass { L.belongs links.now p.new }
     ensures later { IsPrefix (L.journal p.old) (L.journal p.new) }
+    ensures tries { MakesAtMost L.Links links.now 6 p.old p.new }
     ensures doubled { Doubles (L.numbers links.now) (Unit {0}) (L.seat links.now p.old) result (L.seat links.now p.new) }
     ensures told { PartTells L.Links links.now result p.old p.new }
 {
@@ -126,6 +129,7 @@ pub(crate) fn grow_after<L: Links<Rule = Split>>(
     requires idle { IsIdle (L.seat links.now p.old) }
     ensures pass { L.belongs links.now p.new }
     ensures later { IsPrefix (L.journal p.old) (L.journal p.new) }
+    ensures tries { MakesAtMost L.Links links.now 6 p.old p.new }
     ensures grown { GrowsAfter (L.numbers links.now) turn (L.seat links.now p.old) result (L.seat links.now p.new) }
     ensures told { PartTells L.Links links.now result p.old p.new }
 {

@@ -1,9 +1,9 @@
 //! Adding a key.
 
-ghost use Rattle.std.specs.Prelude.{◌≡◌, ◌<◌, ◌≤◌, ℕ, None, Option, true};
+ghost use Rattle.std.specs.Prelude.{◌≡◌, ◌<◌, ◌≤◌, ◌+◌, ◌*◌, ◌^◌, ℕ, None, Option, true};
 ghost use mathlib.Core.List.{IsPrefix};
 ghost use Rattle.orc_fault.specs.declared.Spent.{Spent};
-ghost use Rattle.orc_heap.specs.{Seats.{IsIdle, Seat, heap_of}, Slots.{Slots}, declared.events.Place.{Place}};
+ghost use Rattle.orc_heap.specs.{Moves.{gives_in}, Seats.{IsIdle, Seat, heap_of}, Slots.{Slots}, declared.events.Place.{Place}};
 ghost use Rattle.orc_history.specs.{declared.set.SetEntry.{SetEntry}, Parts.{WithinPart}};
 ghost use Rattle.orc_ordered_search.specs.{
   Inserts.{HasRoomFor, InsertAnswers, Inserts, InsertsTurns, KeepsNode, SeesAbsent, answer_by},
@@ -11,7 +11,7 @@ ghost use Rattle.orc_ordered_search.specs.{
   declared.turn.InsertTurn.{InsertTurn},
 };
 ghost use Rattle.orc_split_rule.specs.{SplitDiscipline.{greatest}, SplitOrder.{key_place}, declared.split.SplitNote.{SplitNote}};
-ghost use Rattle.orc_split_set.specs.{Crowds.{BeginsBy, CountsFrom, CountsKeys}, SplitSearches.{BeginsAt, split_reading}};
+ghost use Rattle.orc_split_set.specs.{Crowds.{BeginsBy, CountsFrom, CountsKeys}, FewEvents.{MadeFewBySearch}, SplitSearches.{BeginsAt, split_reading}};
 
 use crate::begin::{Begun, begin};
 use crate::node::NewNode;
@@ -37,6 +37,8 @@ fn insert_from<L: Links<Rule = Split>>(
         × BeginsAt (L.numbers links.now) start (key_place key) left s (L.seat links.now p.old) }
     ensures pass { L.belongs links.now p.new }
     ensures later { IsPrefix (L.journal p.old) (L.journal p.new) }
+    ensures tries { MadeFewBySearch 4 1 (3 * gives_in (made_from (L.seat links.now p.old) (L.seat links.now p.new)))
+        (L.seat links.now p.old) (L.seat links.now p.new) }
     ensures inserted { (start : Place) (slots : Slots) (s : Seat SplitNote) → HasRoomFor slots
         → KeepsNode (split_reading (L.numbers links.now)) key 1 node slots s
         → BeginsAt (L.numbers links.now) start (key_place key) left s (L.seat links.now p.old)
@@ -75,6 +77,8 @@ fn insert_turn<L: Links<Rule = Split>>(
     requires keeps { (slots : Slots) × HasRoomFor slots × KeepsNode (split_reading (L.numbers links.now)) key 1 node slots (L.seat links.now p.old) }
     ensures pass { L.belongs links.now p.new }
     ensures later { IsPrefix (L.journal p.old) (L.journal p.new) }
+    ensures tries { (k : ℕ) → most ≤ 2 ^ k → MadeFewBySearch (6 + 2 * k) 1 (3 * gives_in (made_from (L.seat links.now p.old) (L.seat links.now p.new)))
+        (L.seat links.now p.old) (L.seat links.now p.new) }
     ensures inserted { (slots : Slots) → HasRoomFor slots → KeepsNode (split_reading (L.numbers links.now)) key 1 node slots (L.seat links.now p.old)
         → Inserts (split_reading (L.numbers links.now)) key 1 (λ answer. SetEntry.Added (L.seat links.now p.old).agent key answer) 1 slots node
         (L.seat links.now p.old) result.0 result.1 (L.seat links.now p.new) }
@@ -108,6 +112,8 @@ fn insert_turns<L: Links<Rule = Split>>(
     requires fresh { (L.seat links.now p.old).fresh ≡ None }
     ensures pass { L.belongs links.now p.new }
     ensures later { IsPrefix (L.journal p.old) (L.journal p.new) }
+    ensures tries { (k : ℕ) → most ≤ 2 ^ k → MadeFewBySearch (6 + 2 * k) turns (3 * gives_in (made_from (L.seat links.now p.old) (L.seat links.now p.new)))
+        (L.seat links.now p.old) (L.seat links.now p.new) }
     ensures inserted { InsertsTurns (split_reading (L.numbers links.now)) key 1 (λ answer. SetEntry.Added (L.seat links.now p.old).agent key answer) turns
         (L.seat links.now p.old) result.0 result.1 (L.seat links.now p.new) }
     ensures counted { (many : ℕ) → result.0 ≡ InsertTurn.Answered true many → CountsKeys (L.numbers links.now) key (L.seat links.now p.old) many
@@ -145,6 +151,8 @@ pub(crate) fn insert_key<L: Links<Rule = Split>>(
     requires idle { IsIdle (L.seat links.now p.old) }
     ensures pass { L.belongs links.now p.new }
     ensures later { IsPrefix (L.journal p.old) (L.journal p.new) }
+    ensures tries { (k : ℕ) → most ≤ 2 ^ k → MadeFewBySearch (6 + 2 * k) turns (3 * gives_in (made_from (L.seat links.now p.old) (L.seat links.now p.new)))
+        (L.seat links.now p.old) (L.seat links.now p.new) }
     ensures inserted { InsertAnswers (split_reading (L.numbers links.now)) (λ answer. SetEntry.Added (L.seat links.now p.old).agent key answer) turns
         (L.seat links.now p.old) (answer_by result) (L.seat links.now p.new) }
     ensures counted { (many : ℕ) → result ≡ InsertTurn.Answered true many → CountsKeys (L.numbers links.now) key (L.seat links.now p.old) many

@@ -7,7 +7,7 @@ ghost use Rattle.orc_history.specs.{Journals.{Within}, declared.set.{ListRefused
 ghost use Rattle.orc_ordered_search.specs.Entries.{entry_by};
 ghost use Rattle.orc_split_rule.specs.SplitDiscipline.{IsSize};
 ghost use Rattle.orc_split_set.specs.{
-  SetCalls.{Enters, EntersNone, FindsAbsent, FindsWorn, GivesAtMost, GrowsCrowded, HadSize, HasCause, IsUsable, LacksRow, LinksDummy, LooksFew, RootsBucket, UsesAllTurns, set_history},
+  SetCalls.{Enters, EntersNone, FindsAbsent, FindsWorn, GivesAtMost, GrowsCrowded, HadSize, HasCause, IsUsable, LacksRow, LinksDummy, LooksFew, MakesFewBySearch, RootsBucket, UsesAllTurns, set_history},
   Rootings.{IsRootSet},
   Stops.{HasDummyOnChain},
   Laws.SetLaws.{cause_stays, entries_below, history_grows, seen_legal},
@@ -99,6 +99,7 @@ impl<L: Links<Rule = Split>> SplitSet<L> {
         ensures no_turns { turns ≡ 0 → IsErr result }
         ensures no_event { turns ≡ 0 → MakesNoEvent L.Links self.now.links p.old p.new }
         ensures again { IfErr result (λ e. UsesAllTurns L.Links self.now.links turns p.old p.new) }
+        ensures tries { MakesFewBySearch L.Links self.now.links (turns + 1) 6 p.old p.new }
         ensures gives { GivesAtMost L.Links self.now.links 1 p.old p.new }
         ensures settled { IsCallAlone L.Links self.now.links p.old p.new → L.backlog p.new ≡ 0 }
     {
@@ -126,11 +127,15 @@ impl<L: Links<Rule = Split>> SplitSet<L> {
         ensures later { IsPrefix (L.journal p.old) (L.journal p.new) }
         ensures added { IfOk result (λ yes. Enters L.Links self.now.links p.old p.new (λ agent. SetEntry.Added agent key yes ∷ [])) }
         ensures none { IfErr result (λ e. EntersNone L.Links self.now.links p.old p.new) }
+        ensures no_turns { turns ≡ 0 → result ≡ Err ListRefused.Again }
+        ensures no_event { turns ≡ 0 → MakesNoEvent L.Links self.now.links p.old p.new }
         ensures again { result ≡ Err ListRefused.Again → UsesAllTurns L.Links self.now.links turns p.old p.new }
         ensures no_node { result ≡ Err ListRefused.NoNode → LacksRow L.Links self.now.links p.old p.new }
         ensures absent { result ≡ Err ListRefused.NoNode → FindsAbsent L.Links self.now.links key p.old p.new }
         ensures spent { (why : Spent) → result ≡ Err (ListRefused.Spent why) → FindsWorn L.Links self.now.links why p.old p.new }
+        ensures tries { MakesFewBySearch L.Links self.now.links turns 3 p.old p.new }
         ensures gives { GivesAtMost L.Links self.now.links 1 p.old p.new }
+        ensures settled { IsCallAlone L.Links self.now.links p.old p.new → L.backlog p.new ≡ 0 }
     {
         let turn = insert_key(&self.links, p, self.greatest, key, turns);
         self.links.settle(p);
@@ -225,6 +230,7 @@ impl<L: Links<Rule = Split>> SharedSet for SplitSet<L> {
         ensures no_node { result ≡ Err ListRefused.NoNode → LacksRow L.Links self.now.links p.old p.new }
         ensures absent { result ≡ Err ListRefused.NoNode → FindsAbsent L.Links self.now.links key p.old p.new }
         ensures spent { (why : Spent) → result ≡ Err (ListRefused.Spent why) → FindsWorn L.Links self.now.links why p.old p.new }
+        ensures tries { MakesFewBySearch L.Links self.now.links (turns + 1) 15 p.old p.new }
         ensures gives { GivesAtMost L.Links self.now.links 3 p.old p.new }
         ensures settled { IsCallAlone L.Links self.now.links p.old p.new → L.backlog p.new ≡ 0 }
     {
@@ -248,6 +254,7 @@ impl<L: Links<Rule = Split>> SharedSet for SplitSet<L> {
         ensures no_turns { turns ≡ 0 → IsErr result }
         ensures no_event { turns ≡ 0 → MakesNoEvent L.Links self.now.links p.old p.new }
         ensures again { IfErr result (λ e. UsesAllTurns L.Links self.now.links turns p.old p.new) }
+        ensures tries { MakesFewBySearch L.Links self.now.links (turns + 1) 6 p.old p.new }
         ensures gives { GivesAtMost L.Links self.now.links 1 p.old p.new }
         ensures settled { IsCallAlone L.Links self.now.links p.old p.new → L.backlog p.new ≡ 0 }
     {
@@ -268,6 +275,7 @@ impl<L: Links<Rule = Split>> SharedSet for SplitSet<L> {
         ensures no_turns { turns ≡ 0 → IsErr result }
         ensures no_event { turns ≡ 0 → MakesNoEvent L.Links self.now.links p.old p.new }
         ensures again { IfErr result (λ e. UsesAllTurns L.Links self.now.links turns p.old p.new) }
+        ensures tries { MakesFewBySearch L.Links self.now.links (turns + 1) 6 p.old p.new }
         ensures gives { GivesAtMost L.Links self.now.links 1 p.old p.new }
         ensures settled { IsCallAlone L.Links self.now.links p.old p.new → L.backlog p.new ≡ 0 }
     {

@@ -2,6 +2,9 @@
 use Rattle.std.proofs.Common.{refl}
 use Rattle.orc_split_set.proofs.Crowding.{seen_grows}
 use Rattle.orc_split_set.proofs.Looking.{found_few}
+use Rattle.orc_ordered_search.specs.Entries.{entry_by}
+use Rattle.orc_split_set.specs.SplitSearches.{split_reading}
+use Rattle.orc_split_set.proofs.FewEvents.{few_search, turn_agent}
 use Rattle.orc_split_set.proofs.answer.call_from.Goals as goal
 
 pub answer_found-requires-clause-root : goal.answer_found-requires-clause-root
@@ -27,3 +30,14 @@ returns-clause-few g c = λ asks start s room b nodes to path ends.
     (g.met.L.Links.seen_is d c.answer_found.new.p e.pass) in
     found_few (g.L.Links.numbers d) start c.args.key s t u (g.met.L.Links.obeys d c.search_for-found.new.p x.pass)
     (g.met.L.Links.allowed d c.search_for-found.new.p x.pass) grows nodes to path ends c.search_for-found.result (x.found start s room b) (e.load asks)
+
+pub returns-clause-tries : goal.returns-clause-tries
+returns-clause-tries g c =
+    let d = c.args.links.now in
+    let (start, s, room, b) = c.requires.begins in
+    let u = g.L.Links.seat d c.answer_found.new.p in
+    let finds = c.search_for-found.ensures.found start s room b in
+    let f = c.answer_found.ensures in
+    few_search 4 s (g.L.Links.seat d c.args.p.now) u b.begins.seen b.begins.agent
+    (turn_agent (split_reading (g.L.Links.numbers d)) (λ yes. entry_by c.args.call s.agent c.args.key yes) s u c.answer_found.result (f.answered start s finds))
+    (f.few start s finds)

@@ -1,5 +1,5 @@
 -- Where the turn's search begins, and what it found.
-use Rattle.std.proofs.Common.{refl}
+use Rattle.std.proofs.Common.{arith, refl, ◌*◌, ◌+◌}
 use Rattle.orc_ordered_search.specs.Entries.{entry_by}
 use Rattle.orc_ordered_search.proofs.Making.{found_over}
 use Rattle.orc_split_set.specs.Beginnings.{seat_before}
@@ -8,6 +8,8 @@ use Rattle.orc_split_set.specs.SplitSearches.{split_reading}
 use Rattle.orc_split_set.proofs.Crowding.{own_not_moved, puts_grow, seen_grows}
 use Rattle.orc_split_set.proofs.Looking.{turn_few}
 use Rattle.orc_split_set.proofs.Turning.{turn_after}
+use Rattle.orc_split_set.proofs.Passes.{seen_on}
+use Rattle.orc_split_set.proofs.FewEvents.{few_begun, few_short}
 use Rattle.orc_split_set.proofs.answer.call_turn.Goals as goal
 
 pub call_from-requires-clause-begins : goal.call_from-requires-clause-begins
@@ -52,3 +54,24 @@ returns-in-From-clause-few g c = λ asks has many r.
     (λ nodes to path ends. e.few asks b.start (seat_before s t) c.requires.room b.begins nodes to path ends) (bucket_now n c.args.key s)
     (λ sees. x.few has (record { part = sees.part; is = sees.is; own = sees.own })) has
     (λ sees there. (b.near (record { part = sees.part; is = sees.is; own = sees.own })).1 there) r
+
+pub returns-in-Moved-clause-tries : goal.returns-in-Moved-clause-tries
+returns-in-Moved-clause-tries g c = λ k low.
+    let s = g.L.Links.seat c.args.links.now c.args.p.now in
+    let t = g.L.Links.seat c.args.links.now c.begin.new.p in
+    let d = c.args.links.now in
+    let e = c.in-Moved.ensures in
+    few_short (6 + 2 * k) (2 + 2 * k) 0 s t e.agent
+    (seen_on g.L.Links g.met.L.Links.steps_add g.met.L.Links.seen_is d c.args.p.now c.begin.new.p c.requires.pass e.pass e.later) (e.tries k low) (omega arith)
+
+pub returns-in-From-clause-tries : goal.returns-in-From-clause-tries
+returns-in-From-clause-tries g c = λ k low.
+    let s = g.L.Links.seat c.args.links.now c.args.p.now in
+    let t = g.L.Links.seat c.args.links.now c.begin.new.p in
+    let u = g.L.Links.seat c.args.links.now c.call_from.new.p in
+    let d = c.args.links.now in
+    let e = c.in-From.ensures in
+    let f = c.call_from.ensures in
+    let on = seen_on g.L.Links g.met.L.Links.steps_add g.met.L.Links.seen_is d in
+    few_begun 4 (2 + 2 * k) (6 + 2 * k) 0 s t u e.agent (on c.args.p.now c.begin.new.p c.requires.pass e.pass e.later)
+    (on c.begin.new.p c.call_from.new.p e.pass f.pass f.later) (e.tries k low) f.tries (omega arith)

@@ -13,24 +13,32 @@ use Rattle.orc_split_set.specs.Looks.{HasStart, LoadsFew, ReachesIn, bucket_now,
 use Rattle.orc_split_set.specs.SplitSearches.{split_reading}
 use Rattle.orc_split_set.proofs.Crowding.{own_no_turns, seen_grows}
 use Rattle.orc_split_set.proofs.Looking.{few_none, turns_few}
+use Rattle.orc_split_set.proofs.Passes.{seen_on}
+use Rattle.orc_split_set.proofs.FewEvents.{few_next, few_start, few_wider}
 use Rattle.orc_split_set.proofs.answer.call_turns.Goals as goal
 
 pub loop-init : goal.loop-init
 loop-init g c =
-    record { pass = c.requires.pass; later = ([], append-nil _); tires = tires_none (split_reading _) _ }
+    record { pass = c.requires.pass; later = ([], append-nil _); tires = tires_none (split_reading _) _; few = λ k low. few_start (6 + 2 * k) (g.L.Links.seat c.args.links.now c.args.p.now) }
 
 pub call_turn-requires-clause-room : goal.call_turn-requires-clause-room
 call_turn-requires-clause-room g c = subst (λ (z : Slots). HasRoom z) (sym c.loop.invariant.tires.slots) c.requires.room
 
 pub loop-preserved : goal.loop-preserved
 loop-preserved g c =
+    let s = g.L.Links.seat c.args.links.now c.args.p.now in
+    let t = g.L.Links.seat c.args.links.now c.loop.p in
+    let u = g.L.Links.seat c.args.links.now c.call_turn.new.p in
     let i = c.loop.invariant in
     let e = c.in_default.ensures in
+    let on = seen_on g.L.Links g.met.L.Links.steps_add g.met.L.Links.seen_is c.args.links.now in
     record {
       pass = e.pass;
       later = goes_on _ _ _ i.later e.later;
       tires = tires_next (split_reading _) c.loop.counter _ _ _ i.tires
           e.answered;
+      few = λ k low. few_next (6 + 2 * k) c.loop.counter 1 0 0 s t u (on c.args.p.now c.loop.p c.requires.pass i.pass i.later)
+          (on c.loop.p c.call_turn.new.p i.pass e.pass e.later) (i.few k low) (e.tries k low);
     }
 
 pub returns-in-Some-clause-answered : goal.returns-in-Some-clause-answered
@@ -76,3 +84,21 @@ returns-clause-few g c = λ asks has many r.
     let t = g.L.Links.seat _ c.loop.p in
     let i = c.loop.invariant in
     few_none (6 + 4 * many - root_loads (bucket_now n c.args.key s)) s t (λ sees. own_no_turns n 0 c.loop.counter s t i.tires.own i.tires.over sees)
+
+pub returns-in-Some-clause-tries : goal.returns-in-Some-clause-tries
+returns-in-Some-clause-tries g c = λ k low.
+    let s = g.L.Links.seat c.args.links.now c.args.p.now in
+    let t = g.L.Links.seat c.args.links.now c.loop.p in
+    let u = g.L.Links.seat c.args.links.now c.call_turn.new.p in
+    let i = c.loop.invariant in
+    let e = c.in-Some.ensures in
+    let on = seen_on g.L.Links g.met.L.Links.steps_add g.met.L.Links.seen_is c.args.links.now in
+    few_wider (6 + 2 * k) (c.loop.counter + 1) c.args.turns 0 0 s u (omega (arith, c.loop-test.true)) (omega arith)
+    (few_next (6 + 2 * k) c.loop.counter 1 0 0 s t u (on c.args.p.now c.loop.p c.requires.pass i.pass i.later)
+    (on c.loop.p c.call_turn.new.p i.pass e.pass e.later) (i.few k low) (e.tries k low))
+
+pub returns-clause-tries : goal.returns-clause-tries
+returns-clause-tries g c = λ k low.
+    let s = g.L.Links.seat c.args.links.now c.args.p.now in
+    let t = g.L.Links.seat c.args.links.now c.loop.p in
+    few_wider (6 + 2 * k) c.loop.counter c.args.turns 0 0 s t (omega (arith, c.loop.auto.counter-end)) (omega arith) (c.loop.invariant.few k low)

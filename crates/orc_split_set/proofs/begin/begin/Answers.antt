@@ -1,5 +1,5 @@
 -- The read of the size, and then the roots.
-use Rattle.std.proofs.Common.{subst, sym}
+use Rattle.std.proofs.Common.{arith, subst, sym, ◌∙◌}
 use Rattle.orc_heap.specs.Slots.{Slots}
 use Rattle.orc_ordered_search.specs.Searches.{HasRoom}
 use Rattle.orc_split_set.proofs.Beginning.{begins_key}
@@ -37,3 +37,18 @@ returns-in-Some-clause-few g c = λ has.
 pub returns-in-None-clause-few : goal.returns-in-None-clause-few
 returns-in-None-clause-few g c = λ has k.
     absurd (own_not_moved _ _ _ c.in-None.ensures.read k)
+
+pub returns-in-Some-clause-agent : goal.returns-in-Some-clause-agent
+returns-in-Some-clause-agent g c =
+    c.begin_near.ensures.agent ∙ c.in-Some.ensures.read.quiet.puts.agent
+
+pub returns-in-None-clause-agent : goal.returns-in-None-clause-agent
+returns-in-None-clause-agent g c = c.in-None.ensures.read.quiet.puts.agent
+
+pub returns-in-Some-clause-tries : goal.returns-in-Some-clause-tries
+returns-in-Some-clause-tries g c = λ k low.
+    let e = c.in-Some.ensures in
+    omega (arith, e.tries, c.begin_near.ensures.tries k (omega (arith, e.read.is_size.0, c.requires.most.0, low)))
+
+pub returns-in-None-clause-tries : goal.returns-in-None-clause-tries
+returns-in-None-clause-tries g c = λ k low. omega (arith, c.in-None.ensures.tries)

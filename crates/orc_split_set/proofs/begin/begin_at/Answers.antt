@@ -7,6 +7,7 @@ use Rattle.orc_split_set.proofs.Looking.{half_same, look_agent, none_new, root_f
 use Rattle.orc_ordered_search.proofs.Ranking.{looks_from}
 use Rattle.orc_split_set.proofs.Beginning.{root_at, root_moved, root_null}
 use Rattle.orc_split_set.proofs.Sizes.{looks_none, looks_some}
+use Rattle.orc_split_set.proofs.FewEvents.{look_made}
 use Rattle.orc_split_set.proofs.begin.begin_at.Goals as goal
 
 pub returns-in-Stable-default-Some-clause-begun : goal.returns-in-Stable-default-Some-clause-begun
@@ -71,3 +72,15 @@ returns-in-Stable-default-None-clause-none g c = λ is has k.
     let looks = looks_from _ (Root b) 2 _ _ _ (ap Root same) (looks_none _ 2 x.field-0 x.field-1 _ _ x.field-1-is x.ensures.looked) in
     absurd (start_shown _ _ _ b x.field-0 (omega (arith, c.if-bucket-size.false, same, c.requires.size.1)) looks
     (g.met.L.Links.allowed _ _ x.ensures.pass) has k)
+
+pub returns-in-Stable-default-Some-clause-tries : goal.returns-in-Stable-default-Some-clause-tries
+returns-in-Stable-default-Some-clause-tries g c =
+    look_made _ 2 _ _ _ c.in-Stable-default-Some.ensures.looked
+
+pub returns-in-Stable-default-None-clause-tries : goal.returns-in-Stable-default-None-clause-tries
+returns-in-Stable-default-None-clause-tries g c =
+    look_made _ 2 _ _ _ c.in-Stable-default-None.ensures.looked
+
+pub returns-in-Moved-clause-tries : goal.returns-in-Moved-clause-tries
+returns-in-Moved-clause-tries g c =
+    look_made _ 2 _ _ _ c.in-Moved.ensures.looked

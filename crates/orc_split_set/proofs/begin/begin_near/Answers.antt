@@ -14,6 +14,7 @@ use Rattle.orc_split_set.proofs.Crowding.{own_heap, own_later, own_sooner, puts_
 use Rattle.orc_split_set.proofs.Looking.{few_heap, few_none, few_same}
 use Rattle.orc_split_set.proofs.Passes.{seen_on}
 use Rattle.orc_split_set.proofs.Preparing.{size_some}
+use Rattle.orc_split_set.proofs.FewEvents.{half_level}
 use Rattle.orc_split_set.proofs.begin.begin_near.Goals as goal
 
 pub loop-size-init : goal.loop-size-init
@@ -25,6 +26,7 @@ loop-size-init g c = record {
   begins = c.requires.begins;
   by = omega arith;
   room = c.requires.room;
+  levels = λ k low. (k, low, omega arith);
   agent = refl;
   still = λ has sees. (refl, refl);
   held = λ s own q same. record { own = own; quiet = q; slots = same };
@@ -97,6 +99,10 @@ loop-size-preserved g c =
           let half = half_by (node_value c.args.new) c.loop-size.size i.size.1 (omega (arith, two)) i.size.2 in
           omega (arith, half, i.by);
       room = subst (λ (z : Slots). HasRoom z) (sym (e.held refl)) i.room;
+      levels = λ k low.
+          let (j, high, made) = i.levels k low in
+          let (less, is, half) = half_level c.loop-size.size j (omega (arith, two)) high in
+          (less, half, omega (arith, made, e.tries, is));
       agent = e.agent ∙ i.agent;
       still = λ has sees.
           let (same, seen) = i.still has (own_sooner s0 t u i.grew grows sees) in
@@ -130,3 +136,17 @@ returns-clause-few g c = λ has.
     let v = node_value c.args.new in
     few_none (root_loads (bucket_of v c.args.size)) _ _
     (λ sees. (c.loop-size.invariant.still has sees).1)
+
+pub returns-in-Some-clause-agent : goal.returns-in-Some-clause-agent
+returns-in-Some-clause-agent g c = c.in-Some.ensures.agent ∙ c.loop-size.invariant.agent
+
+pub returns-in-Some-clause-tries : goal.returns-in-Some-clause-tries
+returns-in-Some-clause-tries g c = λ k low.
+    let (j, high, made) = c.loop-size.invariant.levels k low in
+    let (less, is, half) = half_level c.loop-size.size j (omega (arith, c.loop-size-test.true)) high in
+    omega (arith, made, c.in-Some.ensures.tries, is)
+
+pub returns-clause-tries : goal.returns-clause-tries
+returns-clause-tries g c = λ k low.
+    let (j, high, made) = c.loop-size.invariant.levels k low in
+    omega (arith, made)

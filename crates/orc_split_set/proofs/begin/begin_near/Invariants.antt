@@ -1,5 +1,6 @@
 use mathlib.Core.List.{IsPrefix}
-use Rattle.std.proofs.Common.{List, ◌≡◌, ◌≤◌}
+use Rattle.std.proofs.Common.{List, length, ℕ, ◌*◌, ◌+◌, ◌^◌, ◌≡◌, ◌≤◌}
+use Rattle.orc_heap.specs.Domains.{own_events}
 use Rattle.orc_heap.specs.Seats.{Seat, heap_of}
 use Rattle.orc_heap.specs.declared.events.Event.{Event}
 use Rattle.orc_ordered_search.specs.Searches.{HasRoom, Quiet}
@@ -23,6 +24,8 @@ invariant-loop-size g l = record {
   begins : MayBeginAt l.new l.size;
   by : dummy_place (bucket_of (node_value l.new) l.size) ≤ dummy_place (bucket_of (node_value l.new) l.fn.size);
   room : HasRoom (g.L.Links.seat l.links l.p).slots;
+  levels : (k : ℕ) → l.fn.size ≤ 2 ^ k → (j : ℕ) × (l.size ≤ 2 ^ j)
+      × (length (own_events g.L.Links l.links l.p) + 2 * j ≤ length (own_events g.L.Links l.links l.fn.p) + 2 * k);
   agent : (g.L.Links.seat l.links l.p).agent ≡ (g.L.Links.seat l.links l.fn.p).agent;
   still : HasStart (heap_of (g.L.Links.numbers l.links) (g.L.Links.seat l.links l.fn.p)) (bucket_of (node_value l.new) l.fn.size)
       → SeesOwn (g.L.Links.seat l.links l.fn.p) (g.L.Links.seat l.links l.p)

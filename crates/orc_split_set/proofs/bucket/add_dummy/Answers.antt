@@ -1,5 +1,5 @@
 -- With a new node, by what came of it, or without one.
-use Rattle.std.proofs.Common.{Bool, Err, Ok, Some, [], ap, append-nil, false, refl, subst, sym, true, ℕ, ◌∙◌}
+use Rattle.std.proofs.Common.{Bool, Err, Ok, Some, [], ap, append-nil, arith, false, refl, subst, sym, true, ℕ, ◌*◌, ◌+◌, ◌∙◌, ◌≡◌}
 use Rattle.orc_heap.proofs.Pieces.{goes_on}
 use Rattle.orc_heap.specs.Seats.{Seat, heap_of}
 use Rattle.orc_heap.specs.declared.events.Place.{Place}
@@ -21,6 +21,17 @@ use Rattle.orc_split_set.proofs.Stopping.{linked_stands, turn_held}
 use Rattle.orc_split_set.proofs.Telling.{told_refused, told_wider}
 use Rattle.orc_split_set.proofs.bucket.add_dummy.Given.{Over}
 use Rattle.orc_split_set.proofs.bucket.add_dummy.Goals.{In-Ok, In-Ok-true}
+use Rattle.orc_ordered_search.proofs.Seen.{absent_few}
+use Rattle.orc_ordered_search.proofs.Since.{few_made}
+use Rattle.orc_ordered_search.specs.Inserts.{NodeToAdd}
+use Rattle.orc_ordered_search.specs.Turns.{made_from}
+use Rattle.orc_ordered_search.specs.Ways.{IsFew}
+use Rattle.orc_split_rule.specs.SplitDiscipline.{SplitHolds, SplitMay}
+use Rattle.orc_split_rule.specs.declared.split.SplitNote.TheVariants.{Bucket}
+use Rattle.orc_split_set.specs.FewEvents.{MadeFewBySearch}
+use Rattle.orc_split_set.proofs.Crowding.{puts_grow}
+use Rattle.orc_split_set.proofs.Passes.{seen_on}
+use Rattle.orc_split_set.proofs.FewEvents.{few_dummy, few_ended, few_search, few_still, few_wider}
 use Rattle.orc_split_set.proofs.bucket.add_dummy.Goals as goal
 
 -- a dummy was given
@@ -159,3 +170,64 @@ returns-in-Err-clause-told g c =
     let e = c.in-Err.ensures in
     told_refused g.L.Links g.met.L.Links.lacking_stays g.met.L.Links.worn_stays c.args.links.now c.args.p.now c.give.new.p _
     e.later c.let_all_go.ensures.later e.lacking
+
+-- the search, and what linked the dummy or didn't
+pub tried : (g : Over) (c : In-Ok g) → let d = c.args.links.now in let n = g.L.Links.numbers d in let a = c.args in
+    (s u : Seat SplitNote) (w : HasNewDummy n a.bucket a.left a.first a.right c.in-Ok.dummy s (g.L.Links.seat d c.give.new.p))
+    → ((x : NodeToAdd (split_reading n) (SplitHolds n) (SplitMay n) 0 Bucket a.left a.first a.right c.in-Ok.dummy (g.L.Links.seat d c.give.new.p))
+    → IsFew (4 + 3 * x.given) (made_from x.begun u)) → u.agent ≡ s.agent → MadeFewBySearch 4 1 3 s u
+tried g c = λ s u w few same.
+    let a = c.args in
+    few_dummy s u same (few (dummy_to_add _ a.bucket a.left a.first a.right c.in-Ok.dummy s _ w c.requires.bucket.0 c.requires.bucket.1))
+
+pub returns-in-Ok-true-clause-tries : goal.returns-in-Ok-true-clause-tries
+returns-in-Ok-true-clause-tries g c = λ start passed s room fresh f.
+    let u = g.L.Links.seat c.args.links.now c.add_node.new.p in
+    let v = g.L.Links.seat c.args.links.now c.anchor_and_go.new.p in
+    let d = c.args.links.now in
+    let w = new_dummy g (goal.at.returns-in-Ok-true-clause-tries g c).In-Ok start passed s room f in
+    let added = linked g (goal.at.returns-in-Ok-true-clause-tries g c).In-Ok-true s w in
+    let e = c.in-Ok-true.ensures in
+    let h = c.anchor_and_go.ensures in
+    few_ended 4 3 1 s u v (puts_grow s u _ added.made.puts)
+    (h.anchored.gone.puts.agent ∙ h.anchored.anchors.tried.puts.agent)
+    (seen_on g.L.Links g.met.L.Links.steps_add g.met.L.Links.seen_is d c.add_node.new.p c.anchor_and_go.new.p e.pass h.pass h.later) h.tries
+    (tried g (goal.at.returns-in-Ok-true-clause-tries g c).In-Ok s u w e.few added.made.puts.agent)
+
+pub returns-in-Ok-false-clause-tries : goal.returns-in-Ok-false-clause-tries
+returns-in-Ok-false-clause-tries g c = λ start passed s room fresh f.
+    let u = g.L.Links.seat c.args.links.now c.add_node.new.p in
+    let v = g.L.Links.seat c.args.links.now c.release.new.p in
+    let a = c.args in
+    let w = new_dummy g (goal.at.returns-in-Ok-false-clause-tries g c).In-Ok start passed s room f in
+    let missed = dummy_added _ a.bucket a.left a.first a.right c.in-Ok.dummy s _ _ w c.requires.bucket.0 c.requires.bucket.1 (Ok c.in-Ok-false.field-0) (Ok false)
+    (ap (λ (b : Bool). Ok b) c.in-Ok-false.field-0-test) c.in-Ok-false.ensures.added in
+    few_wider 4 1 1 3 4 s v (omega arith) (omega arith) (few_still 4 1 3 s u v (puts_grow s u _ missed.over.made.puts) c.release.ensures.released.puts
+    (tried g (goal.at.returns-in-Ok-false-clause-tries g c).In-Ok s u w c.in-Ok-false.ensures.few missed.over.made.puts.agent))
+
+pub returns-in-Err-add_node-clause-tries : goal.returns-in-Err-add_node-clause-tries
+returns-in-Err-add_node-clause-tries g c = λ start passed s room fresh f.
+    let u = g.L.Links.seat c.args.links.now c.add_node.new.p in
+    let v = g.L.Links.seat c.args.links.now c.release-in-Err-add_node.new.p in
+    let a = c.args in
+    let w = new_dummy g (goal.at.returns-in-Err-add_node-clause-tries g c).In-Ok start passed s room f in
+    let refused = dummy_added _ a.bucket a.left a.first a.right c.in-Ok.dummy s _ _ w c.requires.bucket.0 c.requires.bucket.1 (Err c.in-Err-add_node.spent) (Err c.in-Err-add_node.spent) refl
+    c.in-Err-add_node.ensures.added in
+    few_wider 4 1 1 3 4 s v (omega arith) (omega arith) (few_still 4 1 3 s u v (puts_grow s u _ refused.made.puts)
+    c.release-in-Err-add_node.ensures.released.puts
+    (tried g (goal.at.returns-in-Err-add_node-clause-tries g c).In-Ok s u w c.in-Err-add_node.ensures.few refused.made.puts.agent))
+
+pub returns-in-Err-clause-tries : goal.returns-in-Err-clause-tries
+returns-in-Err-clause-tries g c = λ start passed s room fresh f.
+    let t = g.L.Links.seat c.args.links.now c.args.p.now in
+    let u = g.L.Links.seat c.args.links.now c.give.new.p in
+    let v = g.L.Links.seat c.args.links.now c.let_all_go.new.p in
+    let a = c.args in
+    let q = f.behind.quiet.puts in
+    let none = c.in-Err.ensures.none.puts in
+    let few = few_search 4 s s t refl refl q.agent (few_made 2 4 s t f.own q
+    (absent_few (split_reading _) start (dummy_place a.bucket) passed a.left a.first a.right s t f) (omega arith)) in
+    let hand = absent_hand_on (split_ordering _) start (dummy_place a.bucket) passed a.bucket 0 a.left a.first a.right s _ _ f room.one c.in-Err.ensures.none
+    (g.met.L.Links.allowed _ _ c.in-Err.ensures.pass) in
+    few_wider 4 1 1 0 4 s v (omega arith) (omega arith) (few_still 4 1 0 s u v (goes_on _ _ _ (puts_grow s t _ q) (puts_grow t u _ none))
+    (c.let_all_go.ensures.gone s.slots hand).puts (few_still 4 1 0 s t u (puts_grow s t _ q) none few))

@@ -1,9 +1,11 @@
 -- The swing of the bucket's root.
-use Rattle.std.proofs.Common.{[], refl}
+use Rattle.std.proofs.Common.{[], arith, refl}
 use Rattle.orc_heap.specs.Slots.{id_in}
 use Rattle.orc_ordered_search.proofs.Marking.{part_fact}
 use Rattle.orc_split_rule.proofs.Coming.{anchor_allowed}
 use Rattle.orc_split_set.proofs.Anchoring.{anchors}
+use Rattle.orc_split_set.proofs.Sizing.{made_most}
+use Rattle.orc_split_set.proofs.FewEvents.{swing_made}
 use Rattle.orc_split_set.proofs.bucket.anchor.Goals as goal
 
 pub swing-requires-clause-allowed : goal.swing-requires-clause-allowed
@@ -32,3 +34,11 @@ returns-in-Err-clause-told g c =
     let by = (g.L.Links.seat d c.args.p.now).agent in
     let e = c.in-Err.ensures in
     part_fact g.L.Links.agent_of by _ _ (g.L.Links.worn d by c.in-Err.spent _) e.later e.worn
+
+pub returns-in-Ok-clause-tries : goal.returns-in-Ok-clause-tries
+returns-in-Ok-clause-tries g c =
+    swing_made _ _ _ _ c.in-Ok.field-0 _ _ c.in-Ok.ensures.swung
+
+pub returns-in-Err-clause-tries : goal.returns-in-Err-clause-tries
+returns-in-Err-clause-tries g c =
+    made_most 1 _ _ [] c.in-Err.ensures.none.puts (omega arith)

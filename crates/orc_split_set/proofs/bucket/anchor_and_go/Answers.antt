@@ -1,8 +1,9 @@
 -- The swing of the bucket's root, and the dummy's release.
-use Rattle.std.proofs.Common.{[], append-nil, refl, subst, sym}
+use Rattle.std.proofs.Common.{[], append-nil, arith, refl, subst, sym}
 use Rattle.orc_heap.specs.Slots.{Holds, Slots}
 use Rattle.orc_ordered_search.proofs.Held.{release_goes}
 use Rattle.orc_split_set.proofs.Telling.{told_wider}
+use Rattle.orc_split_set.proofs.Sizing.{made_most}
 use Rattle.orc_split_set.proofs.bucket.anchor_and_go.Goals as goal
 
 pub release-requires-clause-held : goal.release-requires-clause-held
@@ -23,3 +24,7 @@ returns-clause-told g c =
     let p = c.args.p.now in
     told_wider g.L.Links g.met.L.Links.lacking_stays g.met.L.Links.worn_stays c.args.links.now p p c.anchor-anchored.new.p _ refl
     ([], append-nil _) c.release.ensures.later c.anchor-anchored.result c.anchor-anchored.ensures.told
+
+pub returns-clause-tries : goal.returns-clause-tries
+returns-clause-tries g c =
+    omega (arith, c.anchor-anchored.ensures.tries, made_most 0 _ _ [] c.release.ensures.released.puts (omega arith))

@@ -1,5 +1,5 @@
 -- The read of the size, and then the bucket's root.
-use Rattle.std.proofs.Common.{arith, subst, sym, ◌%◌, ◌<◌, ◌∙◌, ℕ}
+use Rattle.std.proofs.Common.{arith, subst, sym, ◌%◌, ◌*◌, ◌+◌, ◌<◌, ◌∙◌, ℕ}
 use Rattle.orc_split_rule.specs.SplitDiscipline.{greatest}
 use Rattle.orc_heap.specs.Seats.{heap_of}
 use Rattle.orc_split_set.specs.Looks.{HasStart, LoadsFew, root_loads}
@@ -9,6 +9,7 @@ use Rattle.orc_split_set.proofs.Passes.{seen_on}
 use Rattle.orc_split_set.proofs.Reaching.{moved_after, none_before, prepares_few}
 use Rattle.orc_split_set.proofs.Preparing.{bucket_low, no_turns, prepares_by, prepares_moved}
 use Rattle.orc_split_set.proofs.Telling.{told_next}
+use Rattle.orc_split_set.proofs.FewEvents.{few_begun, few_short, few_start, few_wider}
 use Rattle.orc_split_set.proofs.bucket.prepare.Goals as goal
 
 pub returns-then-turns-eq0-clause-prepared : goal.returns-then-turns-eq0-clause-prepared
@@ -70,3 +71,28 @@ returns-in-Some-clause-few g c = λ gap others has.
 pub returns-in-None-clause-few : goal.returns-in-None-clause-few
 returns-in-None-clause-few g c = λ gap others has sees.
     absurd (moved_after _ _ _ gap others c.in-None.ensures.read sees)
+
+pub returns-then-turns-eq0-clause-tries : goal.returns-then-turns-eq0-clause-tries
+returns-then-turns-eq0-clause-tries g c = λ k low.
+    let s = g.L.Links.seat c.args.links.now c.args.p.now in
+    few_wider (6 + 2 * k) 0 1 0 6 s s (omega arith) (omega arith) (few_start (6 + 2 * k) s)
+
+pub returns-in-Some-clause-tries : goal.returns-in-Some-clause-tries
+returns-in-Some-clause-tries g c = λ k low.
+    let s = g.L.Links.seat c.args.links.now c.args.p.now in
+    let t = g.L.Links.seat c.args.links.now c.read_size.new.p in
+    let u = g.L.Links.seat c.args.links.now c.root_bucket.new.p in
+    let e = c.in-Some.ensures in
+    let f = c.root_bucket.ensures in
+    let on = seen_on g.L.Links g.met.L.Links.steps_add g.met.L.Links.seen_is c.args.links.now in
+    few_begun (4 + 2 * k) 2 (6 + 2 * k) 6 s t u e.read.quiet.puts.agent (on c.args.p.now c.read_size.new.p c.requires.pass e.pass e.later)
+    (on c.read_size.new.p c.root_bucket.new.p e.pass f.pass f.later) e.tries
+    (f.tries k (omega (arith, e.read.is_size.0, c.requires.most.0, low))) (omega arith)
+
+pub returns-in-None-clause-tries : goal.returns-in-None-clause-tries
+returns-in-None-clause-tries g c = λ k low.
+    let s = g.L.Links.seat c.args.links.now c.args.p.now in
+    let t = g.L.Links.seat c.args.links.now c.read_size.new.p in
+    let e = c.in-None.ensures in
+    few_short (6 + 2 * k) 2 6 s t e.read.quiet.puts.agent
+    (seen_on g.L.Links g.met.L.Links.steps_add g.met.L.Links.seen_is c.args.links.now c.args.p.now c.read_size.new.p c.requires.pass e.pass e.later) e.tries (omega arith)

@@ -1,5 +1,5 @@
 -- By what the look of the bucket's root found.
-use Rattle.std.proofs.Common.{arith, refl, ◌≤◌}
+use Rattle.std.proofs.Common.{arith, refl, ◌*◌, ◌+◌, ◌≤◌}
 use Rattle.orc_ordered_search.proofs.Held.{release_goes}
 use Rattle.orc_split_set.specs.Looks.{root_loads}
 use Rattle.orc_split_set.proofs.Crowding.{own_not_moved, own_sooner}
@@ -10,6 +10,7 @@ use Rattle.orc_split_set.proofs.RootLooks.{look_moved, null_held}
 use Rattle.orc_split_set.proofs.Rooting.{moved_roots}
 use Rattle.orc_split_set.proofs.Sizes.{looks_none, looks_some}
 use Rattle.orc_split_set.proofs.Telling.{told_next}
+use Rattle.orc_split_set.proofs.FewEvents.{few_short, few_start, few_still, few_then_more, few_wider, look_made}
 use Rattle.orc_split_set.proofs.bucket.root_bucket.Goals as goal
 
 pub returns-then-bucket-eq0-clause-rooted : goal.returns-then-bucket-eq0-clause-rooted
@@ -91,3 +92,37 @@ returns-in-Stable-default-None-clause-few g c = λ has sees.
 pub returns-in-Moved-clause-few : goal.returns-in-Moved-clause-few
 returns-in-Moved-clause-few g c = λ has sees.
     absurd (own_not_moved _ _ _ (look_moved _ c.args.bucket _ _ c.in-Moved.ensures.looked (g.met.L.Links.allowed _ _ c.in-Moved.ensures.pass)) sees)
+
+pub returns-then-bucket-eq0-clause-tries : goal.returns-then-bucket-eq0-clause-tries
+returns-then-bucket-eq0-clause-tries g c = λ k low.
+    let s = g.L.Links.seat c.args.links.now c.args.p.now in
+    few_wider (4 + 2 * k) 0 1 0 6 s s (omega arith) (omega arith) (few_start (4 + 2 * k) s)
+
+pub returns-in-Stable-default-Some-clause-tries : goal.returns-in-Stable-default-Some-clause-tries
+returns-in-Stable-default-Some-clause-tries g c = λ k low.
+    let s = g.L.Links.seat c.args.links.now c.args.p.now in
+    let t = g.L.Links.seat c.args.links.now c.look.new.p in
+    let u = g.L.Links.seat c.args.links.now c.release.new.p in
+    let x = c.in-Stable-default-Some in
+    let looks = x.ensures.looked in
+    let grows = look_grows c.args.bucket _ _ _ looks in
+    few_still (4 + 2 * k) 1 6 s t u grows c.release.ensures.released.puts
+    (few_short (4 + 2 * k) 2 6 s t (look_agent c.args.bucket _ _ _ looks) grows (look_made _ 2 _ _ _ looks) (omega arith))
+
+pub returns-in-Stable-default-None-clause-tries : goal.returns-in-Stable-default-None-clause-tries
+returns-in-Stable-default-None-clause-tries g c = λ k low.
+    let s = g.L.Links.seat c.args.links.now c.args.p.now in
+    let t = g.L.Links.seat c.args.links.now c.look.new.p in
+    let u = g.L.Links.seat c.args.links.now c.root_near.new.p in
+    let x = c.in-Stable-default-None in
+    let looks = x.ensures.looked in
+    let e = c.root_near.ensures in
+    few_then_more (4 + 2 * k) 2 4 s t u (look_agent c.args.bucket _ _ _ looks) (look_grows c.args.bucket _ _ _ looks)
+    (seen_on g.L.Links g.met.L.Links.steps_add g.met.L.Links.seen_is c.args.links.now c.look.new.p c.root_near.new.p x.ensures.pass e.pass e.later) (look_made _ 2 _ _ _ looks) (e.tries k low)
+
+pub returns-in-Moved-clause-tries : goal.returns-in-Moved-clause-tries
+returns-in-Moved-clause-tries g c = λ k low.
+    let s = g.L.Links.seat c.args.links.now c.args.p.now in
+    let t = g.L.Links.seat c.args.links.now c.look.new.p in
+    let looks = c.in-Moved.ensures.looked in
+    few_short (4 + 2 * k) 2 6 s t (look_agent c.args.bucket _ _ _ looks) (look_grows c.args.bucket _ _ _ looks) (look_made _ 2 _ _ _ looks) (omega arith)

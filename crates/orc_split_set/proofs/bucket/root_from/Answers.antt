@@ -1,8 +1,14 @@
 -- By what the search found.
-use Rattle.std.proofs.Common.{[], append-nil, refl}
+use Rattle.std.proofs.Common.{[], append-nil, arith, refl}
 use Rattle.orc_heap.proofs.Pieces.{goes_on}
 use Rattle.orc_split_set.proofs.Rooting.{found_dummy, found_hand, found_roots, moved_roots}
 use Rattle.orc_split_set.proofs.Telling.{told_searched, told_wider}
+use Rattle.orc_ordered_search.proofs.Seen.{present_few}
+use Rattle.orc_ordered_search.proofs.Since.{few_made}
+use Rattle.orc_split_rule.specs.SplitOrder.{dummy_place}
+use Rattle.orc_split_set.specs.SplitSearches.{split_reading}
+use Rattle.orc_split_set.proofs.Passes.{seen_on}
+use Rattle.orc_split_set.proofs.FewEvents.{few_ended, few_search, few_since, few_still, few_wider}
 use Rattle.orc_split_set.proofs.bucket.root_from.Goals as goal
 
 pub search_for-requires-clause-begins : goal.search_for-requires-clause-begins
@@ -68,3 +74,41 @@ returns-in-Present-clause-told g c =
     ([], append-nil _) gone.later anchored.result anchored.ensures.told in
     told_searched g.L.Links g.met.L.Links.steps_add g.met.L.Links.seen_is c.args.links.now c.args.p.now c.search_for.new.p _ c.requires.pass e.pass
     b.begins (e.found start s room.room b).behind.quiet e.later (goes_on _ _ _ anchored.ensures.later gone.later) anchored.result told
+
+pub returns-in-Over-clause-tries : goal.returns-in-Over-clause-tries
+returns-in-Over-clause-tries g c =
+    let t0 = g.L.Links.seat c.args.links.now c.args.p.now in
+    let t = g.L.Links.seat c.args.links.now c.search_for.new.p in
+    let (start, s, room, fresh, b) = c.requires.begins in
+    let f = c.in-Over.ensures.found start s room.room b in
+    let q = f.0.quiet.puts in
+    few_wider 4 1 1 0 4 t0 t (omega arith) (omega arith) (few_search 4 s t0 t b.begins.seen b.begins.agent q.agent (few_made 4 4 s t f.0.own q f.1 (omega arith)))
+
+pub returns-in-Absent-clause-tries : goal.returns-in-Absent-clause-tries
+returns-in-Absent-clause-tries g c =
+    let t0 = g.L.Links.seat c.args.links.now c.args.p.now in
+    let u = g.L.Links.seat c.args.links.now c.add_dummy.new.p in
+    let (start, s, room, fresh, b) = c.requires.begins in
+    few_since 4 1 4 s t0 u b.begins.seen b.begins.agent
+    (c.add_dummy.ensures.tries start c.in-Absent.passed s room fresh (c.in-Absent.ensures.found start s room.room b))
+
+pub returns-in-Present-clause-tries : goal.returns-in-Present-clause-tries
+returns-in-Present-clause-tries g c =
+    let t0 = g.L.Links.seat c.args.links.now c.args.p.now in
+    let t = g.L.Links.seat c.args.links.now c.search_for.new.p in
+    let u = g.L.Links.seat c.args.links.now c.anchor-anchored.new.p in
+    let v = g.L.Links.seat c.args.links.now c.let_all_go.new.p in
+    let d = c.args.links.now in
+    let (start, s, room, fresh, b) = c.requires.begins in
+    let x = c.in-Present in
+    let e = c.anchor-anchored.ensures in
+    let f = x.ensures.found start s room.room b in
+    let q = f.behind.quiet.puts in
+    let hand = found_hand _ c.args.bucket start x.passed x.left x.first x.node x.next s _ f _ e.anchored.tried (g.met.L.Links.allowed _ _ e.pass) in
+    let on = seen_on g.L.Links g.met.L.Links.steps_add g.met.L.Links.seen_is d in
+    let sooner = on c.args.p.now c.search_for.new.p c.requires.pass x.ensures.pass x.ensures.later in
+    let next = on c.search_for.new.p c.anchor-anchored.new.p x.ensures.pass e.pass e.later in
+    let few = few_search 4 s t0 t b.begins.seen b.begins.agent q.agent (few_made 2 4 s t f.own q
+    (present_few (split_reading _) start (dummy_place c.args.bucket) x.passed x.left x.first x.node x.next s t f) (omega arith)) in
+    few_wider 4 1 1 1 4 t0 v (omega arith) (omega arith) (few_still 4 1 1 t0 u v (goes_on _ _ _ sooner next) (c.let_all_go.ensures.gone s.slots hand).puts
+    (few_ended 4 0 1 t0 t u sooner e.anchored.tried.puts.agent next e.tries few))

@@ -1,11 +1,13 @@
 -- Where the search for the dummy begins, and what it found.
-use Rattle.std.proofs.Common.{refl, subst, sym, ◌∙◌}
+use Rattle.std.proofs.Common.{arith, refl, subst, sym, ◌*◌, ◌+◌, ◌∙◌}
 use Rattle.orc_heap.specs.Slots.{Slots}
 use Rattle.orc_ordered_search.specs.Searches.{HasRoom}
 use Rattle.orc_ordered_search.proofs.Inserting.{idle_room}
 use Rattle.orc_split_set.specs.Beginnings.{seat_before}
 use Rattle.orc_split_set.proofs.Rooting.{moved_roots, roots_after}
 use Rattle.orc_split_set.proofs.Telling.{told_next}
+use Rattle.orc_split_set.proofs.Passes.{seen_on}
+use Rattle.orc_split_set.proofs.FewEvents.{few_begun, few_short}
 use Rattle.orc_split_set.proofs.bucket.root_near.Goals as goal
 
 pub begin_near-requires-clause-size : goal.begin_near-requires-clause-size
@@ -42,3 +44,23 @@ returns-in-From-clause-told g c =
     let from = c.root_from in
     told_next g.L.Links c.args.links.now c.args.p.now c.begin_near.new.p _ ((e.begun s own q same).begins.begins.agent ∙ sym q.puts.agent)
     e.later from.ensures.later from.result from.ensures.told
+
+pub returns-in-Moved-clause-tries : goal.returns-in-Moved-clause-tries
+returns-in-Moved-clause-tries g c = λ k low.
+    let s = g.L.Links.seat c.args.links.now c.args.p.now in
+    let t = g.L.Links.seat c.args.links.now c.begin_near.new.p in
+    let e = c.in-Moved.ensures in
+    few_short (4 + 2 * k) (2 * k) 4 s t e.agent
+    (seen_on g.L.Links g.met.L.Links.steps_add g.met.L.Links.seen_is c.args.links.now c.args.p.now c.begin_near.new.p c.requires.pass e.pass e.later)
+    (e.tries k (omega (arith, c.size_within.ensures.within, low))) (omega arith)
+
+pub returns-in-From-clause-tries : goal.returns-in-From-clause-tries
+returns-in-From-clause-tries g c = λ k low.
+    let s = g.L.Links.seat c.args.links.now c.args.p.now in
+    let t = g.L.Links.seat c.args.links.now c.begin_near.new.p in
+    let u = g.L.Links.seat c.args.links.now c.root_from.new.p in
+    let e = c.in-From.ensures in
+    let f = c.root_from.ensures in
+    let on = seen_on g.L.Links g.met.L.Links.steps_add g.met.L.Links.seen_is c.args.links.now in
+    few_begun 4 (2 * k) (4 + 2 * k) 4 s t u e.agent (on c.args.p.now c.begin_near.new.p c.requires.pass e.pass e.later)
+    (on c.begin_near.new.p c.root_from.new.p e.pass f.pass f.later) (e.tries k (omega (arith, c.size_within.ensures.within, low))) f.tries (omega arith)

@@ -16,6 +16,8 @@ use Rattle.orc_split_set.proofs.Growing.{doubles, doubles_many, doubles_none, he
 use Rattle.orc_split_set.proofs.Telling.{grown_told, told_wider}
 use Rattle.orc_split_set.proofs.grow.double.Given.{Over}
 use Rattle.orc_split_set.proofs.grow.double.Goals.{In-Ok}
+use Rattle.orc_split_set.proofs.Sizing.{made_most}
+use Rattle.orc_split_set.proofs.FewEvents.{swung_made}
 use Rattle.orc_split_set.proofs.grow.double.Goals as goal
 
 -- a node of twice the size was given
@@ -117,3 +119,17 @@ returns-then-size-most-clause-doubled g c =
     let s = g.L.Links.seat _ c.args.p.now in
     doubles_many _ s (target_at s.slots c.args.old.now) c.args.size c.requires.fresh c.requires.old.1
     (omega (arith, c.requires.most.0, c.if-size-most.true))
+
+pub returns-in-Ok-clause-tries : goal.returns-in-Ok-clause-tries
+returns-in-Ok-clause-tries g c =
+    let f = c.swing-swung.ensures in
+    omega (
+      arith,
+      made_most 3 _ _ _ c.in-Ok.ensures.given.puts (omega arith),
+      swung_made _ _ _ _ c.swing-swung.result _ _ f.swung f.none,
+      made_most 0 _ _ [] c.release.ensures.released.puts (omega arith),
+    )
+
+pub returns-in-Err-clause-tries : goal.returns-in-Err-clause-tries
+returns-in-Err-clause-tries g c =
+    made_most 4 _ _ [] c.in-Err.ensures.none.puts (omega arith)

@@ -1,5 +1,5 @@
 -- The read of the old size, a try to double it, and the old node's release.
-use Rattle.std.proofs.Common.{Option, Some, ap, arith, subst, sym, ℕ, ◌∙◌, ◌≡◌}
+use Rattle.std.proofs.Common.{Option, Some, [], ap, arith, subst, sym, ℕ, ◌∙◌, ◌≡◌}
 use Rattle.orc_heap.proofs.Hands.{holds_of}
 use Rattle.orc_heap.specs.Heap.{shown}
 use Rattle.orc_heap.specs.Journals.{run_heap}
@@ -12,6 +12,7 @@ use Rattle.orc_split_set.specs.Growths.{ShowsSize}
 use Rattle.orc_split_set.proofs.Growing.{doubles_read, holds_size}
 use Rattle.orc_split_set.proofs.Sizes.{values_puts}
 use Rattle.orc_split_set.proofs.Telling.{told_wider}
+use Rattle.orc_split_set.proofs.Sizing.{made_most}
 use Rattle.orc_split_set.proofs.grow.double_held.Goals as goal
 
 pub value-size-requires-clause-held : goal.value-size-requires-clause-held
@@ -75,3 +76,12 @@ returns-clause-told g c =
     let made = c.double-doubled in
     told_wider g.L.Links g.met.L.Links.lacking_stays g.met.L.Links.worn_stays c.args.links.now c.args.p.now c.value-size.new.p made.new.p _
     c.value-size.ensures.nothing.puts.agent c.value-size.ensures.later c.let_go.ensures.later made.result made.ensures.told
+
+pub returns-clause-tries : goal.returns-clause-tries
+returns-clause-tries g c =
+    omega (
+      arith,
+      made_most 0 _ _ [] c.value-size.ensures.nothing.puts (omega arith),
+      c.double-doubled.ensures.tries,
+      made_most 0 _ _ [] c.let_go.ensures.let_go.puts (omega arith),
+    )

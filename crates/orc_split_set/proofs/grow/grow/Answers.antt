@@ -1,5 +1,5 @@
 -- By what the look of the size's root found.
-use Rattle.std.proofs.Common.{None, Option, Some, [], ap, subst, sym, ℕ, ◌∙◌, ◌≡◌, ◌≤◌}
+use Rattle.std.proofs.Common.{None, Option, Some, [], ap, arith, subst, sym, ℕ, ◌∙◌, ◌≡◌, ◌≤◌}
 use Rattle.orc_heap.proofs.Hands.{hand_held, holds_of}
 use Rattle.orc_heap.specs.Calls.{Looks}
 use Rattle.orc_heap.specs.Slots.{IsFree, Slots, id_in}
@@ -16,6 +16,7 @@ use Rattle.orc_split_set.proofs.Sizes.{SizeHeld, looks_none, looks_some, size_he
 use Rattle.orc_split_set.proofs.Telling.{told_later}
 use Rattle.orc_split_set.proofs.grow.grow.Given.{Over}
 use Rattle.orc_split_set.proofs.grow.grow.Goals.{In-Stable-default-None, In-Stable-default-Some}
+use Rattle.orc_split_set.proofs.FewEvents.{look_made}
 use Rattle.orc_split_set.proofs.grow.grow.Goals as goal
 
 -- the root names a node of a size
@@ -119,3 +120,15 @@ pub returns-in-Moved-clause-doubled : goal.returns-in-Moved-clause-doubled
 returns-in-Moved-clause-doubled g c =
     doubles_moved _ _ _ (look_moved _ c.args.most _ _ c.in-Moved.ensures.looked (g.met.L.Links.allowed _ _ c.in-Moved.ensures.pass))
     c.requires.idle.fresh
+
+pub returns-in-Stable-default-Some-clause-tries : goal.returns-in-Stable-default-Some-clause-tries
+returns-in-Stable-default-Some-clause-tries g c =
+    omega (arith, look_made _ 2 _ _ _ c.in-Stable-default-Some.ensures.looked, c.double_held.ensures.tries)
+
+pub returns-in-Stable-default-None-clause-tries : goal.returns-in-Stable-default-None-clause-tries
+returns-in-Stable-default-None-clause-tries g c =
+    omega (arith, look_made _ 2 _ _ _ c.in-Stable-default-None.ensures.looked, c.double.ensures.tries)
+
+pub returns-in-Moved-clause-tries : goal.returns-in-Moved-clause-tries
+returns-in-Moved-clause-tries g c =
+    omega (arith, look_made _ 2 _ _ _ c.in-Moved.ensures.looked)

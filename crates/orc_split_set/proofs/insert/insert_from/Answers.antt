@@ -16,6 +16,8 @@ use Rattle.orc_split_set.proofs.Asking.{puts_since}
 use Rattle.orc_split_set.proofs.Crowding.{absent_counts, seen_grows}
 use Rattle.orc_split_set.proofs.insert.insert_from.Given.{Over}
 use Rattle.orc_split_set.proofs.insert.insert_from.Goals.{After-search_for-found}
+use Rattle.orc_history.specs.declared.set.SetEntry.TheVariants.{Added}
+use Rattle.orc_split_set.proofs.FewEvents.{few_given, inserts_agent}
 use Rattle.orc_split_set.proofs.insert.insert_from.Goals as goal
 
 -- the search was one with the node in hand
@@ -92,3 +94,14 @@ returns-clause-counted g c = λ start slots s room k b bucket many by is.
 pub returns-clause-absent : goal.returns-clause-absent
 returns-clause-absent g c = λ start slots s room k b is.
     c.insert_found.ensures.absent (sought g (goal.at.returns-clause-absent g c).After-search_for-found start slots s room k b) is
+
+pub returns-clause-tries : goal.returns-clause-tries
+returns-clause-tries g c =
+    let d = c.args.links.now in
+    let (start, slots, s, room, k, b) = c.requires.begins in
+    let a = sought g (goal.at.returns-clause-tries g c).After-search_for-found start slots s room k b in
+    let u = g.L.Links.seat d c.insert_found.new.p in
+    let f = c.insert_found.ensures in
+    few_given s (g.L.Links.seat d c.args.p.now) u b.begins.seen b.begins.agent
+    (inserts_agent (split_reading (g.L.Links.numbers d)) c.args.key 1 (λ yes. Added s.agent c.args.key yes) slots c.args.node c.insert_found.result.1 s u
+    c.insert_found.result.0 (f.inserted a)) (f.few a)

@@ -1,5 +1,5 @@
 -- The node in hand is let go after the turns.
-use Rattle.std.proofs.Common.{subst}
+use Rattle.std.proofs.Common.{subst, ◌*◌, ◌+◌}
 use Rattle.orc_history.specs.declared.set.SetEntry.TheVariants.{Added}
 use Rattle.orc_ordered_search.specs.Inserts.{InsertsTurns}
 use Rattle.orc_ordered_search.specs.declared.turn.InsertTurn.{InsertTurn}
@@ -10,6 +10,8 @@ use Rattle.orc_ordered_search.proofs.Absent.{absent_still}
 use Rattle.orc_split_rule.specs.SplitOrder.{key_place}
 use Rattle.orc_split_set.proofs.Ordered.{split_ordering}
 use Rattle.orc_split_set.proofs.Crowding.{own_sooner, seen_grows}
+use Rattle.orc_split_set.proofs.Passes.{seen_on}
+use Rattle.orc_split_set.proofs.FewEvents.{few_still_giving}
 use Rattle.orc_split_set.proofs.insert.insert_key.Goals as goal
 
 pub insert_turns-turn-requires-clause-room : goal.insert_turns-turn-requires-clause-room
@@ -75,3 +77,12 @@ returns-clause-absent g c = λ is.
     c.insert_turns-turn.result.1 t) is e.inserted in
     absent_still (split_ordering n) (key_place c.args.key) s t (g.L.Links.seat d c.let_go.new.p) ends.1.0 ends.1.1.made.puts f.let_go.puts (g.met.L.Links.allowed d c.let_go.new.p f.pass)
     (e.absent is)
+
+pub returns-clause-tries : goal.returns-clause-tries
+returns-clause-tries g c = λ k low.
+    let t = g.L.Links.seat c.args.links.now c.insert_turns-turn.new.p in
+    let u = g.L.Links.seat c.args.links.now c.let_go.new.p in
+    let s = g.L.Links.seat c.args.links.now c.args.p.now in
+    let e = c.insert_turns-turn.ensures in
+    few_still_giving (6 + 2 * k) c.args.turns s t u
+    (seen_on g.L.Links g.met.L.Links.steps_add g.met.L.Links.seen_is c.args.links.now c.args.p.now c.insert_turns-turn.new.p c.requires.pass e.pass e.later) c.let_go.ensures.let_go.puts (e.tries k low)

@@ -1,20 +1,23 @@
 -- Where the turn's search begins, and what it found.
-use Rattle.std.proofs.Common.{refl, subst}
+use Rattle.std.proofs.Common.{arith, refl, subst, ◌*◌, ◌+◌}
 use Rattle.orc_history.specs.declared.set.SetEntry.TheVariants.{Added}
 use Rattle.orc_ordered_search.specs.Inserts.{Inserts}
 use Rattle.orc_ordered_search.specs.declared.turn.InsertTurn.{InsertTurn}
 use Rattle.orc_ordered_search.proofs.Inserting.{has_room, keeps_on}
 use Rattle.orc_ordered_search.proofs.Making.{found_over}
+use Rattle.orc_heap.specs.Moves.{gives_in}
+use Rattle.orc_ordered_search.specs.Turns.{made_from}
 use Rattle.orc_heap.proofs.Parting.{part_of_next}
 use Rattle.orc_ordered_search.proofs.Preceding.{inserts_after, keeps_after}
 use Rattle.orc_split_rule.specs.SplitDiscipline.{size_of}
-use Rattle.orc_split_rule.specs.SplitOrder.{bucket_of}
+use Rattle.orc_split_rule.specs.SplitOrder.{bucket_of, key_place}
 use Rattle.orc_split_set.specs.Beginnings.{seat_before}
 use Rattle.orc_split_set.specs.SplitSearches.{split_reading}
 use Rattle.orc_ordered_search.proofs.Absent.{absent_next}
-use Rattle.orc_split_rule.specs.SplitOrder.{key_place}
 use Rattle.orc_split_set.proofs.Crowding.{seen_grows, turn_counts}
 use Rattle.orc_split_set.proofs.Ordered.{split_ordering}
+use Rattle.orc_split_set.proofs.Passes.{seen_on}
+use Rattle.orc_split_set.proofs.FewEvents.{few_begun_giving, few_short}
 use Rattle.orc_split_set.proofs.insert.insert_turn.Goals as goal
 
 pub begin-requires-clause-room : goal.begin-requires-clause-room
@@ -106,3 +109,22 @@ returns-in-From-clause-absent g c = λ is.
     let ends = subst (λ (turn : InsertTurn). Inserts (split_reading n) c.args.key 1 (λ answer. Added s.agent c.args.key answer) 1 slots c.args.node
     (seat_before s t) turn c.insert_from.result.1 u) is (e.inserted b.start slots (seat_before s t) room kept b.begins) in
     absent_next (split_ordering n) (key_place c.args.key) s (seat_before s t) u b.own b.quiet.puts ends.0 ends.1.made.puts (e.absent b.start slots (seat_before s t) room kept b.begins is)
+
+pub returns-in-Moved-clause-tries : goal.returns-in-Moved-clause-tries
+returns-in-Moved-clause-tries g c = λ k low.
+    let s = g.L.Links.seat c.args.links.now c.args.p.now in
+    let t = g.L.Links.seat c.args.links.now c.begin.new.p in
+    let e = c.in-Moved.ensures in
+    few_short (6 + 2 * k) (2 + 2 * k) (3 * gives_in (made_from s t)) s t e.agent
+    (seen_on g.L.Links g.met.L.Links.steps_add g.met.L.Links.seen_is c.args.links.now c.args.p.now c.begin.new.p c.requires.pass e.pass e.later) (e.tries k low) (omega arith)
+
+pub returns-in-From-clause-tries : goal.returns-in-From-clause-tries
+returns-in-From-clause-tries g c = λ k low.
+    let s = g.L.Links.seat c.args.links.now c.args.p.now in
+    let t = g.L.Links.seat c.args.links.now c.begin.new.p in
+    let u = g.L.Links.seat c.args.links.now c.insert_from.new.p in
+    let e = c.in-From.ensures in
+    let f = c.insert_from.ensures in
+    let on = seen_on g.L.Links g.met.L.Links.steps_add g.met.L.Links.seen_is c.args.links.now in
+    few_begun_giving (2 + 2 * k) (6 + 2 * k) s t u e.agent (on c.args.p.now c.begin.new.p c.requires.pass e.pass e.later)
+    (on c.begin.new.p c.insert_from.new.p e.pass f.pass f.later) (e.tries k low) f.tries (omega arith)

@@ -1,5 +1,7 @@
 -- One turn after another, until one answers.
-use Rattle.std.proofs.Common.{[], append-nil, arith, subst, ℕ, None, ◌≡◌}
+use Rattle.std.proofs.Common.{[], append-nil, arith, subst, ℕ, None, ◌*◌, ◌+◌, ◌≡◌}
+use Rattle.orc_heap.specs.Moves.{gives_in}
+use Rattle.orc_ordered_search.specs.Turns.{made_from}
 use Rattle.orc_heap.proofs.Pieces.{goes_on}
 use Rattle.orc_history.specs.declared.set.SetEntry.TheVariants.{Added}
 use Rattle.orc_ordered_search.specs.Inserts.{Inserts, InsertsOn}
@@ -11,15 +13,19 @@ use Rattle.orc_ordered_search.proofs.Absent.{absent_next}
 use Rattle.orc_split_rule.specs.SplitOrder.{key_place}
 use Rattle.orc_split_set.proofs.Ordered.{split_ordering}
 use Rattle.orc_split_set.proofs.Crowding.{seen_grows, turns_count}
+use Rattle.orc_split_set.proofs.Passes.{seen_on}
+use Rattle.orc_split_set.proofs.FewEvents.{few_giving, few_start, few_wider}
 use Rattle.orc_split_set.proofs.insert.insert_turns.Goals as goal
 
 pub loop-init : goal.loop-init
 loop-init g c =
+    let s = g.L.Links.seat c.args.links.now c.args.p.now in
     record {
       pass = c.requires.pass;
       later = ([], append-nil _);
       on = inserts_none (split_reading _) c.args.key 1 _
           c.requires.fresh;
+      few = λ k low. few_wider (6 + 2 * k) 0 0 0 (3 * gives_in (made_from s s)) s s (omega arith) (omega arith) (few_start (6 + 2 * k) s);
     }
 
 pub insert_turn-turn-requires-clause-keeps : goal.insert_turn-turn-requires-clause-keeps
@@ -35,9 +41,16 @@ loop-preserved g c =
     let i = c.loop.invariant in
     let e = c.insert_turn-turn.ensures in
     let kept = c.insert_turn-turn.result.1 in
+    let on = seen_on g.L.Links g.met.L.Links.steps_add g.met.L.Links.seen_is c.args.links.now in
     let over = subst (λ (turn : InsertTurn). Inserts (split_reading n) c.args.key 1 (λ answer. Added t.agent c.args.key answer) 1 s.slots c.loop.node t turn kept u) c.in-Over.is
     (e.inserted s.slots c.requires.room i.on.keeps) in
-    record { pass = e.pass; later = goes_on _ _ _ i.later e.later; on = inserts_next (split_reading n) c.args.key 1 c.loop.counter c.loop.node kept s t u i.on over }
+    record {
+      pass = e.pass;
+      later = goes_on _ _ _ i.later e.later;
+      on = inserts_next (split_reading n) c.args.key 1 c.loop.counter c.loop.node kept s t u i.on over;
+      few = λ k low. few_giving (6 + 2 * k) c.loop.counter 1 s t u (on c.args.p.now c.loop.p c.requires.pass i.pass i.later)
+          (on c.loop.p c.insert_turn-turn.new.p i.pass e.pass e.later) (i.few k low) (e.tries k low);
+    }
 
 pub returns-in_default-clause-inserted : goal.returns-in_default-clause-inserted
 returns-in_default-clause-inserted g c =
@@ -102,3 +115,21 @@ returns-in_default-clause-absent g c = λ is.
     let ends = subst (λ (turn : InsertTurn). Inserts (split_reading n) c.args.key 1 (λ answer. Added t.agent c.args.key answer) 1 s.slots c.loop.node t turn
     c.insert_turn-turn.result.1 u) is (e.inserted s.slots c.requires.room i.on.keeps) in
     absent_next (split_ordering n) (key_place c.args.key) s t u i.on.own i.on.over.made.puts ends.0 ends.1.made.puts (e.absent is)
+
+pub returns-in_default-clause-tries : goal.returns-in_default-clause-tries
+returns-in_default-clause-tries g c = λ k low.
+    let s = g.L.Links.seat c.args.links.now c.args.p.now in
+    let t = g.L.Links.seat c.args.links.now c.loop.p in
+    let u = g.L.Links.seat c.args.links.now c.insert_turn-turn.new.p in
+    let i = c.loop.invariant in
+    let e = c.insert_turn-turn.ensures in
+    let on = seen_on g.L.Links g.met.L.Links.steps_add g.met.L.Links.seen_is c.args.links.now in
+    few_wider (6 + 2 * k) (c.loop.counter + 1) c.args.turns (3 * gives_in (made_from s u)) (3 * gives_in (made_from s u)) s u (omega (arith, c.loop-test.true)) (omega arith)
+    (few_giving (6 + 2 * k) c.loop.counter 1 s t u (on c.args.p.now c.loop.p c.requires.pass i.pass i.later)
+    (on c.loop.p c.insert_turn-turn.new.p i.pass e.pass e.later) (i.few k low) (e.tries k low))
+
+pub returns-clause-tries : goal.returns-clause-tries
+returns-clause-tries g c = λ k low.
+    let s = g.L.Links.seat c.args.links.now c.args.p.now in
+    let t = g.L.Links.seat c.args.links.now c.loop.p in
+    few_wider (6 + 2 * k) c.loop.counter c.args.turns (3 * gives_in (made_from s t)) (3 * gives_in (made_from s t)) s t (omega (arith, c.loop.auto.counter-end)) (omega arith) (c.loop.invariant.few k low)

@@ -1,5 +1,5 @@
 -- What the call did, and the settling after it.
-use Rattle.std.proofs.Common.{Bool, Ok, Result, arith, subst, ℕ, ◌∙◌, ◌≡◌, ◌≢◌}
+use Rattle.std.proofs.Common.{Bool, Ok, Result, arith, subst, ℕ, ◌+◌, ◌∙◌, ◌≡◌, ◌≢◌}
 use Rattle.std.specs.Prelude.{IsErr}
 use Rattle.orc_fault.specs.declared.Again.{Again as AgainFault}
 use Rattle.orc_heap.proofs.Pieces.{goes_on}
@@ -12,6 +12,7 @@ use Rattle.orc_ordered_search.specs.Entries.{entry_by}
 use Rattle.orc_ordered_search.specs.Turns.{AnswersTurns}
 use Rattle.orc_split_set.proofs.Called.{called}
 use Rattle.orc_split_set.proofs.Calling.{call_idle, did_after, if_ok, roots_call}
+use Rattle.orc_split_set.proofs.FewEvents.{few_levels, few_next, few_still, few_wider}
 use Rattle.orc_split_set.proofs.Passes.{seen_on}
 use Rattle.orc_split_set.proofs.Reaching.{looks_call}
 use Rattle.orc_split_set.proofs.Telling.{told_on}
@@ -73,6 +74,13 @@ returns g c =
           (λ spent. g.L.Links.worn d s.agent spent (g.L.Links.journal q)) answer again;
       no_turns = λ zero. (did.no_turns zero).0;
       no_event = call.no_event;
+      tries =
+          let on = seen_on g.L.Links g.met.L.Links.steps_add g.met.L.Links.seen_is d in
+          let fits = few_levels _ c.args.self.now.sized in
+          let sooner = on p p0 c.requires.usable.0 before.pass before.later in
+          let next = on p0 c.call_turns-answer.new.p before.pass done.pass done.later in
+          (few_wider 22 (1 + turns) (turns + 1) 6 6 s u (omega arith) (omega arith) (few_still 22 (1 + turns) 6 s t u (goes_on _ _ _ sooner next)
+          settle.nothing.puts (few_next 22 1 turns 6 0 s t0 t sooner next (before.tries 8 fits) (done.tries 8 fits)))).1;
       again = again;
       gives = call.gives;
       settled = λ alone. settle.settled (settling_alone g.L.Links d p c.call_turns-answer.new.p q since settle.later (keeps.1 ∙ same) alone);

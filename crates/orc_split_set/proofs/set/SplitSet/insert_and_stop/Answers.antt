@@ -1,6 +1,9 @@
 -- What the turns did, and the settling after them.
-use Rattle.std.proofs.Common.{Bool, Err, Result, subst, sym, ◌∙◌, ◌≡◌}
+use Rattle.std.proofs.Common.{arith, Bool, Err, ◌*◌, Result, subst, sym, ◌∙◌, ◌≡◌}
+use Rattle.orc_heap.specs.Moves.{gives_in}
+use Rattle.orc_ordered_search.specs.Turns.{made_from}
 use Rattle.orc_heap.proofs.Pieces.{goes_on}
+use Rattle.orc_heap.proofs.InJournal.{settling_alone}
 use Rattle.orc_history.specs.declared.set.ListRefused.TheVariants.{Again}
 use Rattle.orc_history.specs.declared.set.ListRefused.{ListRefused}
 use Rattle.orc_history.specs.declared.set.SetEntry.{SetEntry}
@@ -14,6 +17,8 @@ use Rattle.orc_ordered_search.proofs.Absent.{absent_still}
 use Rattle.orc_split_rule.specs.SplitOrder.{key_place}
 use Rattle.orc_split_set.proofs.Ordered.{split_ordering}
 use Rattle.orc_split_set.proofs.Called.{called}
+use Rattle.orc_split_set.proofs.FewEvents.{few_levels, few_still, few_wider, insert_gives}
+use Rattle.orc_split_set.proofs.Passes.{seen_on}
 use Rattle.orc_split_set.proofs.Telling.{told_on}
 use Rattle.orc_split_set.proofs.set.SplitSet.insert_and_stop.Goals as goal
 
@@ -42,10 +47,19 @@ returns g c =
       later = grows;
       added = call.entered;
       none = call.none;
+      no_turns = λ zero. (did.no_turns zero).0;
+      no_event = call.no_event;
       again = call.again;
+      tries =
+          let t = g.L.Links.seat d c.insert_key-turn.new.p in
+          let on = seen_on g.L.Links g.met.L.Links.steps_add g.met.L.Links.seen_is d p c.insert_key-turn.new.p c.requires.usable.0 done.pass done.later in
+          let gives = insert_gives (split_reading (g.L.Links.numbers d)) entry c.args.turns s t (answer_by turn) done.inserted in
+          (few_still 22 c.args.turns 3 s t u on settle.nothing.puts (few_wider 22 c.args.turns c.args.turns (3 * gives_in (made_from s t)) 3 s t (omega arith) (omega (arith, gives))
+          (done.tries 8 (few_levels _ c.args.self.now.sized)))).1;
       no_node = λ is. on NoNode (done.lacking (turn_lacks turn (sym is_answer ∙ is)));
       absent = λ is. absent_still (split_ordering (g.L.Links.numbers d)) (key_place c.args.key) s (g.L.Links.seat d c.insert_key-turn.new.p) u put.0 put.1 settle.nothing.puts
           (g.met.L.Links.allowed d c.settle.new.p settle.pass) (done.absent (turn_lacks turn (sym is_answer ∙ is)));
       spent = λ why is. on (Spent why) (done.worn why (turn_worn turn why (sym is_answer ∙ is)));
       gives = call.gives;
+      settled = λ alone. settle.settled (settling_alone g.L.Links d p c.insert_key-turn.new.p c.settle.new.p done.later settle.later keeps.1 alone);
     }

@@ -1,5 +1,7 @@
 -- What the call did, and the settling after it.
-use Rattle.std.proofs.Common.{Bool, Err, Ok, Result, arith, subst, sym, true, ℕ, ◌+◌, ◌∙◌, ◌≡◌, ◌≢◌, ◌≤◌}
+use Rattle.std.proofs.Common.{Bool, Err, Ok, Result, arith, subst, sym, true, ℕ, ◌*◌, ◌+◌, ◌∙◌, ◌≡◌, ◌≢◌, ◌≤◌}
+use Rattle.orc_heap.specs.Moves.{gives_in}
+use Rattle.orc_ordered_search.specs.Turns.{made_from}
 use Rattle.orc_heap.proofs.Pieces.{goes_on}
 use Rattle.orc_heap.proofs.InJournal.{settling_alone}
 use Rattle.orc_fault.specs.declared.Spent.{Spent as SpentRow}
@@ -16,6 +18,7 @@ use Rattle.orc_split_set.proofs.Absent.{absent_call}
 use Rattle.orc_split_set.proofs.Called.{called}
 use Rattle.orc_split_set.proofs.Calling.{call_idle, did_after, if_ok, insert_after, roots_call}
 use Rattle.orc_split_set.proofs.Crowded.{grows_call}
+use Rattle.orc_split_set.proofs.FewEvents.{few_levels, few_most, few_next, few_still, few_wider, insert_gives}
 use Rattle.orc_split_set.proofs.Passes.{seen_on}
 use Rattle.orc_split_set.proofs.Telling.{told_lacks, told_next, told_on, told_worn}
 use Rattle.orc_split_set.specs.SetCalls.{FindsWorn, LacksRow, PartTells}
@@ -108,6 +111,20 @@ returns g c =
           (λ spent. g.L.Links.worn d s.agent spent (g.L.Links.journal q)) answer (λ zero. (did.no_turns zero).0) call.again lacks worn;
       no_turns = λ zero. (did.no_turns zero).0;
       no_event = call.no_event;
+      tries =
+          let on = seen_on g.L.Links g.met.L.Links.steps_add g.met.L.Links.seen_is d in
+          let fits = few_levels _ c.args.self.now.sized in
+          let one = on p p0 c.requires.usable.0 before.pass before.later in
+          let two = on p0 p1 before.pass done.pass done.later in
+          let three = on p1 p2 done.pass grown.pass grown.later in
+          let gives = insert_gives (split_reading n) (λ answer. Added t0.agent c.args.key answer) turns t0 t (answer_by turn) done.inserted in
+          let v = g.L.Links.seat d p2 in
+          let turned = few_wider 22 turns turns (3 * gives_in (made_from t0 t)) 3 t0 t (omega arith) (omega (arith, gives)) (done.tries 8 fits) in
+          let first_two = few_next 22 1 turns 6 3 s t0 t one two (before.tries 8 fits) turned in
+          let last = few_most 22 0 6 t v grown.grown.doubles.call.made.puts.agent three grown.tries in
+          let whole = few_next 22 (1 + turns) 0 9 6 s t v (goes_on _ _ _ one two) three first_two last in
+          (few_wider 22 (1 + turns + 0) (turns + 1) 15 15 s u (omega arith) (omega arith) (few_still 22 (1 + turns + 0) 15 s v u
+          (goes_on _ _ _ (goes_on _ _ _ one two) three) settle.nothing.puts whole)).1;
       again = call.again;
       no_node = lacks;
       absent = λ is. let no_node = turn_lacks turn (sym is_answer ∙ is) in
