@@ -1,4 +1,4 @@
--- A question that nobody disturbs makes few Looks.
+-- A question that nobody disturbs makes few loads, and nothing else.
 use mathlib.Core.List.{IsPrefix}
 use Rattle.std.proofs.Common.{List, [], append-nil, append_assoc, ap, arith, drop, length, refl, subst, suc, sym, take, true, zero, ℕ, ◌*◌, ◌+◌, ◌-◌, ◌++◌, ◌==◌, ◌∙◌, ◌∷◌, ◌≡◌, ◌≢◌, ◌≤◌}
 use Rattle.std.proofs.Math.Seq.{drop-append_seam}
@@ -12,8 +12,6 @@ use Rattle.orc_heap.specs.Journals.{run_heap}
 use Rattle.orc_heap.specs.Moves.{AllOwn, from_own}
 use Rattle.orc_heap.specs.OwnEvents.{Only, Puts}
 use Rattle.orc_heap.specs.Seats.{Seat, heap_of}
-use Rattle.orc_heap.specs.declared.events.Act.{Act}
-use Rattle.orc_heap.specs.declared.events.Act.TheVariants.{Aim, AimSide, Fill, Give, Look, Miss, Move}
 use Rattle.orc_heap.specs.declared.events.Event.{Event}
 use Rattle.orc_heap.specs.declared.events.Place.TheVariants.{Root}
 use Rattle.orc_history.specs.Parts.{IsAlone, part_begin}
@@ -24,7 +22,7 @@ use Rattle.orc_split_rule.specs.SplitDiscipline.{SplitMay, greatest, size_by, si
 use Rattle.orc_split_rule.specs.SplitOrder.{bucket_of, key_place}
 use Rattle.orc_split_rule.specs.declared.split.SplitNote.{SplitNote}
 use Rattle.orc_split_set.specs.Crowds.{SeesOwn, seat_after}
-use Rattle.orc_split_set.specs.Looks.{HasStart, LoadsFew, ReachesIn, bucket_now, look_with, looks_in, root_loads}
+use Rattle.orc_split_set.specs.Looks.{HasStart, LoadsFew, ReachesIn, bucket_now, root_loads}
 use Rattle.orc_split_set.specs.Rootings.{IsUndisturbed, Prepares}
 use Rattle.orc_split_set.specs.SplitSearches.{SizeRead, split_reading}
 use Rattle.orc_split_set.specs.declared.bucket.Rooted.{Rooted}
@@ -90,20 +88,6 @@ prepares_few n key size s t u gap others r all w few has = λ k.
     let b = root_loads (bucket_now n key (seat_after s gap)) in
     few_trans 2 b (2 + b) (seat_after s gap) t u grew w begun.agent (omega arith) (few_of 2 (seat_after s gap) t r.own begun r.quiet.loads r.few) later k
 
--- Looks are events
-looks_few : (es : List (Event SplitNote)) → looks_in es ≤ length es
-looks_few [] = omega arith
-looks_few (e ∷ es) = omega (arith, one e.act, looks_few es)
-  where
-    one : (act : Act) → look_with act ≤ 1
-    one (Look place link) = omega arith
-    one (Miss place wanted found) = omega arith
-    one Give = omega arith
-    one (Fill id which value) = omega arith
-    one (Aim id to) = omega arith
-    one (AimSide id to) = omega arith
-    one (Move place from to) = omega arith
-
 root_low : (bucket : ℕ) → root_loads bucket ≤ 2
 root_low zero = omega arith
 root_low (suc bucket) = omega arith
@@ -126,7 +110,8 @@ pub looks_call : {S : Type 0} (n : HeapNumbers) (agent_of : S → ℕ) (events :
     → HasStart (run_heap n (events (take (part_begin agent_of s.agent j m) m))) (bucket_of key (size_of n (events (take (part_begin agent_of s.agent j m) m))))
     → (many : ℕ) → ReachesIn (run_heap n (events (take (part_begin agent_of s.agent j m) m)))
     (bucket_of key (size_of n (events (take (part_begin agent_of s.agent j m) m)))) (key_place key) many
-    → looks_in (drop (length (events (take (part_begin agent_of s.agent j m) m))) (events m)) ≤ 8 + 4 * many
+    → AreLoads (drop (length (events (take (part_begin agent_of s.agent j m) m))) (events m))
+    × (length (drop (length (events (take (part_begin agent_of s.agent j m) m))) (events m)) ≤ 8 + 4 * many)
 looks_call {S} n agent_of events adds key turns s t0 t u zs j m rooted prepared ne few asks later same settled w grows is_s is_u (rest, on) alone has many r =
     let new : events m ≡ events j ++ w.part = sym is_u ∙ (w.is ∙ ap (λ z. z ++ w.part) is_s) in
     let e = part_events agent_of events adds s.agent j m w.part grows new in
@@ -153,4 +138,4 @@ looks_call {S} n agent_of events adds key turns s t0 t u zs j m rooted prepared 
     let all = few_then (8 + 4 * many) first t u (goes_on first.seen t0.seen t.seen grew later) same settled.puts both sees in
     let seams : drop (length (events (take (part_begin agent_of s.agent j m) m))) (events m) ≡ e.part =
     ap (λ z. drop (length z) (events m)) begin ∙ (ap (λ z. drop (length (s.seen ++ e.gap)) z) (sym is_u ∙ whole) ∙ drop-append_seam (s.seen ++ e.gap) e.part) in
-    subst (λ z. looks_in z ≤ 8 + 4 * many) (sym seams) (omega (arith, all.1, looks_few e.part))
+    subst (λ z. AreLoads z × (length z ≤ 8 + 4 * many)) (sym seams) all

@@ -1,4 +1,4 @@
--- How few Looks a question makes that nobody disturbs, where the root of its key's bucket is set. After Shalev and Shavit 2006.
+-- How few loads a question makes that nobody disturbs, where the root of its key's bucket is set. After Shalev and Shavit 2006.
 use Rattle.std.specs.Prelude.{List, None, Option, Some, [], length, suc, zero, ℕ, ◌*◌, ◌+◌, ◌∷◌, ◌≡◌, ◌≤◌, ◌⊎◌}
 use Rattle.orc_heap.specs.Heap.{Heap, HeapNumbers}
 use Rattle.orc_heap.specs.Seats.{Seat}
@@ -14,16 +14,6 @@ use Rattle.orc_split_rule.specs.SplitOrder.{bucket_of, split_order}
 use Rattle.orc_split_rule.specs.declared.split.SplitNote.{SplitNote}
 use Rattle.orc_split_set.specs.Crowds.{SeesOwn}
 use Rattle.orc_split_set.specs.Rootings.{IsRootSet}
-
--- 1 for a Look, and 0 for any other act
-abbrev pub look_with : Act → ℕ
-look_with (Look place link) = 1
-look_with act = 0
-
--- how many Looks stand in the events
-abbrev pub looks_in : List (Event SplitNote) → ℕ
-looks_in [] = 0
-looks_in (e ∷ es) = look_with e.act + looks_in es
 
 -- the bucket is the first one, which has no dummy, or its root isn't null
 abbrev pub HasStart : Heap → ℕ → Type 0

@@ -15,13 +15,14 @@ use Rattle.orc_history.specs.declared.set.ListRefused.{ListRefused}
 use Rattle.orc_history.specs.declared.set.SetEntry.{SetEntry}
 use Rattle.orc_ordered_search.specs.Causes.{Cause, UsesTurns}
 use Rattle.orc_ordered_search.specs.Inserts.{SeesAbsent}
+use Rattle.orc_ordered_search.specs.Ways.{AreLoads}
 use Rattle.orc_split_rule.specs.SplitDiscipline.{IsSize, entries_in, entries_of, greatest, size_of}
 use Rattle.orc_split_rule.specs.SplitOrder.{bucket_of, key_place}
 use Rattle.orc_split_rule.specs.declared.split.SplitNote.{SplitNote}
 use Rattle.orc_split_set.specs.Crowds.{keys_before}
 use Rattle.orc_split_set.specs.FewEvents.{AreFewBySearch}
 use Rattle.orc_split_set.specs.Growths.{HasGrow}
-use Rattle.orc_split_set.specs.Looks.{HasStart, ReachesIn, looks_in}
+use Rattle.orc_split_set.specs.Looks.{HasStart, ReachesIn}
 use Rattle.orc_split_set.specs.Rootings.{IsRootSet}
 use Rattle.orc_split_set.specs.SplitSearches.{split_reading}
 use Rattle.orc_split_set.specs.Stops.{LinksNewDummy}
@@ -136,10 +137,10 @@ module _ {L D P S : Type 0} (members : LinksOf L D P S SplitNote) (links : L) wh
       → size_of (members.numbers links) (events_before old new) < greatest (members.numbers links)
       → HasGrow (events_within old new) ⊎ (LacksRow old new ⊎ ((why : Spent) × FindsWorn why old new))
 
-  -- where no other agent has a step in the call's part, and its key's bucket was the first one, or had a root that wasn't null: at most
-  -- 8 Looks stand in the part, and 4 for each of the nodes on the chain before the part, from the bucket's dummy, or root 0's target, to an
+  -- where no other agent has a step in the call's part, and its key's bucket was the first one, or had a root that wasn't null: only
+  -- loads stand in the part, at most 8, and 4 for each of the nodes on the chain before the part, from the bucket's dummy, or root 0's target, to an
   -- unmarked node at or past the key, which is counted, or to the chain's end
   abbrev pub LooksFew : ℕ → P → P → Type 0
   LooksFew key old new = IsCallAlone members links old new → HasStart (run_heap (members.numbers links) (events_before old new)) (bucket_before key old new)
       → (many : ℕ) → ReachesIn (run_heap (members.numbers links) (events_before old new)) (bucket_before key old new) (key_place key) many
-      → looks_in (events_within old new) ≤ 8 + 4 * many
+      → AreLoads (events_within old new) × (length (events_within old new) ≤ 8 + 4 * many)
