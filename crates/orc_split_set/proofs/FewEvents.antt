@@ -64,9 +64,9 @@ few_search most s t u seen agent last few =
     (last ∙ sym agent, λ ids c. omega (arith, ap (λ z. length z) same, few ids (subst (λ z. CoversLooks ids z) same c)))
 
 -- one part after another
-pub few_next : (each a b more fewer : ℕ) (s t u : Seat SplitNote) → IsPrefix s.seen t.seen → IsPrefix t.seen u.seen → MadeFewBySearch each a more s t
+pub few_parts : (each a b more fewer : ℕ) (s t u : Seat SplitNote) → IsPrefix s.seen t.seen → IsPrefix t.seen u.seen → MadeFewBySearch each a more s t
     → MadeFewBySearch each b fewer t u → MadeFewBySearch each (a + b) (more + fewer) s u
-few_next each a b more fewer s t u one two x y =
+few_parts each a b more fewer s t u one two x y =
     let es = made_from s t in
     let fs = made_from t u in
     let is : made_from s u ≡ es ++ fs = made_trans s t u _ _ (puts_new s t x.0 one) (puts_new t u y.0 two) in (
@@ -94,7 +94,7 @@ pub few_begun : (least most each more : ℕ) (s t u : Seat SplitNote) → t.agen
     → length (events_by t.agent t.seen) ≤ length (events_by s.agent s.seen) + most → MadeFewBySearch least 1 more t u → most + least ≤ each
     → MadeFewBySearch each 1 more s u
 few_begun least most each more s t u same one two low x fits =
-    let k = few_next least 0 1 most more s t u one two (few_most least 0 most s t same one low) x in
+    let k = few_parts least 0 1 most more s t u one two (few_most least 0 most s t same one low) x in
     (k.0, λ ids c. omega (arith, k.1 ids c, fits))
 
 -- so few that they are those of one search
@@ -108,7 +108,7 @@ few_short each most more s t same g low fits =
 pub few_ended : (each more most : ℕ) (s t u : Seat SplitNote) → IsPrefix s.seen t.seen → u.agent ≡ t.agent → IsPrefix t.seen u.seen
     → length (events_by u.agent u.seen) ≤ length (events_by t.agent t.seen) + most → MadeFewBySearch each 1 more s t
     → MadeFewBySearch each 1 (more + most) s u
-few_ended each more most s t u one same two low x = few_next each 1 0 more most s t u one two x (few_most each 0 most t u same two low)
+few_ended each more most s t u one same two low x = few_parts each 1 0 more most s t u one two x (few_most each 0 most t u same two low)
 
 -- and three for each node that was given in it
 pub few_giving : (each a b : ℕ) (s t u : Seat SplitNote) → IsPrefix s.seen t.seen → IsPrefix t.seen u.seen
@@ -118,7 +118,7 @@ few_giving each a b s t u one two x y =
     let is : made_from s u ≡ made_from s t ++ made_from t u = made_trans s t u _ _ (puts_new s t x.0 one) (puts_new t u y.0 two) in
     let both = gives_in-append (made_from s t) (made_from t u) in
     few_wider each (a + b) (a + b) (3 * gives_in (made_from s t) + 3 * gives_in (made_from t u)) (3 * gives_in (made_from s u)) s u (omega arith)
-    (omega (arith, ap gives_in is, both)) (few_next each a b _ _ s t u one two x y)
+    (omega (arith, ap gives_in is, both)) (few_parts each a b _ _ s t u one two x y)
 
 -- and none after it
 pub few_still : (each a more : ℕ) (s t u : Seat SplitNote) → IsPrefix s.seen t.seen → Puts t [] u → MadeFewBySearch each a more s t
@@ -167,7 +167,7 @@ few_dummy s u same few = (same, λ ids c. omega (arith, few ids c))
 pub few_then_more : (each most more : ℕ) (s t u : Seat SplitNote) → t.agent ≡ s.agent → IsPrefix s.seen t.seen → IsPrefix t.seen u.seen
     → length (events_by t.agent t.seen) ≤ length (events_by s.agent s.seen) + most → MadeFewBySearch each 1 more t u
     → MadeFewBySearch each 1 (most + more) s u
-few_then_more each most more s t u same one two low x = few_next each 0 1 most more s t u one two (few_most each 0 most s t same one low) x
+few_then_more each most more s t u same one two low x = few_parts each 0 1 most more s t u one two (few_most each 0 most s t same one low) x
 
 -- a look makes two events at the most
 pub look_made : (place : Place) (slot : ℕ) (s t : Seat SplitNote) (looked : Looked) → Looks place slot s looked t

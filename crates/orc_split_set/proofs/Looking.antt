@@ -4,14 +4,16 @@ use Rattle.std.proofs.Common.{List, None, Option, Some, [], append-nil, append_a
 use Rattle.std.proofs.Math.Nat.{mod-eq_of_lt}
 use Rattle.std.proofs.Math.Pow.{mod-mod-pow}
 use Rattle.std.proofs.lemmas.List.{append_cancel_left}
+use Rattle.orc_heap.proofs.Calls.{Puts-trans}
 use Rattle.orc_heap.proofs.Moments.{look_found}
+use Rattle.orc_heap.proofs.Pieces.{puts_released}
 use Rattle.orc_heap.specs.Allowed.{AllAllowed}
 use Rattle.orc_heap.specs.Calls.{Looks, event_of}
 use Rattle.orc_heap.specs.Heap.{Heap, HeapNumbers}
 use Rattle.orc_heap.specs.Journals.{run_heap}
 use Rattle.orc_heap.specs.OwnEvents.{Puts}
 use Rattle.orc_heap.specs.Seats.{Seat, heap_of}
-use Rattle.orc_heap.specs.Slots.{Hold}
+use Rattle.orc_heap.specs.Slots.{Hold, Slots}
 use Rattle.orc_heap.specs.declared.events.Act.TheVariants.{Look}
 use Rattle.orc_heap.specs.declared.events.Event.{Event}
 use Rattle.orc_heap.specs.declared.events.Link.{Link}
@@ -22,7 +24,7 @@ use Rattle.orc_ordered_chains.proofs.Acts.{rank_one}
 use Rattle.orc_ordered_chains.proofs.Paths.{leads_one}
 use Rattle.orc_ordered_chains.specs.Chains.{FollowsOn, IsPath, LeadsTo}
 use Rattle.orc_ordered_search.specs.Searches.{FindsAbsent, FindsPresent, Quiet, Visits}
-use Rattle.orc_ordered_search.specs.Turns.{AreOver}
+use Rattle.orc_ordered_search.specs.Turns.{AreOver, TakesNode}
 use Rattle.orc_ordered_search.specs.Ways.{Stops}
 use Rattle.orc_ordered_search.proofs.Ways.{length_onto, onto}
 use Rattle.orc_heap.specs.declared.holds.Looked.{Looked}
@@ -40,7 +42,7 @@ use Rattle.orc_split_rule.specs.SplitOrder.{bucket_of, key_place, split_order}
 use Rattle.orc_ordered_search.specs.Turns.{LoadsOnce}
 use Rattle.orc_split_rule.specs.declared.split.SplitNote.{SplitNote}
 use Rattle.orc_split_set.specs.Crowds.{SeesOwn}
-use Rattle.orc_split_set.specs.Looks.{HasStart, LoadsFew, MayEnd, ReachesIn, StartsAt, node_count, root_loads, search_loads}
+use Rattle.orc_split_set.specs.Looks.{HasStart, LoadsFew, StepsFew, MayEnd, ReachesIn, StartsAt, node_count, root_loads, search_loads}
 use Rattle.orc_split_set.specs.SplitSearches.{SizeRead, split_reading}
 use Rattle.orc_split_set.proofs.Crowding.{own_alone, own_heap, own_later, own_no_turns, own_not_moved, own_part, own_read, own_shows, own_sooner, own_unmoved, puts_grow}
 use Rattle.orc_split_set.proofs.Ordered.{split_ordering}
@@ -71,6 +73,51 @@ few_trans one two most s t u grew grows same low first second = λ k.
     let is : k.part ≡ a.part ++ b.part = append_cancel_left s.seen k.part (a.part ++ b.part)
     (sym k.is ∙ (b.is ∙ (ap (λ z. z ++ b.part) a.is ∙ append_assoc s.seen a.part b.part))) in
     (subst (λ z. AreLoads z) (sym is) (loads-append a.part b.part loads more), omega (arith, few, less, low, ap (λ z. length z) is, length-append a.part b.part))
+
+-- loads, and then events of which this is so
+abbrev pub JoinsLoads : (List (Event SplitNote) → ℕ → Type 0) → Type 0
+JoinsLoads Few = (es fs : List (Event SplitNote)) (one two most : ℕ) → one + two ≤ most → AreLoads es × (length es ≤ one) → Few fs two → Few (es ++ fs) most
+
+pub joins_loads : JoinsLoads (λ es most. AreLoads es × (length es ≤ most))
+joins_loads es fs one two most low first second =
+    (loads-append es fs first.0 second.0, omega (arith, first.1, second.1, low, length-append es fs))
+
+pub joins_steps : JoinsLoads (λ es most. length es ≤ most)
+joins_steps es fs one two most low first second = omega (arith, first.1, second, low, length-append es fs)
+
+pub join_trans : (Few : List (Event SplitNote) → ℕ → Type 0) → JoinsLoads Few → (one two most : ℕ) (s t u : Seat SplitNote) → IsPrefix s.seen t.seen
+    → IsPrefix t.seen u.seen → t.agent ≡ s.agent → one + two ≤ most → LoadsFew one s t → ((k : SeesOwn t u) → Few k.part two)
+    → (k : SeesOwn s u) → Few k.part most
+join_trans Few join one two most s t u grew grows same low first second = λ k.
+    let a = own_sooner s t u grew grows k in
+    let b = own_later s t u grew grows same k in
+    let is : k.part ≡ a.part ++ b.part = append_cancel_left s.seen k.part (a.part ++ b.part)
+    (sym k.is ∙ (b.is ∙ (ap (λ z. z ++ b.part) a.is ∙ append_assoc s.seen a.part b.part))) in
+    subst (λ z. Few z most) (sym is) (join a.part b.part one two most low (first a) (second b))
+
+-- so many events
+pub put_few : (most : ℕ) (s t : Seat SplitNote) (own : List (Event SplitNote)) → Puts s own t → length own ≤ most → StepsFew most s t
+put_few most s t own p few = λ k.
+    let is : k.part ≡ own = append_cancel_left s.seen k.part p.part (sym k.is ∙ p.is) ∙ (own_part s t own p k).1 in
+    omega (arith, few, ap (λ z. length z) is)
+
+-- a node was marked, and one try made to lead its place past it
+pub taken_steps : (noted unlinking : SplitNote) (place : Place) (first id : ℕ) (to : Option ℕ) (IsWorn : Type 0) (slots : Slots) (s t : Seat SplitNote)
+    → TakesNode noted unlinking place first id to IsWorn slots s t → StepsFew 2 s t
+taken_steps noted unlinking place first id to IsWorn slots s t k =
+    elim k.tries.either [
+      | inl tried ↦ elim tried [
+        | inl puts ↦ whole _ puts (omega arith)
+        | inr misses ↦ whole _ misses.puts (omega arith)
+      ]
+      | inr refused ↦ whole [] refused.2 (omega arith)
+    ]
+  where
+    whole : (ys : List (Event SplitNote)) → Puts k.marked ys k.tried → length ys ≤ 1 → StepsFew 2 s t
+    whole ys puts low =
+        let one = k.marks.puts in
+        put_few 2 s t _ (puts_released s k.tried t _ (Puts-trans s k.marked k.tried _ ys one puts) k.gone.puts)
+        (omega (arith, low))
 
 -- a look of a root
 pub look_loads : (root : ℕ) (s t : Seat SplitNote) (looked : Looked) → Looks (Root root) 2 s looked t → LoadsFew 2 s t
@@ -233,6 +280,21 @@ module _ (n : HeapNumbers) (start : Place) (key : ℕ) (s t u : Seat SplitNote) 
       → FindsPresent (split_reading n) start (key_place key) passed left first node next s t → LoadsFew (search_loads nodes to + 1) s u
   present_few passed left first node next f = searched passed 4 (Some f.id) f.own f.behind.quiet (omega arith) f.visits
 
+-- where the key's node was taken out
+pub taken_few : (n : HeapNumbers) (start : Place) (key : ℕ) (s t u : Seat SplitNote) → AllAllowed (SplitMay n) [] t.seen
+    → IsPrefix t.seen u.seen → (nodes : List ℕ) (to : Option ℕ) → IsPath (heap_of n s) start nodes to → MayEnd (heap_of n s) (key_place key) to
+    → (passed : ℕ) (left first : Option Hold) (node : Hold) (next : Option Hold)
+    → FindsPresent (split_reading n) start (key_place key) passed left first node next s t → StepsFew 2 t u → StepsFew (search_loads nodes to + 2) s u
+taken_few n start key s t u all grows nodes to path ends passed left first node next f last = λ k.
+    let q = f.behind.quiet in
+    let grew = puts_grow s t f.own q.puts in
+    let sees = own_sooner s t u grew grows k in
+    let heap = own_heap n s t f.own q sees in
+    let short = visits_few n start (key_place key) passed 4 (Some f.id) to s t f.own nodes (omega arith) f.visits (own_alone n s t f.own q all sees)
+    (subst (λ (h : Heap). IsPath h start nodes to) (sym heap) path) (subst (λ (h : Heap). MayEnd h (key_place key) to) (sym heap) ends) in
+    join_trans (λ es most. length es ≤ most) joins_steps (search_loads nodes to) 2 (search_loads nodes to + 2) s t u grew grows q.puts.agent (omega arith)
+    (few_of (search_loads nodes to) s t f.own q.puts q.loads short) last k
+
 -- by what it found
 pub found_few : (n : HeapNumbers) (start : Place) (key : ℕ) (s t u : Seat SplitNote) → SplitHolds n t.seen → AllAllowed (SplitMay n) [] t.seen
     → IsPrefix t.seen u.seen → (nodes : List ℕ) (to : Option ℕ) → IsPath (heap_of n s) start nodes to → MayEnd (heap_of n s) (key_place key) to
@@ -257,31 +319,31 @@ module _ (h : Heap) where
       let (low, own, less, root) = subst (λ (p : Place). FollowsOn split_order h p place) at below in
       omega (arith, less, stops.high, rank_one split_order h y low stops.rank own stops.has_rank)
 
-module _ (n : HeapNumbers) (key many : ℕ) (start : Place) (s t u : Seat SplitNote) (grew : IsPrefix s.seen t.seen) (grows : IsPrefix t.seen u.seen)
+module _ (n : HeapNumbers) (Few : List (Event SplitNote) → ℕ → Type 0) (join : JoinsLoads Few) (more key many : ℕ) (start : Place) (s t u : Seat SplitNote) (grew : IsPrefix s.seen t.seen) (grows : IsPrefix t.seen u.seen)
     (same : t.agent ≡ s.agent) (below : FollowsOn split_order (heap_of n t) start (key_place key))
     (later : (nodes : List ℕ) (to : Option ℕ) → IsPath (heap_of n t) start nodes to → MayEnd (heap_of n t) (key_place key) to
-    → LoadsFew (search_loads nodes to + 1) t u) where
+    → (k : SeesOwn t u) → Few k.part (search_loads nodes to + (1 + more))) where
   by_bucket : (b : ℕ) → HasStart (heap_of n t) b → StartsAt (heap_of n t) b start → (nodes : List ℕ) (to : Option ℕ) → IsPath (heap_of n t) (Root b) nodes to
       → MayEnd (heap_of n t) (key_place key) to → many ≡ length nodes + node_count to → LoadsFew (2 + root_loads b) s t
-      → LoadsFew (6 + 4 * many - root_loads b) s u
+      → (k : SeesOwn s u) → Few k.part (6 + more + 4 * many - root_loads b)
   by_bucket zero has is nodes None path ends count first =
       let few = later nodes None (subst (λ (p : Place). IsPath (heap_of n t) p nodes None) (sym is) path) ends in
-      few_trans 2 (search_loads nodes None + 1) (6 + 4 * many - 0) s t u grew grows same (omega (arith, count)) first few
+      join_trans Few join 2 (search_loads nodes None + (1 + more)) (6 + more + 4 * many - 0) s t u grew grows same (omega (arith, count)) first few
   by_bucket zero has is nodes (Some y) path ends count first =
       let few = later nodes (Some y) (subst (λ (p : Place). IsPath (heap_of n t) p nodes (Some y)) (sym is) path) ends in
-      few_trans 2 (search_loads nodes (Some y) + 1) (6 + 4 * many - 0) s t u grew grows same (omega (arith, count)) first few
+      join_trans Few join 2 (search_loads nodes (Some y) + (1 + more)) (6 + more + 4 * many - 0) s t u grew grows same (omega (arith, count)) first few
   by_bucket (suc b) has is [] None path ends count first = absurd (no_start (heap_of n t) b has path)
   by_bucket (suc b) has is [] (Some y) path ends count first = absurd (not_there (heap_of n t) start (key_place key) y below (is y path) ends)
   by_bucket (suc b) has is (d ∷ nodes) None path ends count first =
       let few = later nodes None (subst (λ (p : Place). IsPath (heap_of n t) p nodes None) (sym (is d path.0)) path.1) ends in
-      few_trans 4 (search_loads nodes None + 1) (6 + 4 * many - 2) s t u grew grows same (omega (arith, count)) first few
+      join_trans Few join 4 (search_loads nodes None + (1 + more)) (6 + more + 4 * many - 2) s t u grew grows same (omega (arith, count)) first few
   by_bucket (suc b) has is (d ∷ nodes) (Some y) path ends count first =
       let few = later nodes (Some y) (subst (λ (p : Place). IsPath (heap_of n t) p nodes (Some y)) (sym (is d path.0)) path.1) ends in
-      few_trans 4 (search_loads nodes (Some y) + 1) (6 + 4 * many - 2) s t u grew grows same (omega (arith, count)) first few
+      join_trans Few join 4 (search_loads nodes (Some y) + (1 + more)) (6 + more + 4 * many - 2) s t u grew grows same (omega (arith, count)) first few
 
   pub turn_few : (bucket : ℕ) → LoadsFew (2 + root_loads bucket) s t → HasStart (heap_of n s) bucket
       → (SeesOwn s t → HasStart (heap_of n t) bucket → StartsAt (heap_of n t) bucket start)
-      → ReachesIn (heap_of n s) bucket (key_place key) many → LoadsFew (6 + 4 * many - root_loads bucket) s u
+      → ReachesIn (heap_of n s) bucket (key_place key) many → (k : SeesOwn s u) → Few k.part (6 + more + 4 * many - root_loads bucket)
   turn_few bucket first has starts r = λ k.
       let sees = own_sooner s t u grew grows k in
       let heap = few_heap n (2 + root_loads bucket) s t first sees in
@@ -290,10 +352,10 @@ module _ (n : HeapNumbers) (key many : ℕ) (start : Place) (s t u : Seat SplitN
       (subst (λ (h : Heap). MayEnd h (key_place key) r.to) (sym heap) r.ends) r.many_is first k
 
 -- after turns that are over there were none
-pub turns_few : (n : HeapNumbers) (given turns one two : ℕ) (s t u : Seat SplitNote) (own : List (Event SplitNote))
-    → AreOver (split_reading n) given turns s own t → IsPrefix t.seen u.seen
-    → (t.seen ≡ s.seen → LoadsFew one t u) → one ≡ two → LoadsFew two s u
-turns_few n given turns one two s t u own o grows few is = λ k.
+pub turns_few : (n : HeapNumbers) (Few : List (Event SplitNote) → ℕ → Type 0) → JoinsLoads Few → (given turns one two : ℕ) (s t u : Seat SplitNote)
+    (own : List (Event SplitNote)) → AreOver (split_reading n) given turns s own t → IsPrefix t.seen u.seen
+    → (t.seen ≡ s.seen → (k : SeesOwn t u) → Few k.part one) → one ≡ two → (k : SeesOwn s u) → Few k.part two
+turns_few n Few join given turns one two s t u own o grows few is = λ k.
     let grew = puts_grow s t own o.made.puts in
     let seen = own_no_turns n given turns s t own o (own_sooner s t u grew grows k) in
-    few_same one two s t u grew grows o.made.puts.agent seen is (few seen) k
+    join_trans Few join 0 one two s t u grew grows o.made.puts.agent (omega (arith, is)) (few_none 0 s t (λ k. seen)) (few seen) k

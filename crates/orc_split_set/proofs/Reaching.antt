@@ -27,8 +27,8 @@ use Rattle.orc_split_set.specs.Rootings.{IsUndisturbed, Prepares}
 use Rattle.orc_split_set.specs.SplitSearches.{SizeRead, split_reading}
 use Rattle.orc_split_set.specs.declared.bucket.Rooted.{Rooted}
 use Rattle.orc_split_set.proofs.Crowded.{begun_puts}
-use Rattle.orc_split_set.proofs.Crowding.{own_seen, own_sooner, puts_grow}
-use Rattle.orc_split_set.proofs.Looking.{few_heap, few_of, few_then, few_trans}
+use Rattle.orc_split_set.proofs.Crowding.{own_later, own_part, own_seen, own_sooner, puts_grow}
+use Rattle.orc_split_set.proofs.Looking.{JoinsLoads, few_heap, few_of, few_trans, join_trans}
 use Rattle.orc_heap.proofs.Pieces.{goes_on}
 use Rattle.orc_split_set.proofs.Ordered.{split_ordering}
 use Rattle.orc_split_set.proofs.Preparing.{size_told, undisturbed_left}
@@ -96,23 +96,26 @@ root_low (suc bucket) = omega arith
 abbrev size_in : HeapNumbers → Heap → ℕ
 size_in n h = size_by h (shown h (Root (greatest n)))
 
+-- nothing was put
+none_put : (t u : Seat SplitNote) (p : Puts t [] u) → SeesOwn t u → p.part ≡ []
+none_put t u p k = (own_part t u [] p k).1
+
 -- over the journals of a domain
 pub looks_call : {S : Type 0} (n : HeapNumbers) (agent_of : S → ℕ) (events : List S → List (Event SplitNote))
     → ((j : List S) (x : S) → (es : List (Event SplitNote)) × (events (j ++ x ∷ []) ≡ events j ++ es) × (list_all (λ e. e.agent == agent_of x) es ≡ true))
-    → (key turns : ℕ) (s t0 t u : Seat SplitNote) (zs : List (Event SplitNote)) (j m : List S) (rooted : Rooted) (prepared : Prepares n key turns s rooted t0)
+    → (Few : List (Event SplitNote) → ℕ → Type 0) → JoinsLoads Few → (more key turns : ℕ) (s t0 t u : Seat SplitNote) (zs : List (Event SplitNote)) (j m : List S) (rooted : Rooted) (prepared : Prepares n key turns s rooted t0)
     → turns ≢ 0
     → ((gap : List (Event SplitNote)) → events_by s.agent gap ≡ [] → HasStart (run_heap n (s.seen ++ gap)) (bucket_now n key (seat_after s gap))
     → LoadsFew (2 + root_loads (bucket_now n key (seat_after s gap))) (seat_after s gap) t0)
     → (HasStart (heap_of n t0) (bucket_now n key t0) → (many : ℕ) → ReachesIn (heap_of n t0) (bucket_now n key t0) (key_place key) many
-    → LoadsFew (6 + 4 * many - root_loads (bucket_now n key t0)) t0 t)
+    → (k : SeesOwn t0 t) → Few k.part (6 + more + 4 * many - root_loads (bucket_now n key t0)))
     → IsPrefix t0.seen t.seen → t.agent ≡ s.agent → Only [] t u → Puts s zs u → IsPrefix j m → s.seen ≡ events j → u.seen ≡ events m
     → IsPrefix t0.seen u.seen → IsAlone agent_of s.agent j m
     → HasStart (run_heap n (events (take (part_begin agent_of s.agent j m) m))) (bucket_of key (size_of n (events (take (part_begin agent_of s.agent j m) m))))
     → (many : ℕ) → ReachesIn (run_heap n (events (take (part_begin agent_of s.agent j m) m)))
     (bucket_of key (size_of n (events (take (part_begin agent_of s.agent j m) m)))) (key_place key) many
-    → AreLoads (drop (length (events (take (part_begin agent_of s.agent j m) m))) (events m))
-    × (length (drop (length (events (take (part_begin agent_of s.agent j m) m))) (events m)) ≤ 8 + 4 * many)
-looks_call {S} n agent_of events adds key turns s t0 t u zs j m rooted prepared ne few asks later same settled w grows is_s is_u (rest, on) alone has many r =
+    → Few (drop (length (events (take (part_begin agent_of s.agent j m) m))) (events m)) (8 + more + 4 * many)
+looks_call {S} n agent_of events adds Few join more key turns s t0 t u zs j m rooted prepared ne few asks later same settled w grows is_s is_u (rest, on) alone has many r =
     let new : events m ≡ events j ++ w.part = sym is_u ∙ (w.is ∙ ap (λ z. z ++ w.part) is_s) in
     let e = part_events agent_of events adds s.agent j m w.part grows new in
     let begin : events (take (part_begin agent_of s.agent j m) m) ≡ s.seen ++ e.gap = e.begin_events ∙ ap (λ z. z ++ e.gap) (sym is_s) in
@@ -133,9 +136,13 @@ looks_call {S} n agent_of events adds key turns s t0 t u zs j m rooted prepared 
     (subst (λ (h : Heap). ReachesIn h (bucket_of key (size_in n h)) (key_place key) many) (sym heap) reach) in
     let loads : root_loads (bucket_now n key t0) ≡ root_loads (bucket_now n key first) = ap (λ (h : Heap). root_loads (bucket_of key (size_in n h))) heap in
     let low = root_low (bucket_now n key first) in
-    let both = few_trans (2 + root_loads (bucket_now n key first)) (6 + 4 * many - root_loads (bucket_now n key t0)) (8 + 4 * many) first t0 t grew later begun.agent
-    (omega (arith, loads, low)) one two in
-    let all = few_then (8 + 4 * many) first t u (goes_on first.seen t0.seen t.seen grew later) same settled.puts both sees in
+    let both = join_trans Few join (2 + root_loads (bucket_now n key first)) (6 + more + 4 * many - root_loads (bucket_now n key t0)) (8 + more + 4 * many)
+    first t0 t grew later begun.agent (omega (arith, loads, low)) one two in
+    let still : (k : SeesOwn first t) → SeesOwn first u → t.seen ≡ u.seen = λ k l. sym (settled.puts.is ∙ (ap (λ z. t.seen ++ z) (none_put t u settled.puts
+    (own_later first t u (goes_on first.seen t0.seen t.seen grew later) (puts_grow t u [] settled.puts) same l)) ∙ append-nil t.seen)) in
+    let sees_t = own_sooner first t u (goes_on first.seen t0.seen t.seen grew later) (puts_grow t u [] settled.puts) sees in
+    let part_t : sees_t.part ≡ e.part = append_cancel_left first.seen sees_t.part e.part (sym sees_t.is ∙ (still sees_t sees ∙ whole)) in
+    let all = subst (λ z. Few z (8 + more + 4 * many)) part_t (both sees_t) in
     let seams : drop (length (events (take (part_begin agent_of s.agent j m) m))) (events m) ≡ e.part =
     ap (λ z. drop (length z) (events m)) begin ∙ (ap (λ z. drop (length (s.seen ++ e.gap)) z) (sym is_u ∙ whole) ∙ drop-append_seam (s.seen ++ e.gap) e.part) in
-    subst (λ z. AreLoads z × (length z ≤ 8 + 4 * many)) (sym seams) all
+    subst (λ z. Few z (8 + more + 4 * many)) (sym seams) all

@@ -51,6 +51,10 @@ pub record ReachesIn (h : Heap) (bucket place many : ℕ) : Type 0 where
 abbrev pub LoadsFew : ℕ → Seat SplitNote → Seat SplitNote → Type 0
 LoadsFew most s t = (k : SeesOwn s t) → AreLoads k.part × (length k.part ≤ most)
 
+-- the pass made at most so many events, if it saw only own events
+abbrev pub StepsFew : ℕ → Seat SplitNote → Seat SplitNote → Type 0
+StepsFew most s t = (k : SeesOwn s t) → length k.part ≤ most
+
 -- how many loads a search makes at most that begins before these nodes and ends there
 abbrev pub search_loads : List ℕ → Option ℕ → ℕ
 search_loads nodes None = 2 * length nodes + 2

@@ -144,3 +144,9 @@ module _ {L D P S : Type 0} (members : LinksOf L D P S SplitNote) (links : L) wh
   LooksFew key old new = IsCallAlone members links old new → HasStart (run_heap (members.numbers links) (events_before old new)) (bucket_before key old new)
       → (many : ℕ) → ReachesIn (run_heap (members.numbers links) (events_before old new)) (bucket_before key old new) (key_place key) many
       → AreLoads (events_within old new) × (length (events_within old new) ≤ 8 + 4 * many)
+
+  -- under the same terms: at most so many more events stand in the part than 8, and 4 for each of those nodes
+  abbrev pub TakesFew : ℕ → ℕ → P → P → Type 0
+  TakesFew more key old new = IsCallAlone members links old new → HasStart (run_heap (members.numbers links) (events_before old new)) (bucket_before key old new)
+      → (many : ℕ) → ReachesIn (run_heap (members.numbers links) (events_before old new)) (bucket_before key old new) (key_place key) many
+      → length (events_within old new) ≤ 8 + more + 4 * many

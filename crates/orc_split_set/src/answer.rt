@@ -1,6 +1,6 @@
 //! Answers whether a key is present, and takes it out.
 
-ghost use Rattle.std.specs.Prelude.{◌≡◌, ◌<◌, ◌≤◌, ◌+◌, ◌*◌, ◌-◌, ◌^◌, ℕ, Ok, Err, List, Option};
+ghost use Rattle.std.specs.Prelude.{◌≡◌, ◌<◌, ◌≤◌, ◌+◌, ◌*◌, ◌-◌, ◌^◌, ℕ, Ok, Err, List, Option, Some, true};
 ghost use mathlib.Core.List.{IsPrefix};
 ghost use Rattle.orc_heap.specs.{Seats.{Seat, heap_of}, declared.events.Place.{Place}};
 ghost use Rattle.orc_ordered_chains.specs.Chains.{IsPath};
@@ -8,7 +8,7 @@ ghost use Rattle.orc_ordered_search.specs.{Entries.{entry_by}, Searches.{HasRoom
 ghost use Rattle.orc_split_rule.specs.{SplitDiscipline.{greatest}, SplitOrder.{key_place}, declared.split.SplitNote.{SplitNote}};
 ghost use Rattle.orc_split_set.specs.{
   FewEvents.{MadeFewBySearch},
-  Looks.{HasStart, LoadsFew, MayEnd, ReachesIn, bucket_now, root_loads, search_loads},
+  Looks.{HasStart, LoadsFew, MayEnd, ReachesIn, StepsFew, bucket_now, root_loads, search_loads},
   SplitSearches.{BeginsAt, split_reading},
 };
 
@@ -43,6 +43,10 @@ fn call_from<L: Links<Rule = Split>>(
         → BeginsAt (L.numbers links.now) start (key_place key) left s (L.seat links.now p.old)
         → (nodes : List ℕ) (to : Option ℕ) → IsPath (heap_of (L.numbers links.now) s) start nodes to
         → MayEnd (heap_of (L.numbers links.now) s) (key_place key) to → LoadsFew (search_loads nodes to + 1) s (L.seat links.now p.new) }
+    ensures taken { call ≡ Call.Remove → result ≡ Some true → (start : Place) (s : Seat SplitNote) → HasRoom s.slots
+        → BeginsAt (L.numbers links.now) start (key_place key) left s (L.seat links.now p.old)
+        → (nodes : List ℕ) (to : Option ℕ) → IsPath (heap_of (L.numbers links.now) s) start nodes to
+        → MayEnd (heap_of (L.numbers links.now) s) (key_place key) to → StepsFew (search_loads nodes to + 2) s (L.seat links.now p.new) }
 {
     let found = search_for(links, p, NewNode::Key(key), left);
     answer_found::<SplitPlace, L>(links, p, 0, key, call, found)
@@ -69,6 +73,12 @@ fn call_turn<L: Links<Rule = Split>>(
         → (many : ℕ) → ReachesIn (heap_of (L.numbers links.now) (L.seat links.now p.old))
         (bucket_now (L.numbers links.now) key (L.seat links.now p.old)) (key_place key) many
         → LoadsFew (6 + 4 * many - root_loads (bucket_now (L.numbers links.now) key (L.seat links.now p.old))) (L.seat links.now p.old)
+        (L.seat links.now p.new) }
+    ensures taken { call ≡ Call.Remove → result ≡ Some true
+        → HasStart (heap_of (L.numbers links.now) (L.seat links.now p.old)) (bucket_now (L.numbers links.now) key (L.seat links.now p.old))
+        → (many : ℕ) → ReachesIn (heap_of (L.numbers links.now) (L.seat links.now p.old))
+        (bucket_now (L.numbers links.now) key (L.seat links.now p.old)) (key_place key) many
+        → StepsFew (7 + 4 * many - root_loads (bucket_now (L.numbers links.now) key (L.seat links.now p.old))) (L.seat links.now p.old)
         (L.seat links.now p.new) }
 {
     match begin(links, p, most, key) {
@@ -99,6 +109,12 @@ pub(crate) fn call_turns<L: Links<Rule = Split>>(
         → (many : ℕ) → ReachesIn (heap_of (L.numbers links.now) (L.seat links.now p.old))
         (bucket_now (L.numbers links.now) key (L.seat links.now p.old)) (key_place key) many
         → LoadsFew (6 + 4 * many - root_loads (bucket_now (L.numbers links.now) key (L.seat links.now p.old))) (L.seat links.now p.old)
+        (L.seat links.now p.new) }
+    ensures taken { call ≡ Call.Remove → result ≡ Ok true
+        → HasStart (heap_of (L.numbers links.now) (L.seat links.now p.old)) (bucket_now (L.numbers links.now) key (L.seat links.now p.old))
+        → (many : ℕ) → ReachesIn (heap_of (L.numbers links.now) (L.seat links.now p.old))
+        (bucket_now (L.numbers links.now) key (L.seat links.now p.old)) (key_place key) many
+        → StepsFew (7 + 4 * many - root_loads (bucket_now (L.numbers links.now) key (L.seat links.now p.old))) (L.seat links.now p.old)
         (L.seat links.now p.new) }
 {
     for _ in 0..turns {

@@ -7,7 +7,7 @@ ghost use Rattle.orc_history.specs.{Journals.{Within}, declared.set.{ListRefused
 ghost use Rattle.orc_ordered_search.specs.Entries.{entry_by};
 ghost use Rattle.orc_split_rule.specs.SplitDiscipline.{IsSize};
 ghost use Rattle.orc_split_set.specs.{
-  SetCalls.{Enters, EntersNone, FindsAbsent, FindsWorn, GivesAtMost, GrowsCrowded, HadSize, HasCause, IsUsable, LacksRow, LinksDummy, LooksFew, MakesFewBySearch, RootsBucket, UsesAllTurns, set_history},
+  SetCalls.{Enters, EntersNone, FindsAbsent, FindsWorn, GivesAtMost, GrowsCrowded, HadSize, HasCause, IsUsable, LacksRow, LinksDummy, LooksFew, MakesFewBySearch, RootsBucket, TakesFew, UsesAllTurns, set_history},
   Rootings.{IsRootSet},
   Stops.{HasDummyOnChain},
   Laws.SetLaws.{cause_stays, entries_below, history_grows, seen_legal},
@@ -92,6 +92,7 @@ impl<L: Links<Rule = Split>> SplitSet<L> {
         ensures later { IsPrefix (L.journal p.old) (L.journal p.new) }
         ensures rooted { IfOk result (λ yes. RootsBucket L.Links self.now.links key p.old p.new) }
         ensures few { call ≡ Call.Ask → turns ≢ 0 → LooksFew L.Links self.now.links key p.old p.new }
+        ensures taken { call ≡ Call.Remove → result ≡ Ok true → TakesFew L.Links self.now.links 1 key p.old p.new }
         ensures entered { IfOk result (λ yes. Enters L.Links self.now.links p.old p.new (λ agent. entry_by call agent key yes ∷ [])) }
         ensures none { IfErr result (λ e. EntersNone L.Links self.now.links p.old p.new) }
         ensures licence { IfErr result (λ e. Within (length (L.journal p.old)) (length (L.journal p.new))
@@ -247,6 +248,7 @@ impl<L: Links<Rule = Split>> SharedSet for SplitSet<L> {
         ensures agent { agent L.Links self.now.links p.new ≡ agent L.Links self.now.links p.old }
         ensures later { IsPrefix (L.journal p.old) (L.journal p.new) }
         ensures rooted { IfOk result (λ yes. RootsBucket L.Links self.now.links key p.old p.new) }
+        ensures few { result ≡ Ok true → TakesFew L.Links self.now.links 1 key p.old p.new }
         ensures removed { IfOk result (λ yes. Enters L.Links self.now.links p.old p.new (λ agent. SetEntry.Removed agent key yes ∷ [])) }
         ensures none { IfErr result (λ e. EntersNone L.Links self.now.links p.old p.new) }
         ensures licence { IfErr result (λ e. Within (length (L.journal p.old)) (length (L.journal p.new))

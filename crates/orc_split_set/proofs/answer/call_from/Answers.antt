@@ -1,7 +1,7 @@
 -- By what the search found.
 use Rattle.std.proofs.Common.{refl}
 use Rattle.orc_split_set.proofs.Crowding.{seen_grows}
-use Rattle.orc_split_set.proofs.Looking.{found_few}
+use Rattle.orc_split_set.proofs.Looking.{found_few, taken_few, taken_steps}
 use Rattle.orc_ordered_search.specs.Entries.{entry_by}
 use Rattle.orc_split_set.specs.SplitSearches.{split_reading}
 use Rattle.orc_split_set.proofs.FewEvents.{few_search, turn_agent}
@@ -41,3 +41,17 @@ returns-clause-tries g c =
     few_search 4 s (g.L.Links.seat d c.args.p.now) u b.begins.seen b.begins.agent
     (turn_agent (split_reading (g.L.Links.numbers d)) (λ yes. entry_by c.args.call s.agent c.args.key yes) s u c.answer_found.result (f.answered start s finds))
     (f.few start s finds)
+
+pub returns-clause-taken : goal.returns-clause-taken
+returns-clause-taken g c = λ removes yes start s room b nodes to path ends.
+    let d = c.args.links.now in
+    let t = g.L.Links.seat d c.search_for-found.new.p in
+    let u = g.L.Links.seat d c.answer_found.new.p in
+    let x = c.search_for-found.ensures in
+    let e = c.answer_found.ensures in
+    let grows = seen_grows (g.L.Links.events d) g.L.Links.agent_of (g.met.L.Links.steps_add d) (g.L.Links.journal c.search_for-found.new.p)
+    (g.L.Links.journal c.answer_found.new.p) t u e.later (g.met.L.Links.seen_is d c.search_for-found.new.p x.pass)
+    (g.met.L.Links.seen_is d c.answer_found.new.p e.pass) in
+    let took = e.taken start s (x.found start s room b) removes yes in
+    taken_few (g.L.Links.numbers d) start c.args.key s t u (g.met.L.Links.allowed d c.search_for-found.new.p x.pass) grows nodes to path ends
+    took.passed took.left took.first took.node took.next took.finds (taken_steps _ _ _ _ _ _ _ _ t u took.takes)

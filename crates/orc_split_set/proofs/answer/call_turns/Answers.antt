@@ -1,5 +1,5 @@
 -- One turn after another, until one answers.
-use Rattle.std.proofs.Common.{[], append-nil, arith, refl, subst, sym, Some, ℕ, ◌*◌, ◌+◌, ◌-◌, ◌≡◌}
+use Rattle.std.proofs.Common.{Bool, Ok, Result, [], append-nil, arith, false, length, true, refl, subst, sym, Some, ℕ, ◌*◌, ◌+◌, ◌-◌, ◌≡◌, ◌≤◌}
 use Rattle.orc_heap.proofs.Pieces.{goes_on}
 use Rattle.orc_heap.specs.Slots.{Slots}
 use Rattle.orc_ordered_search.specs.Entries.{entry_by}
@@ -9,12 +9,14 @@ use Rattle.orc_ordered_search.proofs.Tiring.{tires_answer, tires_next, tires_non
 use Rattle.orc_heap.specs.Journals.{run_heap}
 use Rattle.orc_split_rule.specs.SplitDiscipline.{size_of}
 use Rattle.orc_split_rule.specs.SplitOrder.{bucket_of, key_place}
-use Rattle.orc_split_set.specs.Looks.{HasStart, LoadsFew, ReachesIn, bucket_now, root_loads}
+use Rattle.orc_split_set.specs.Looks.{HasStart, LoadsFew, ReachesIn, StepsFew, bucket_now, root_loads}
 use Rattle.orc_split_set.specs.SplitSearches.{split_reading}
 use Rattle.orc_split_set.proofs.Crowding.{own_no_turns, seen_grows}
-use Rattle.orc_split_set.proofs.Looking.{few_none, turns_few}
+use Rattle.orc_split_set.proofs.Looking.{few_none, joins_loads, joins_steps, turns_few}
+use Rattle.orc_ordered_search.specs.Ways.{AreLoads}
+use Rattle.orc_fault.specs.declared.Again.{Again}
 use Rattle.orc_split_set.proofs.Passes.{seen_on}
-use Rattle.orc_split_set.proofs.FewEvents.{few_next, few_start, few_wider}
+use Rattle.orc_split_set.proofs.FewEvents.{few_parts, few_start, few_wider}
 use Rattle.orc_split_set.proofs.answer.call_turns.Goals as goal
 
 pub loop-init : goal.loop-init
@@ -37,7 +39,7 @@ loop-preserved g c =
       later = goes_on _ _ _ i.later e.later;
       tires = tires_next (split_reading _) c.loop.counter _ _ _ i.tires
           e.answered;
-      few = λ k low. few_next (6 + 2 * k) c.loop.counter 1 0 0 s t u (on c.args.p.now c.loop.p c.requires.pass i.pass i.later)
+      few = λ k low. few_parts (6 + 2 * k) c.loop.counter 1 0 0 s t u (on c.args.p.now c.loop.p c.requires.pass i.pass i.later)
           (on c.loop.p c.call_turn.new.p i.pass e.pass e.later) (i.few k low) (e.tries k low);
     }
 
@@ -72,7 +74,7 @@ returns-in-Some-clause-few g c = λ asks has many r.
     (g.L.Links.journal c.call_turn.new.p) t u e.later (g.met.L.Links.seen_is d c.loop.p i.pass) (g.met.L.Links.seen_is d c.call_turn.new.p e.pass) in
     let key = c.args.key in
     let most = 6 + 4 * many - root_loads (bucket_now n key s) in
-    turns_few n 0 c.loop.counter most most s t u i.tires.own i.tires.over grows
+    turns_few n (λ es most. AreLoads es × (length es ≤ most)) joins_loads 0 c.loop.counter most most s t u i.tires.own i.tires.over grows
     (λ seen. subst (λ z. HasStart (run_heap n z) (bucket_of key (size_of n z)) → (m : ℕ)
     → ReachesIn (run_heap n z) (bucket_of key (size_of n z)) (key_place key) m
     → LoadsFew (6 + 4 * m - root_loads (bucket_of key (size_of n z))) t u) seen (e.few asks) has many r) refl
@@ -94,7 +96,7 @@ returns-in-Some-clause-tries g c = λ k low.
     let e = c.in-Some.ensures in
     let on = seen_on g.L.Links g.met.L.Links.steps_add g.met.L.Links.seen_is c.args.links.now in
     few_wider (6 + 2 * k) (c.loop.counter + 1) c.args.turns 0 0 s u (omega (arith, c.loop-test.true)) (omega arith)
-    (few_next (6 + 2 * k) c.loop.counter 1 0 0 s t u (on c.args.p.now c.loop.p c.requires.pass i.pass i.later)
+    (few_parts (6 + 2 * k) c.loop.counter 1 0 0 s t u (on c.args.p.now c.loop.p c.requires.pass i.pass i.later)
     (on c.loop.p c.call_turn.new.p i.pass e.pass e.later) (i.few k low) (e.tries k low))
 
 pub returns-clause-tries : goal.returns-clause-tries
@@ -102,3 +104,29 @@ returns-clause-tries g c = λ k low.
     let s = g.L.Links.seat c.args.links.now c.args.p.now in
     let t = g.L.Links.seat c.args.links.now c.loop.p in
     few_wider (6 + 2 * k) c.loop.counter c.args.turns 0 0 s t (omega (arith, c.loop.auto.counter-end)) (omega arith) (c.loop.invariant.few k low)
+
+-- what answered true in its last turn
+ok_some : (answer : Bool) → ◌≡◌ {A = Result Bool Again} (Ok answer) (Ok true) → Some answer ≡ Some true
+ok_some true e = refl
+ok_some false e = cc
+
+pub returns-in-Some-clause-taken : goal.returns-in-Some-clause-taken
+returns-in-Some-clause-taken g c = λ removes yes has many r.
+    let d = c.args.links.now in
+    let n = g.L.Links.numbers d in
+    let s = g.L.Links.seat d c.args.p.now in
+    let t = g.L.Links.seat d c.loop.p in
+    let u = g.L.Links.seat d c.call_turn.new.p in
+    let i = c.loop.invariant in
+    let e = c.in-Some.ensures in
+    let grows = seen_grows (g.L.Links.events d) g.L.Links.agent_of (g.met.L.Links.steps_add d) (g.L.Links.journal c.loop.p)
+    (g.L.Links.journal c.call_turn.new.p) t u e.later (g.met.L.Links.seen_is d c.loop.p i.pass) (g.met.L.Links.seen_is d c.call_turn.new.p e.pass) in
+    let key = c.args.key in
+    let most = 7 + 4 * many - root_loads (bucket_now n key s) in
+    turns_few n (λ es most. length es ≤ most) joins_steps 0 c.loop.counter most most s t u i.tires.own i.tires.over grows
+    (λ seen. subst (λ z. HasStart (run_heap n z) (bucket_of key (size_of n z)) → (m : ℕ)
+    → ReachesIn (run_heap n z) (bucket_of key (size_of n z)) (key_place key) m
+    → StepsFew (7 + 4 * m - root_loads (bucket_of key (size_of n z))) t u) seen (e.taken removes (ok_some c.in-Some.answer yes)) has many r) refl
+
+pub returns-clause-taken : goal.returns-clause-taken
+returns-clause-taken g c = λ removes yes. cc

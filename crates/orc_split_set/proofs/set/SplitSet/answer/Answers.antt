@@ -1,5 +1,5 @@
 -- What the call did, and the settling after it.
-use Rattle.std.proofs.Common.{Bool, Ok, Result, arith, subst, ℕ, ◌+◌, ◌∙◌, ◌≡◌, ◌≢◌}
+use Rattle.std.proofs.Common.{Bool, Ok, Result, arith, length, subst, true, ℕ, ◌+◌, ◌∙◌, ◌≡◌, ◌≢◌, ◌≤◌}
 use Rattle.std.specs.Prelude.{IsErr}
 use Rattle.orc_fault.specs.declared.Again.{Again as AgainFault}
 use Rattle.orc_heap.proofs.Pieces.{goes_on}
@@ -12,7 +12,9 @@ use Rattle.orc_ordered_search.specs.Entries.{entry_by}
 use Rattle.orc_ordered_search.specs.Turns.{AnswersTurns}
 use Rattle.orc_split_set.proofs.Called.{called}
 use Rattle.orc_split_set.proofs.Calling.{call_idle, did_after, if_ok, roots_call}
-use Rattle.orc_split_set.proofs.FewEvents.{few_levels, few_next, few_still, few_wider}
+use Rattle.orc_split_set.proofs.FewEvents.{few_levels, few_parts, few_still, few_wider}
+use Rattle.orc_ordered_search.specs.Ways.{AreLoads}
+use Rattle.orc_split_set.proofs.Looking.{joins_loads, joins_steps}
 use Rattle.orc_split_set.proofs.Passes.{seen_on}
 use Rattle.orc_split_set.proofs.Reaching.{looks_call}
 use Rattle.orc_split_set.proofs.Telling.{told_on}
@@ -59,8 +61,11 @@ returns g c =
     let grew = seen_on g.L.Links g.met.L.Links.steps_add g.met.L.Links.seen_is d p0 c.call_turns-answer.new.p before.pass done.pass done.later in
     let grew_u = seen_on g.L.Links g.met.L.Links.steps_add g.met.L.Links.seen_is d p0 q before.pass settle.pass rest in
     record {
-      few = λ asks ne alone has many r. looks_call n by events adds c.args.key turns s t0 t u call.own _ _ c.prepare-rooted.result before.prepared
+      few = λ asks ne alone has many r. looks_call n by events adds (λ es most. AreLoads es × (length es ≤ most)) joins_loads 0 c.args.key turns s t0 t u call.own _ _ c.prepare-rooted.result before.prepared
           ne before.few (done.few asks)
+          grew (keeps.1 ∙ same) settle.nothing call.puts grows is_s is_u grew_u alone has many r;
+      taken = λ removes yes alone has many r. looks_call n by events adds (λ es most. length es ≤ most) joins_steps 1 c.args.key turns s t0 t u call.own _ _ c.prepare-rooted.result before.prepared
+          (some true yes) before.few (done.taken removes yes)
           grew (keeps.1 ∙ same) settle.nothing call.puts grows is_s is_u grew_u alone has many r;
       rooted = if_ok answer _ (λ value is. roots_call g.L.Links g.met.L.Links.steps_add g.met.L.Links.seen_is d c.args.key turns p p0 q inner.own
           c.requires.usable.0 settle.pass grows c.prepare-rooted.result before.prepared (some value is) inner.made.puts
@@ -80,7 +85,7 @@ returns g c =
           let sooner = on p p0 c.requires.usable.0 before.pass before.later in
           let next = on p0 c.call_turns-answer.new.p before.pass done.pass done.later in
           (few_wider 22 (1 + turns) (turns + 1) 6 6 s u (omega arith) (omega arith) (few_still 22 (1 + turns) 6 s t u (goes_on _ _ _ sooner next)
-          settle.nothing.puts (few_next 22 1 turns 6 0 s t0 t sooner next (before.tries 8 fits) (done.tries 8 fits)))).1;
+          settle.nothing.puts (few_parts 22 1 turns 6 0 s t0 t sooner next (before.tries 8 fits) (done.tries 8 fits)))).1;
       again = again;
       gives = call.gives;
       settled = λ alone. settle.settled (settling_alone g.L.Links d p c.call_turns-answer.new.p q since settle.later (keeps.1 ∙ same) alone);

@@ -18,7 +18,7 @@ use Rattle.orc_split_set.proofs.Absent.{absent_call}
 use Rattle.orc_split_set.proofs.Called.{called}
 use Rattle.orc_split_set.proofs.Calling.{call_idle, did_after, if_ok, insert_after, roots_call}
 use Rattle.orc_split_set.proofs.Crowded.{grows_call}
-use Rattle.orc_split_set.proofs.FewEvents.{few_levels, few_most, few_next, few_still, few_wider, insert_gives}
+use Rattle.orc_split_set.proofs.FewEvents.{few_levels, few_most, few_parts, few_still, few_wider, insert_gives}
 use Rattle.orc_split_set.proofs.Passes.{seen_on}
 use Rattle.orc_split_set.proofs.Telling.{told_lacks, told_next, told_on, told_worn}
 use Rattle.orc_split_set.specs.SetCalls.{FindsWorn, LacksRow, PartTells}
@@ -120,9 +120,9 @@ returns g c =
           let gives = insert_gives (split_reading n) (λ answer. Added t0.agent c.args.key answer) turns t0 t (answer_by turn) done.inserted in
           let v = g.L.Links.seat d p2 in
           let turned = few_wider 22 turns turns (3 * gives_in (made_from t0 t)) 3 t0 t (omega arith) (omega (arith, gives)) (done.tries 8 fits) in
-          let first_two = few_next 22 1 turns 6 3 s t0 t one two (before.tries 8 fits) turned in
+          let first_two = few_parts 22 1 turns 6 3 s t0 t one two (before.tries 8 fits) turned in
           let last = few_most 22 0 6 t v grown.grown.doubles.call.made.puts.agent three grown.tries in
-          let whole = few_next 22 (1 + turns) 0 9 6 s t v (goes_on _ _ _ one two) three first_two last in
+          let whole = few_parts 22 (1 + turns) 0 9 6 s t v (goes_on _ _ _ one two) three first_two last in
           (few_wider 22 (1 + turns + 0) (turns + 1) 15 15 s u (omega arith) (omega arith) (few_still 22 (1 + turns + 0) 15 s v u
           (goes_on _ _ _ (goes_on _ _ _ one two) three) settle.nothing.puts whole)).1;
       again = call.again;
