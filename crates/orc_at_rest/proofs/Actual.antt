@@ -27,11 +27,12 @@ use Rattle.orc_machine_board.specs.declared.machine.MachineShape.{MachineShape}
 use Rattle.orc_machine_board.specs.declared.machine.Reclaiming.{Reclaiming}
 use Rattle.orc_machine_board.specs.declared.machine.Request.{Request}
 use Rattle.orc_domain.specs.Passes.{domain_bounds}
-use Rattle.orc_domain.specs.Rest.{IsShown, rest_domain, rest_journal}
+use Rattle.orc_domain.specs.Rest.{IsRestOf, IsShown, rest_domain, rest_journal}
 use Rattle.orc_domain.specs.declared.at_rest.OrcRest.{OrcRest}
 use Rattle.orc_domain.specs.declared.domain.OrcDomain.{OrcDomain}
+use Rattle.orc_domain.specs.declared.domain.OrcPass.{OrcPass}
 use Rattle.orc_at_rest.proofs.Reusing.{reuses_safely}
-use Rattle.orc_at_rest.specs.Journals.{HasJournal, IsLeftAtRest}
+use Rattle.orc_at_rest.specs.Journals.{HasJournal}
 use Rattle.orc_at_rest.specs.Reuse.{LeaksNothing, ReusesSafely}
 
 module _ {D N : Type 0} {d : discipline.Ghosts D N} {m : machine.Ghosts Reclaiming N (MachineShape N) Request (Step N) Agent Agent}
@@ -90,9 +91,10 @@ module _ {D N : Type 0} {d : discipline.Ghosts D N} {m : machine.Ghosts Reclaimi
               linked = list.2;
             }
 
--- what a domain of these sizes has left
+-- what is left of a domain of these sizes, which had these passes
 module _ {D N : Type 0} {d : discipline.Ghosts D N} {m : machine.Ghosts Reclaiming N (MachineShape N) Request (Step N) Agent Agent}
-    (r : OrcRest D N d m) (domain : OrcDomain D N) (seen : List (Step N)) (left : IsLeftAtRest domain seen r) (b : Bounds) (sizes : domain_bounds domain ≡ b)
+    (r : OrcRest D N d m) (domain : OrcDomain D N) (passes : List (OrcPass D N d m)) (left : IsRestOf domain passes r)
+    (b : Bounds) (sizes : domain_bounds domain ≡ b)
   where
     same_sizes : domain_bounds (rest_domain r) ≡ b
     same_sizes = ap (λ (x : OrcDomain D N). domain_bounds x) left.domain_is ∙ sizes
@@ -107,4 +109,4 @@ module _ {D N : Type 0} {d : discipline.Ghosts D N} {m : machine.Ghosts Reclaimi
         → ((n : HeapNumbers) (seen : List (Event N)) → d.holds n seen → Rises (rank n seen) (run_heap n seen)) → LeaksNothing b (rest_journal r)
     left_rest rank rises =
         leaks_nothing r left.shown b same_sizes rank rises
-        (subst (λ (x : OrcDomain D N). IsAtRest (run_of (domain_bounds x) (rest_journal r))) (sym left.domain_is) left.rest)
+        (subst (λ (x : OrcDomain D N). IsAtRest (run_of (domain_bounds x) (rest_journal r))) (sym left.domain_is) left.at_rest)

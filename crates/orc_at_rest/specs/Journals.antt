@@ -15,26 +15,16 @@ use Rattle.orc_projection.specs.Mirror.{numbers_of}
 use Rattle.orc_projection.specs.Projection.{StoresUnmarked, project}
 use Rattle.orc_shared_words.specs.Runs.{AgentsBelow}
 use Rattle.orc_shared_words.specs.declared.machine.Machine as machine
-use Rattle.orc_machine_board.specs.Rules.{machine_opening, run_of}
+use Rattle.orc_machine_board.specs.Rules.{machine_opening}
 use Rattle.orc_machine_board.specs.declared.machine.MachineShape.{MachineShape}
 use Rattle.orc_machine_board.specs.declared.machine.Reclaiming.{Reclaiming}
 use Rattle.orc_machine_board.specs.declared.machine.Request.{Request}
 use Rattle.orc_domain.specs.Passes.{domain_bounds}
-use Rattle.orc_domain.specs.Rest.{GoesOnQuietly, IsShown, rest_domain, rest_journal}
+use Rattle.orc_domain.specs.Rest.{IsShown, rest_domain, rest_journal}
 use Rattle.orc_domain.specs.declared.at_rest.OrcRest.{OrcRest}
-use Rattle.orc_domain.specs.declared.domain.OrcDomain.{OrcDomain}
-use Rattle.orc_rest.specs.Rest.{IsAtRest}
 use Rattle.orc_at_rest.specs.Reuse.{LeaksNothing, ReusesSafely}
 
 module _ {D N : Type 0} {d : discipline.Ghosts D N} {m : machine.Ghosts Reclaiming N (MachineShape N) Request (Step N) Agent Agent} where
-  -- what is left of the domain, whose passes had seen this journal: it is at rest, and its board has shown a journal that went on
-  -- without a heap event
-  pub record IsLeftAtRest (domain : OrcDomain D N) (seen : List (Step N)) (r : OrcRest D N d m) : Type 0 where
-    pub domain_is : rest_domain r ≡ domain
-    pub shown : IsShown r
-    pub rest : IsAtRest (run_of (domain_bounds domain) (rest_journal r))
-    pub journal : GoesOnQuietly (domain_bounds domain) seen (rest_journal r)
-
   -- the domain has these sizes, and its board has shown the journal: one lawful list of the steps of its agents, which stores no
   -- mark, begins with the steps of the opening, and whose events the discipline allows where they stand
   pub record HasJournal (may : HeapNumbers → List (Event N) → Event N → Type 0) (b : Bounds) (seed : Seed N) (r : OrcRest D N d m) : Type 0 where

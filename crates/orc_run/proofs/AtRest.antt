@@ -19,9 +19,8 @@ use Rattle.orc_board.specs.Runs.{Ran}
 use Rattle.orc_board.specs.Stretches.{View, pick}
 use Rattle.orc_domain.specs.Rest.{GoesOnQuietly}
 use Rattle.orc_at_rest.proofs.Silent.{Silent}
-use Rattle.orc_at_rest.specs.Domains.{queue_seed}
+use Rattle.orc_at_rest.specs.Domains.{IsLeftOf, IsMadeSo, queue_seed}
 use Rattle.orc_at_rest.specs.Queues.{queue_over}
-use Rattle.orc_run.specs.Over.{IsLeftOf, IsMadeSo}
 use Rattle.orc_run.specs.Runs.{WorkedThrough}
 use Rattle.orc_run.specs.declared.run.Finished.{Finished}
 use Rattle.orc_run.specs.declared.set.SetChoice.{SetChoice}

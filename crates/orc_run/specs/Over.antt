@@ -1,7 +1,6 @@
 -- What a run over any domains leaves: domains at rest, whose passes had seen journals that the replies follow.
 use Rattle.std.specs.Prelude.{◌≡◌, ◌+◌, All, Bool, List, ℕ}
 use Rattle.orc_words.specs.Bounds.{Bounds}
-use Rattle.orc_heap.specs.Seeds.{opening_events}
 use Rattle.orc_heap.specs.declared.links.Links.{Ghosts as LinksOf}
 use Rattle.orc_heap.specs.declared.seed.Seed.{Seed}
 use Rattle.orc_history.specs.declared.set.ListRefused.{ListRefused}
@@ -16,23 +15,12 @@ use Rattle.orc_board.specs.Stretches.{View, pick, set_view}
 use Rattle.orc_board.specs.declared.replies.Replies.{Replies}
 use Rattle.orc_run.specs.Containers.{queue_on, set_on, split_on}
 use Rattle.orc_run.specs.Sets.{most_buckets}
-use Rattle.orc_at_rest.specs.Domains.{agents_of, empty_seed, queue_seed, run_bounds}
+use Rattle.orc_at_rest.specs.Domains.{IsLeftOf, IsMadeSo, agents_of, empty_seed, queue_seed, run_bounds}
 use Rattle.orc_run.specs.declared.over.SetLeft.{SetLeft}
 use Rattle.orc_run.specs.declared.over.SetLeft.TheVariants as left
 use Rattle.orc_run.specs.declared.set.SetChoice.{SetChoice}
 use Rattle.orc_run.specs.declared.set.SetChoice.TheVariants as choice
 use Rattle.orc_run.specs.declared.work.Worked.{Worked}
-
--- this is what is left of a domain, whose passes had all seen this journal
-pub record IsLeftOf {L D P S N R : Type 0} (members : LinksOf L D P S N) (rests : L → List P → R → Type 0) (domain : L) (seen : List S) (r : R) : Type 0 where
-  pub passes : List P
-  pub is : rests domain passes r
-  pub saw : All (λ p. members.journal p ≡ seen) passes
-
--- a domain of these sizes, which began with this seed
-pub record IsMadeSo {L D P S N : Type 0} (members : LinksOf L D P S N) (bounds : L → Bounds) (b : Bounds) (seed : Seed N) (domain : L) : Type 0 where
-  pub sizes : bounds domain ≡ b
-  pub begins : members.opening domain ≡ opening_events seed
 
 module _ {L D P S R : Type 0} (members : LinksOf L D P S FifoNote) (bounds : L → Bounds) (rests : L → List P → R → Type 0) where
   -- these were left of both queues' domains, whose passes had seen these journals

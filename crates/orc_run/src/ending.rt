@@ -1,8 +1,8 @@
 //! The passes of a run are taken from their desks, and its queues' domains are brought to rest.
 
 ghost use Rattle.std.specs.Prelude.{◌≡◌, ◌<◌, ◌≤◌, Bool, ℕ, [], All, length, slice_index_or, vec_capacity};
+ghost use Rattle.orc_at_rest.specs.Domains.{IsLeftOf};
 ghost use Rattle.orc_board.specs.Stretches.{pick};
-ghost use Rattle.orc_run.specs.Over.{IsLeftOf};
 ghost use Rattle.orc_workers.specs.Desks.{AreIdle, HaveSeenTheSame, queue_seen, set_seen};
 
 use crate::desks::{Passes, passes_apart};

@@ -9,7 +9,8 @@ use Rattle.orc_stages.specs.Run.{AreIdle, HaveSeen, StandAhead, TookFirst}
 use Rattle.orc_stages.specs.declared.replies.StageDesk.{StageDesk}
 use Rattle.orc_stages.proofs.Taken.{ahead_many, taken_passes, taken_seen}
 use Rattle.orc_at_rest.proofs.Passes.{ArePasses}
-use Rattle.orc_stages_run.specs.Queues.{AreLeft, IsLeftOf, LeavesMore}
+use Rattle.orc_at_rest.specs.Domains.{IsLeftOf}
+use Rattle.orc_stages_run.specs.Queues.{AreLeft, LeavesMore}
 
 module _ {Q P A : Type 0} (q : QueueOf Q P A) (queue : Q) (rest all : List Q) (before ps : List P) (old new : List (StageDesk P)) (is : all ≡ queue ∷ rest)
     (none : before ≡ []) (t : TookFirst before old ps new)
@@ -62,7 +63,7 @@ module _ {Q L D P S R : Type 0} (domain_of : Q → L) (members : LinksOf L D P S
 
   -- what is left of the first queue, and then of the others
   pub one_more : (q : Q) (rest all : List Q) (k : ℕ → List S) (r : R) (before mid after : List R) → all ≡ q ∷ rest → mid ≡ before ++ r ∷ []
-      → IsLeftOf domain_of members rests q (k 0) r → LeavesMore domain_of members rests rest (λ i. k (suc i)) mid after
+      → IsLeftOf members rests (domain_of q) (k 0) r → LeavesMore domain_of members rests rest (λ i. k (suc i)) mid after
       → LeavesMore domain_of members rests all k before after
   one_more q rest all k r before mid after is m left h = record {
     more = r ∷ h.more;

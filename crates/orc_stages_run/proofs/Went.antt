@@ -11,9 +11,9 @@ use Rattle.orc_stages.specs.Desks.{view_at}
 use Rattle.orc_stages.specs.Learning.{AreFor}
 use Rattle.orc_stages.specs.Pipeline.{IsPipeline}
 use Rattle.orc_stages.specs.Run.{AreFresh, AreIdle, HaveSeen, HaveSeenTheSame, IsRunOf, first_seen}
-use Rattle.orc_at_rest.specs.Domains.{agents_of, run_bounds}
+use Rattle.orc_at_rest.specs.Domains.{IsMadeSo, agents_of, queue_seed, run_bounds}
 use Rattle.orc_stages_run.specs.Over.{WentOver}
-use Rattle.orc_stages_run.specs.Queues.{IsMade, LeavesMore}
+use Rattle.orc_stages_run.specs.Queues.{LeavesMore}
 use Rattle.orc_stages_run.specs.declared.over.Left.{Left}
 use Rattle.orc_stages_run.proofs.Ends.{all_left}
 
@@ -51,7 +51,8 @@ module _ {Q P A : Type 0} (q : QueueOf Q P A) where
 pub went : {Q L D P S R : Type 0} (domain_of : Q → L) (members : LinksOf L D P S FifoNote) (bounds : L → Bounds) (rests : L → List P → R → Type 0)
     (q : QueueOf Q P S) (agents_in : Q → ℕ) (lines : List Line) (posters stages rows : ℕ) (qs slice : List Q) (desks given : List (StageDesk P))
     (before : List R) (f : Left R) → slice ≡ qs → given ≡ desks → before ≡ [] → length qs ≡ stages + 1
-    → AllByRecursion (λ x. IsMade members bounds (run_bounds rows 2 (1 + posters + stages)) (domain_of x)) qs → AreFor q agents_in (1 + posters + stages) qs
+    → AllByRecursion (λ x. IsMadeSo members bounds (run_bounds rows 2 (1 + posters + stages)) queue_seed (domain_of x)) qs
+    → AreFor q agents_in (1 + posters + stages) qs
     → HaveSeenTheSame q desks → IsRunOf q slice lines posters desks f.done
     → ((k : ℕ → List S) → HaveSeen q k given → LeavesMore domain_of members rests qs k before f.queues.items)
     → WentOver domain_of members bounds rests q lines posters stages rows f
@@ -63,7 +64,7 @@ went domain_of members bounds rests q agents_in lines posters stages rows qs sli
     record {
       queues = qs;
       many = omega (arith, many);
-      made = subst (λ (n : ℕ). AllByRecursion (λ x. IsMade members bounds (run_bounds rows 2 n) (domain_of x)) qs) count made;
+      made = subst (λ (n : ℕ). AllByRecursion (λ x. IsMadeSo members bounds (run_bounds rows 2 n) queue_seed (domain_of x)) qs) count made;
       first = firsts agents_in q.first (1 + posters + stages) qs known;
       seen = k;
       left = all_left domain_of members rests qs k before f.queues.items none

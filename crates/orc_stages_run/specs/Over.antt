@@ -8,8 +8,8 @@ use Rattle.orc_fifo_rule.specs.declared.fifo.FifoNote.{FifoNote}
 use Rattle.orc_jobs.specs.declared.line.Line.{Line}
 use Rattle.orc_stages.specs.Desks.{view_at}
 use Rattle.orc_stages.specs.Pipeline.{IsPipeline}
-use Rattle.orc_at_rest.specs.Domains.{queue_bounds}
-use Rattle.orc_stages_run.specs.Queues.{AreLeft, IsMade}
+use Rattle.orc_at_rest.specs.Domains.{IsMadeSo, queue_bounds, queue_seed}
+use Rattle.orc_stages_run.specs.Queues.{AreLeft}
 use Rattle.orc_stages_run.specs.declared.over.Left.{Left}
 
 -- The jobs of these lines went through so many stages, behind so many posters, over queues of so many rows. This was left of the domains
@@ -18,7 +18,7 @@ pub record WentOver {Q L D P S R : Type 0} (domain_of : Q → L) (members : Link
     (rests : L → List P → R → Type 0) (q : QueueOf Q P S) (lines : List Line) (posters stages rows : ℕ) (f : Left R) : Type 0 where
   pub queues : List Q
   pub many : length queues ≡ suc stages
-  pub made : AllByRecursion (λ queue. IsMade members bounds (queue_bounds posters stages rows) (domain_of queue)) queues
+  pub made : AllByRecursion (λ queue. IsMadeSo members bounds (queue_bounds posters stages rows) queue_seed (domain_of queue)) queues
   pub first : AllByRecursion (λ queue. q.first queue ≡ 0) queues
   pub seen : ℕ → List S
   pub left : AreLeft domain_of members rests queues seen f.queues.items

@@ -1,10 +1,8 @@
 -- The queues of a pipeline over any domain, and what is left of them.
-use Rattle.std.specs.Prelude.{◌≡◌, ◌++◌, ◌∷◌, All, ℕ, suc, List, []}
+use Rattle.std.specs.Prelude.{◌≡◌, ◌++◌, ◌∷◌, ℕ, suc, List, []}
 use Rattle.std.proofs.Common.{zero}
-use Rattle.orc_words.specs.Bounds.{Bounds}
 use Rattle.orc_core.specs.declared.records.Agent.{Agent}
 use Rattle.orc_sound.specs.declared.steps.Step.{Step}
-use Rattle.orc_heap.specs.Seeds.{opening_events}
 use Rattle.orc_heap.specs.declared.discipline.Discipline as discipline
 use Rattle.orc_heap.specs.declared.links.Links.{Ghosts as LinksOf}
 use Rattle.orc_shared_words.specs.declared.machine.Machine as machine
@@ -15,27 +13,16 @@ use Rattle.orc_fifo_rule.specs.declared.fifo.Fifo.{Fifo}
 use Rattle.orc_fifo_rule.specs.declared.fifo.FifoNote.{FifoNote}
 use Rattle.orc_domain.specs.Rest.{rest_journal}
 use Rattle.orc_domain.specs.declared.at_rest.OrcRest.{OrcRest}
-use Rattle.orc_at_rest.specs.Domains.{queue_seed}
-
--- a domain of these sizes, which begins with a dummy whose successor gets position 0
-pub record IsMade {L D P S : Type 0} (members : LinksOf L D P S FifoNote) (bounds : L → Bounds) (b : Bounds) (domain : L) : Type 0 where
-  pub sizes : bounds domain ≡ b
-  pub begins : members.opening domain ≡ opening_events queue_seed
+use Rattle.orc_at_rest.specs.Domains.{IsLeftOf}
 
 -- of queues over these domains
 module _ {Q L D P S R : Type 0} (domain_of : Q → L) (members : LinksOf L D P S FifoNote) (rests : L → List P → R → Type 0) where
-  -- this is what is left of the queue's domain, whose passes had all seen this journal
-  pub record IsLeftOf (queue : Q) (seen : List S) (r : R) : Type 0 where
-    pub passes : List P
-    pub is : rests (domain_of queue) passes r
-    pub saw : All (λ p. members.journal p ≡ seen) passes
-
   -- each of these is what is left of the queue at its place, whose passes had seen the journal of that place
   abbrev pub AreLeft : List Q → (ℕ → List S) → List R → Type 0
   AreLeft [] k [] = Unit {0}
   AreLeft [] k (r ∷ rs) = ⊥
   AreLeft (queue ∷ queues) k [] = ⊥
-  AreLeft (queue ∷ queues) k (r ∷ rs) = IsLeftOf queue (k 0) r × AreLeft queues (λ i. k (suc i)) rs
+  AreLeft (queue ∷ queues) k (r ∷ rs) = IsLeftOf members rests (domain_of queue) (k 0) r × AreLeft queues (λ i. k (suc i)) rs
 
   -- what is left of these queues was put behind what was there before
   pub record LeavesMore (queues : List Q) (k : ℕ → List S) (before after : List R) : Type 0 where

@@ -3,8 +3,7 @@
 ghost use Rattle.std.specs.Prelude.{◌≡◌, ◌+◌, ◌≤◌, ◌<◌, ℕ, [], All, IfOk, length, slice_index_or};
 ghost use Rattle.std.specs.List.{AllByRecursion};
 ghost use Rattle.orc_stages.specs.{Learning.{AreFor}, Run.{AreFresh}};
-ghost use Rattle.orc_at_rest.specs.Domains.{run_bounds};
-ghost use Rattle.orc_stages_run.specs.Queues.{IsMade};
+ghost use Rattle.orc_at_rest.specs.Domains.{IsMadeSo, queue_seed, run_bounds};
 
 use orc_any_domain::Domain;
 use orc_at_rest::shape_of;
@@ -36,7 +35,7 @@ pub(crate) fn make_row<L: Domain<Rule = Fifo> + Drop>(
     ensures agents { IfOk result (λ row. length row.desks.items ≡ agents) }
     ensures fresh { IfOk result (λ row. AreFresh ⟦<Queue<L> as SharedQueue>⟧ row.queues.items 0 row.desks.items) }
     ensures known { IfOk result (λ row. AreFor ⟦<Queue<L> as SharedQueue>⟧ ⟦<Queue<L> as LearnQueue>⟧.agents agents row.queues.items) }
-    ensures made { IfOk result (λ row. AllByRecursion (λ queue. IsMade L.Links L.bounds (run_bounds rows 2 agents) queue.links) row.queues.items) }
+    ensures made { IfOk result (λ row. AllByRecursion (λ queue. IsMadeSo L.Links L.bounds (run_bounds rows 2 agents) queue_seed queue.links) row.queues.items) }
 {
     let row = Row {
         queues: Vec::with_capacity(alloc, many)?,
@@ -58,12 +57,12 @@ fn add_queues<L: Domain<Rule = Fifo> + Drop>(
     requires all { length row.desks.items ≡ agents }
     requires fresh { AreFresh ⟦<Queue<L> as SharedQueue>⟧ row.queues.items 0 row.desks.items }
     requires known { AreFor ⟦<Queue<L> as SharedQueue>⟧ ⟦<Queue<L> as LearnQueue>⟧.agents agents row.queues.items }
-    requires made { AllByRecursion (λ queue. IsMade L.Links L.bounds (run_bounds rows 2 agents) queue.links) row.queues.items }
+    requires made { AllByRecursion (λ queue. IsMadeSo L.Links L.bounds (run_bounds rows 2 agents) queue_seed queue.links) row.queues.items }
     ensures many { IfOk result (λ new. length new.queues.items ≡ more + length row.queues.items) }
     ensures all { IfOk result (λ new. length new.desks.items ≡ agents) }
     ensures fresh { IfOk result (λ new. AreFresh ⟦<Queue<L> as SharedQueue>⟧ new.queues.items 0 new.desks.items) }
     ensures known { IfOk result (λ new. AreFor ⟦<Queue<L> as SharedQueue>⟧ ⟦<Queue<L> as LearnQueue>⟧.agents agents new.queues.items) }
-    ensures made { IfOk result (λ new. AllByRecursion (λ queue. IsMade L.Links L.bounds (run_bounds rows 2 agents) queue.links) new.queues.items) }
+    ensures made { IfOk result (λ new. AllByRecursion (λ queue. IsMadeSo L.Links L.bounds (run_bounds rows 2 agents) queue_seed queue.links) new.queues.items) }
 {
     if more == 0 {
         return Ok(row);
@@ -90,7 +89,7 @@ fn make_queue<L: Domain<Rule = Fifo>>(
         (⟦<Queue<L> as SharedQueue>⟧.journal p) ≡ []) made.1.items) }
     ensures agents { IfOk result (λ made. ⟦<Queue<L> as LearnQueue>⟧.agents made.0 ≡ agents) }
     ensures first { IfOk result (λ made. ⟦<Queue<L> as SharedQueue>⟧.first made.0 ≡ 0) }
-    ensures made { IfOk result (λ made. IsMade L.Links L.bounds (run_bounds rows 2 agents) made.0.links) }
+    ensures made { IfOk result (λ made. IsMadeSo L.Links L.bounds (run_bounds rows 2 agents) queue_seed made.0.links) }
 {
     let made = queue_over(alloc, &shape_of(rows, 2, agents), 0)?;
     Ok(made)

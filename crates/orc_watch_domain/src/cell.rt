@@ -1,6 +1,7 @@
 //! The cell of a watch, and its passes.
 
-ghost use Rattle.std.specs.Prelude.{◌≡◌, ◌≤◌, [], IfOk, length};
+ghost use Rattle.std.specs.Prelude.{◌≡◌, ◌≤◌, IfOk, length};
+ghost use Rattle.orc_at_rest.specs.Domains.{IsMadeSo, empty_seed};
 ghost use Rattle.orc_watch_domain.specs.Cells.{cell_bounds};
 ghost use Rattle.orc_watch_run.specs.Passes.{AreFresh};
 ghost use Rattle.orc_words.specs.Bounds.{bounds_of};
@@ -36,8 +37,7 @@ pub(crate) fn make_cell<L: Domain<Rule = Pairs>>(
     ensures fresh { IfOk result (λ made. AreFresh L.Links made.0.links 0 made.1.items) }
     ensures passes { IfOk result (λ made. length made.1.items ≡ agents) }
     ensures agents { IfOk result (λ made. L.agents made.0.links ≡ agents) }
-    ensures bounds { IfOk result (λ made. L.bounds made.0.links ≡ cell_bounds rows agents) }
-    ensures opening { IfOk result (λ made. L.opening made.0.links ≡ []) }
+    ensures made { IfOk result (λ made. IsMadeSo L.Links L.bounds (cell_bounds rows agents) empty_seed made.0.links) }
 {
     let (cell, passes) = cell_over(alloc, &shape_of(rows, agents))?;
     Ok((cell, passes))

@@ -1,5 +1,5 @@
 -- Over reclaiming domains what is left has an actual journal each.
-use Rattle.std.proofs.Common.{Bool, ap, ◌+◌}
+use Rattle.std.proofs.Common.{ap, ◌+◌}
 use Rattle.orc_heap.specs.Journals.{run_heap}
 use Rattle.orc_fifo_rule.specs.Laws.Kept.{fifo_rises}
 use Rattle.orc_fifo_rule.specs.QueueDiscipline.{fifo_rank, position_of}
@@ -9,7 +9,6 @@ use Rattle.orc_split_rule.specs.SplitDiscipline.{entries_of as split_entries, sp
 use Rattle.orc_split_rule.specs.Laws.Kept.{split_rises}
 use Rattle.orc_domain.specs.Passes.{domain_bounds, domain_numbers, domain_opening}
 use Rattle.orc_at_rest.proofs.Actual.{left_journal, left_rest, left_reuse}
-use Rattle.orc_at_rest.proofs.Passes.{left_of}
 use Rattle.orc_at_rest.proofs.Seeds.{seed_told}
 use Rattle.orc_run.specs.Containers.{set_over, split_over}
 use Rattle.orc_at_rest.specs.Domains.{agents_of, empty_seed, queue_bounds, queue_seed, run_bounds}
@@ -27,20 +26,19 @@ returns-in-Lists g c =
     let takers = c.args.task.now.takers in
     let b = queue_bounds posters takers c.args.task.now.rows in
     let s = run_bounds c.args.task.now.rows chose.0 (agents_of posters takers) in
-    let left = λ (rush : Bool). left_of _ _ _ _ (q.left rush).is (q.left rush).saw in
-    let set_left = left_of _ _ _ _ w.set_is.is w.set_is.saw in
+    let quiet = w.set_is.is.journal w.set_seen w.set_is.saw in
     of_choice _ _ _ chose.1 record {
-      queue_journals = λ rush. left_journal _ _ _ (left rush) b (q.made rush).sizes queue_seed (seed_told _ queue_seed (q.made rush).begins);
-      set_journal = left_journal _ _ _ set_left s w.set_made.sizes empty_seed (seed_told _ empty_seed w.set_made.begins);
+      queue_journals = λ rush. left_journal _ _ _ (q.left rush).is b (q.made rush).sizes queue_seed (seed_told _ queue_seed (q.made rush).begins);
+      set_journal = left_journal _ _ _ w.set_is.is s w.set_made.sizes empty_seed (seed_told _ empty_seed w.set_made.begins);
       replies = ran_at_rest (set_over (domain_bounds w.set)) (set_over s) w.set_seen _ c.args.task.now.lines.now posters takers _ _ q.seen _
           (λ rush. position_of (run_heap (domain_numbers (q.domains rush)) (domain_opening (q.domains rush))) 0)
           (λ rush. domain_bounds (q.domains rush)) b (λ rush. first_is _ _ (q.made rush).begins) (λ rush. (q.made rush).sizes)
-          (λ rush. (left rush).journal) (ap set_over w.set_made.sizes)
-          (record { later = set_left.journal.later; same = ap chain_entries set_left.journal.quiet }) w.ran;
-      queues_reuse = λ rush. left_reuse _ _ _ (left rush) b (q.made rush).sizes;
-      set_reuse = left_reuse _ _ _ set_left s w.set_made.sizes;
-      queues_rest = λ rush. left_rest _ _ _ (left rush) b (q.made rush).sizes fifo_rank fifo_rises;
-      set_rest = left_rest _ _ _ set_left s w.set_made.sizes chain_rank chain_rises;
+          (λ rush. (q.left rush).is.journal (q.seen rush) (q.left rush).saw) (ap set_over w.set_made.sizes)
+          (record { later = quiet.later; same = ap chain_entries quiet.quiet }) w.ran;
+      queues_reuse = λ rush. left_reuse _ _ _ (q.left rush).is b (q.made rush).sizes;
+      set_reuse = left_reuse _ _ _ w.set_is.is s w.set_made.sizes;
+      queues_rest = λ rush. left_rest _ _ _ (q.left rush).is b (q.made rush).sizes fifo_rank fifo_rises;
+      set_rest = left_rest _ _ _ w.set_is.is s w.set_made.sizes chain_rank chain_rises;
     }
 
 pub returns-in-Split : goal.returns-in-Split
@@ -52,18 +50,17 @@ returns-in-Split g c =
     let takers = c.args.task.now.takers in
     let b = queue_bounds posters takers c.args.task.now.rows in
     let s = run_bounds c.args.task.now.rows (most_buckets + 1) (agents_of posters takers) in
-    let left = λ (rush : Bool). left_of _ _ _ _ (q.left rush).is (q.left rush).saw in
-    let set_left = left_of _ _ _ _ w.set_is.is w.set_is.saw in
+    let quiet = w.set_is.is.journal w.set_seen w.set_is.saw in
     of_choice _ _ _ chose.0 record {
-      queue_journals = λ rush. left_journal _ _ _ (left rush) b (q.made rush).sizes queue_seed (seed_told _ queue_seed (q.made rush).begins);
-      set_journal = left_journal _ _ _ set_left s w.set_made.sizes empty_seed (seed_told _ empty_seed w.set_made.begins);
+      queue_journals = λ rush. left_journal _ _ _ (q.left rush).is b (q.made rush).sizes queue_seed (seed_told _ queue_seed (q.made rush).begins);
+      set_journal = left_journal _ _ _ w.set_is.is s w.set_made.sizes empty_seed (seed_told _ empty_seed w.set_made.begins);
       replies = ran_at_rest (split_over (domain_bounds w.set)) (split_over s) w.set_seen _ c.args.task.now.lines.now posters takers _ _ q.seen _
           (λ rush. position_of (run_heap (domain_numbers (q.domains rush)) (domain_opening (q.domains rush))) 0)
           (λ rush. domain_bounds (q.domains rush)) b (λ rush. first_is _ _ (q.made rush).begins) (λ rush. (q.made rush).sizes)
-          (λ rush. (left rush).journal) (ap split_over w.set_made.sizes)
-          (record { later = set_left.journal.later; same = ap split_entries set_left.journal.quiet }) w.ran;
-      queues_reuse = λ rush. left_reuse _ _ _ (left rush) b (q.made rush).sizes;
-      set_reuse = left_reuse _ _ _ set_left s w.set_made.sizes;
-      queues_rest = λ rush. left_rest _ _ _ (left rush) b (q.made rush).sizes fifo_rank fifo_rises;
-      set_rest = left_rest _ _ _ set_left s w.set_made.sizes split_rank split_rises;
+          (λ rush. (q.left rush).is.journal (q.seen rush) (q.left rush).saw) (ap split_over w.set_made.sizes)
+          (record { later = quiet.later; same = ap split_entries quiet.quiet }) w.ran;
+      queues_reuse = λ rush. left_reuse _ _ _ (q.left rush).is b (q.made rush).sizes;
+      set_reuse = left_reuse _ _ _ w.set_is.is s w.set_made.sizes;
+      queues_rest = λ rush. left_rest _ _ _ (q.left rush).is b (q.made rush).sizes fifo_rank fifo_rises;
+      set_rest = left_rest _ _ _ w.set_is.is s w.set_made.sizes split_rank split_rises;
     }

@@ -24,8 +24,5 @@ returns-clause-passes g c = c.in_ok-cell.ensures.passes ∙ ap (λ (b : Bounds).
 pub returns-clause-agents : goal.returns-clause-agents
 returns-clause-agents g c = c.in_ok-cell.ensures.all ∙ ap (λ (b : Bounds). b.agents) c.shape_of.ensures
 
-pub returns-clause-bounds : goal.returns-clause-bounds
-returns-clause-bounds g c = c.in_ok-cell.ensures.bounds ∙ c.shape_of.ensures
-
-pub returns-clause-opening : goal.returns-clause-opening
-returns-clause-opening g c = c.in_ok-cell.ensures.opening
+pub returns-clause-made : goal.returns-clause-made
+returns-clause-made g c = record { sizes = c.in_ok-cell.ensures.bounds ∙ c.shape_of.ensures; begins = c.in_ok-cell.ensures.opening }

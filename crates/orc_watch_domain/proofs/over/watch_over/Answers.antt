@@ -22,11 +22,12 @@ returns g c =
     let done = c.in_ok-replies.ensures in
     record {
       domain = c.in_ok-cell.cell.links;
-      sizes = c.in_ok-cell.ensures.bounds;
-      begins = c.in_ok-cell.ensures.opening;
-      passes = c.run_watch.new.passes.items;
-      is = c.cell_at_rest.ensures;
+      made = c.in_ok-cell.ensures.made;
       seen = _;
-      saw = All-from_recursion (λ p. g.L.Links.journal p ≡ _) c.run_watch.new.passes.items done.seen;
+      left = record {
+        passes = c.run_watch.new.passes.items;
+        is = c.cell_at_rest.ensures;
+        saw = All-from_recursion (λ p. g.L.Links.journal p ≡ _) c.run_watch.new.passes.items done.seen;
+      };
       follow = done.follows;
     }

@@ -1,7 +1,6 @@
 -- Over a reclaiming domain what is left has one actual journal, which the replies follow.
 use Rattle.std.proofs.Common.{refl}
 use Rattle.orc_at_rest.proofs.Actual.{left_journal, left_rest, left_reuse}
-use Rattle.orc_at_rest.proofs.Passes.{left_of}
 use Rattle.orc_at_rest.proofs.Seeds.{seed_told}
 use Rattle.orc_heap.specs.declared.seed.Seed.TheVariants.{Empty}
 use Rattle.orc_pairs_rule.specs.Laws.Kept.{pairs_rises}
@@ -15,11 +14,10 @@ pub returns : goal.returns
 returns g c =
     let w = c.in_ok-cell.ensures in
     let b = watch_bounds c.args.workers c.args.rows in
-    let left = left_of w.domain _ _ _ w.is w.saw in
     record {
-      journal = left_journal _ _ _ left b w.sizes Empty (seed_told _ Empty w.begins);
+      journal = left_journal _ _ _ w.left.is b w.made.sizes Empty (seed_told _ Empty w.made.begins);
       replies = follow_at_rest _ (domain_bounds w.domain) (λ j. refl) (λ agent j from to. refl) (λ agent j from to. refl)
-          (λ agent why j from to. refl) (λ by. refl) b c.args.lines.now c.args.workers _ _ _ _ _ w.sizes left.journal w.follow;
-      reuse = left_reuse _ _ _ left b w.sizes;
-      rest = left_rest _ _ _ left b w.sizes pairs_rank pairs_rises;
+          (λ agent why j from to. refl) (λ by. refl) b c.args.lines.now c.args.workers _ _ _ _ _ w.made.sizes (w.left.is.journal w.seen w.left.saw) w.follow;
+      reuse = left_reuse _ _ _ w.left.is b w.made.sizes;
+      rest = left_rest _ _ _ w.left.is b w.made.sizes pairs_rank pairs_rises;
     }
