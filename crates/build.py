@@ -30,6 +30,8 @@ RT = [sys.executable, f'{TOP}/crates/run_rt.py', shutil.which('rt') or 'rt']
 SECONDS_A_BYTE = 0.002
 BYTES_A_CRATE = 10000
 BYTES_MEASURED = 100000
+# Each further job of a library reads all that it stands on once more: the dearest ones took longer so, and slowed those beside them.
+ONE_JOB = ['--jobs', '1']
 # Memory for a check that has just begun, and how long it counts as such.
 MEMORY, YOUNG = 2_000_000_000, 60
 
@@ -221,19 +223,11 @@ class Build:
         young = sum(time.monotonic() - self.since[it] < YOUNG for it in self.running)
         return not self.running or (len(self.running) < self.processors and free_memory() - young * MEMORY >= MEMORY)
 
-    def jobs(self, name, is_alone):
-        """The flag for a library's jobs: one that has nothing beside it takes each processor for which there is memory, and of those
-        side by side the longest chain as many as rt chooses for it."""
-        if is_alone:
-            return ['--jobs', str(max(1, min(self.processors, free_memory() // MEMORY)))]
-        is_first = all(self.height(it) < self.height(name) for it in self.running)
-        return [] if is_first else ['--jobs', '1']
-
-    def start(self, name, is_alone):
+    def start(self, name):
         if name == self.program:
             words, folder = ['run'], folder_of(name)
         else:
-            words, folder = ['lib', *self.jobs(name, is_alone)], prepare(name)
+            words, folder = ['lib', *ONE_JOB], prepare(name)
         with open(f'{self.logs}/{name}', 'w', encoding='utf-8') as log:
             self.running[name] = subprocess.Popen([*RT, *words], cwd=folder, stdin=subprocess.DEVNULL, stdout=log, stderr=log)
         self.since[name] = time.monotonic()
@@ -295,7 +289,7 @@ class Build:
                 ready = self.ready(self.done, self.crates - self.done - set(self.running))
                 for name in ready:
                     if self.has_room():
-                        self.start(name, is_alone=not self.running and ready == [name])
+                        self.start(name)
                 for name in sorted((it for it, ran in self.running.items() if ran.poll() is not None), key=self.fails):
                     self.end(name)
                 self.tell()
