@@ -1,4 +1,5 @@
-use Rattle.std.proofs.Common.{rules, ◌≡◌, ◌∙◌, ◌⊎◌, ℕ, arith, inl, inr, refl, subst, sym}
+use Rattle.std.proofs.Common.{rules, ◌≡◌, ◌∙◌, ◌⊎◌, [], ℕ, arith, inl, inr, refl, subst, sym}
+use Rattle.std.proofs.KnownBytes.{Consumes-nil}
 use Rattle.orc_options.proofs.NamesAnywhere.{never_both}
 use Rattle.orc_options.specs.Settings.{RefusesWords}
 use Rattle.orc_program.specs.Answers.{AnswersWords}
@@ -30,6 +31,15 @@ pub returns-in-Err-Words-clause-complete : goal.returns-in-Err-Words-clause-comp
 returns-in-Err-Words-clause-complete g c bytes lines told asks few file =
     let refuses : RefusesWords c.args.words.now = search rules in
     absurd (never_both _ asks.0 asks.1 refuses)
+
+pub returns-in-Err-Words-clause-nothing_read : goal.returns-in-Err-Words-clause-nothing_read
+returns-in-Err-Words-clause-nothing_read g c none = (refl, refl)
+
+pub returns-in-Err-Words-clause-most_read : goal.returns-in-Err-Words-clause-most_read
+returns-in-Err-Words-clause-most_read g c = ([], Consumes-nil _, omega arith)
+
+pub returns-in-Err-Words-clause-no_read_fault : goal.returns-in-Err-Words-clause-no_read_fault
+returns-in-Err-Words-clause-no_read_fault g c answered = refl
 
 pub returns-in-Err-Words-clause-read_fault : goal.returns-in-Err-Words-clause-read_fault
 returns-in-Err-Words-clause-read_fault g c four = absurd (not_read _ c.refuse_words.ensures.statuses four)

@@ -26,6 +26,9 @@ loop-preserved-in-Some-move_one g c = record {
       c.loop.invariant.moved c.loop.invariant.passes.from_agent c.in-Some-move_one.ensures.moved);
 }
 
+pub returns-then-len-jobs-clause-last : goal.returns-then-len-jobs-clause-last
+returns-then-len-jobs-clause-last g c = λ less. absurd (omega (arith, less, c.if-len-jobs.true, c.len.ensures, c.count_jobs-jobs.ensures))
+
 pub returns-then-ended-clause-moved : goal.returns-then-ended-clause-moved
 returns-then-ended-clause-moved g c =
     moving_more (queue_view g.Q.SharedQueue c.args.from.now) (queue_view g.Q.SharedQueue c.args.to.now) _ _ _ _ _ _ _ _ _ _ _

@@ -35,6 +35,9 @@ loop-preserved g c = record {
       c.loop.invariant.taking c.loop.invariant.desk.queue_agent c.in-None-take_one.ensures.row;
 }
 
+pub returns-then-len-jobs-clause-last : goal.returns-then-len-jobs-clause-last
+returns-then-len-jobs-clause-last g c = λ less. absurd (omega (arith, less, c.if-len-jobs.true, c.len.ensures, c.count_jobs-jobs.ensures))
+
 pub returns-then-none_left-clause-taking : goal.returns-then-none_left-clause-taking
 returns-then-none_left-clause-taking g c =
     resting_none_more (queue_views g.Q.SharedQueue c.args.queue.now c.args.rush.now) (set_view g.S.SharedSet c.args.set.now) _ _ _ _ _ _ _ _ _ _ _ c.loop.invariant.taking
