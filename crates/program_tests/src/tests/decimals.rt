@@ -15,23 +15,24 @@ fn decimals_by_hand()
     ensures not_plain { ¬ IsCanonical (codes "07") }
 {}
 
+const CASES: [(&[u8], Option<u64>); 12] = [
+    (b"0", Some(0)),
+    (b"7", Some(7)),
+    (b"4294967296", Some(4_294_967_296)),
+    (b"18446744073709551615", Some(u64::MAX)),
+    (b"18446744073709551616", None),
+    (b"", None),
+    (b"00", None),
+    (b"07", None),
+    (b"+7", None),
+    (b"-0", None),
+    (b"7 ", None),
+    (b"\xff", None),
+];
+
 #[test]
 fn canonical_decimals_alone_are_numbers(rt: HostRuntime) {
-    let cases: [(&[u8], Option<u64>); 12] = [
-        (b"0", Some(0)),
-        (b"7", Some(7)),
-        (b"4294967296", Some(4_294_967_296)),
-        (b"18446744073709551615", Some(u64::MAX)),
-        (b"18446744073709551616", None),
-        (b"", None),
-        (b"00", None),
-        (b"07", None),
-        (b"+7", None),
-        (b"-0", None),
-        (b"7 ", None),
-        (b"\xff", None),
-    ];
-    for (text, want) in cases {
+    for (text, want) in CASES {
         assert_eq!(rt; number_of(text), want);
     }
 }

@@ -56,90 +56,106 @@ fn whole_by_hand()
 
 const FILE: &[u8] = b"post,7,bytes,hello\n";
 
-// What `read_all` takes of `FILE` by calls of `piece` bytes.
-fn taken<R: Abort>(
+// Asks whether `read_all` answers so where calls of `piece` bytes, of which these fail, read `FILE`.
+fn is_taken<R: Abort>(
     rt: &R,
     alloc: Global,
     piece: u64,
     fails: &[u64],
     limit: u64,
     wanted: Result<&[u8], ReadAllError>,
-) -> Result<(), Fail>
-    requires some { 1 ≤ piece }
-    requires small { limit < 2 ^ 32 }
-{
+) -> Result<(), Fail> {
+    assert!(rt; piece >= 1 && limit < 1 << 32);
     let mut source = MemorySource::new(alloc, FILE, piece, fails)?;
-    match (read_all(alloc, &mut source, limit), wanted) {
-        (Ok(all), Ok(text)) => assert_eq!(rt; all.as_slice(), text),
-        (Err(found), Err(fault)) => assert_eq!(rt; found, fault),
-        _ => assert!(rt; false, "piece {piece}, limit {limit}"),
+    match read_all(alloc, &mut source, limit) {
+        Ok(all) => assert!(rt; wanted == Ok(all.as_slice())),
+        Err(fault) => assert!(rt; wanted == Err(fault)),
     }
     Ok(())
 }
 
+// How many bytes a call moves, which calls fail, the limit, and the answer that is wanted.
+type ReadCase = (
+    u64,
+    &'static [u64],
+    u64,
+    Result<&'static [u8], ReadAllError>,
+);
+
+const READS: [ReadCase; 6] = [
+    (1, &[], 19, Ok(FILE)),
+    (1000, &[], 100, Ok(FILE)),
+    (4, &[], 5, Ok(b"post,7")),
+    // The sixth call sees the end, and no seventh is made.
+    (4, &[6], 19, Ok(FILE)),
+    (4, &[5], 19, Err(ReadAllError::Failed)),
+    (4, &[1], 19, Err(ReadAllError::Failed)),
+];
+
 #[test]
 fn reads_in_pieces(rt: HostRuntime) -> Result<(), Fail> {
-    taken(&rt, rt.alloc(), 1, &[], 19, Ok(FILE))?;
-    taken(&rt, rt.alloc(), 1000, &[], 100, Ok(FILE))?;
-    taken(&rt, rt.alloc(), 4, &[], 5, Ok(b"post,7"))?;
-    // The sixth call sees the end, and no seventh is made.
-    taken(&rt, rt.alloc(), 4, &[6], 19, Ok(FILE))?;
-    taken(&rt, rt.alloc(), 4, &[5], 19, Err(ReadAllError::Failed))?;
-    taken(&rt, rt.alloc(), 4, &[1], 19, Err(ReadAllError::Failed))
+    for (piece, fails, limit, wanted) in READS {
+        is_taken(&rt, rt.alloc(), piece, fails, limit, wanted)?;
+    }
+    Ok(())
 }
 
-// What `write_all` leaves of a text of two lines in a room.
-fn left<R: Abort>(
+// Asks whether `write_all` answers so, and leaves this of a text of two lines, in a room where calls of `piece` bytes, of which these fail,
+// write.
+fn is_left<R: Abort>(
     rt: &R,
     alloc: Global,
     room: u64,
     piece: u64,
     fails: &[u64],
-    wanted: (Result<(), Failed>, &[u8]),
-) -> Result<(), Fail>
-    requires { 1 ≤ piece }
-{
+    wanted: Result<(), Failed>,
+    left: &[u8],
+) -> Result<(), Fail> {
+    assert!(rt; piece >= 1);
     let mut sink = MemorySink::new(alloc, room, piece, fails)?;
-    let (outcome, text) = wanted;
-    assert_eq!(rt; write_all(&mut sink, b"board\nreplies\n"), outcome);
-    assert_eq!(rt; sink.bytes(), text);
+    let outcome = write_all(&mut sink, b"board\nreplies\n");
+    assert!(rt; outcome == wanted);
+    assert!(rt; sink.bytes() == left);
     Ok(())
 }
 
+// The room, how many bytes a call moves, which calls fail, the answer that is wanted, and what is left.
+type WriteCase = (u64, u64, &'static [u64], Result<(), Failed>, &'static [u8]);
+
+const WRITES: [WriteCase; 5] = [
+    (64, 5, &[], Ok(()), b"board\nreplies\n"),
+    (14, 1000, &[], Ok(()), b"board\nreplies\n"),
+    (64, 5, &[1], Err(Failed), b"board"),
+    (10, 3, &[], Err(Failed), b"board\nrepl"),
+    (0, 3, &[], Err(Failed), b""),
+];
+
 #[test]
 fn writes_in_pieces(rt: HostRuntime) -> Result<(), Fail> {
-    left(&rt, rt.alloc(), 64, 5, &[], (Ok(()), b"board\nreplies\n"))?;
-    left(
-        &rt,
-        rt.alloc(),
-        14,
-        1000,
-        &[],
-        (Ok(()), b"board\nreplies\n"),
-    )?;
-    left(&rt, rt.alloc(), 64, 5, &[1], (Err(Failed), b"board"))?;
-    left(&rt, rt.alloc(), 10, 3, &[], (Err(Failed), b"board\nrepl"))?;
-    left(&rt, rt.alloc(), 0, 3, &[], (Err(Failed), b""))
+    for (room, piece, fails, wanted, left) in WRITES {
+        is_left(&rt, rt.alloc(), room, piece, fails, wanted, left)?;
+    }
+    Ok(())
 }
 
 // Two of five reads fail, and lose nothing.
 fn reads_around_faults<R: Abort>(rt: &R, source: &mut MemorySource) {
     let mut to = [0u8; 3];
-    assert_eq!(rt; source.read(&mut to), Err(Failed));
-    assert_eq!(rt; source.read(&mut to), Ok(2));
-    assert_eq!(rt; source.read(&mut to), Err(Failed));
-    assert_eq!(rt; source.read(&mut to[2..]), Ok(1));
-    assert_eq!(rt; to.as_slice(), b"abc".as_slice());
-    assert_eq!(rt; source.read(&mut to), Ok(0));
+    assert!(rt; source.read(&mut to) == Err(Failed));
+    assert!(rt; source.read(&mut to) == Ok(2));
+    assert!(rt; source.read(&mut to) == Err(Failed));
+    assert!(rt; source.read(&mut to[2..]) == Ok(1));
+    assert!(rt; to.as_slice() == b"abc".as_slice());
+    assert!(rt; source.read(&mut to) == Ok(0));
 }
 
 // One of four writes fails, and takes nothing; the last finds no room.
 fn writes_around_a_fault<R: Abort>(rt: &R, sink: &mut MemorySink) {
-    assert_eq!(rt; sink.write(b"abc"), Ok(2));
-    assert_eq!(rt; sink.write(b"c"), Err(Failed));
-    assert_eq!(rt; sink.write(b"cd"), Ok(1));
-    assert_eq!(rt; sink.write(b"d"), Ok(0));
-    assert_eq!(rt; sink.bytes(), b"abc".as_slice());
+    assert!(rt; sink.write(b"abc") == Ok(2));
+    assert!(rt; sink.write(b"c") == Err(Failed));
+    assert!(rt; sink.write(b"cd") == Ok(1));
+    assert!(rt; sink.write(b"d") == Ok(0));
+    assert!(rt; sink.bytes() == b"abc".as_slice());
 }
 
 #[test]

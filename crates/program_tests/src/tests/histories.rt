@@ -9,14 +9,12 @@ ghost use Rattle.orc_history.specs.{
   PlainSet.{IsSetPass, RefusesInsert},
 };
 
-use orc_fault::Again;
-use orc_history::{
-    ListRefused, PlainQueue, PlainSet, QueueEntry, QueueRefused, SetEntry, SharedQueue, SharedSet,
-};
-use std::process::Abort;
+use super::{plain_queue, plain_set};
+use orc_history::{ListRefused, QueueEntry, QueueRefused, SetEntry, SharedQueue, SharedSet};
 use std::test::Fail;
 use std::thread::join;
 
+mod calls;
 mod learning;
 
 // Agent 1 posts the jobs 0 and 1; agent 0 takes both and then finds nothing.
@@ -126,108 +124,16 @@ fn definitions_at_values() {
     passes_of_containers();
 }
 
-// The calls of a queue of room one, whose first position is 0.
-fn fill_a_queue<R: Abort, Q: SharedQueue>(rt: &R, queue: &Q, p: &mut Q::Pass)
-    requires usable { Q.usable queue.now p.old }
-    ensures usable { Q.usable queue.now p.new }
-{
-    assert_eq!(rt; queue.agent(p), 1);
-    assert_eq!(rt; queue.enqueue(p, 5, 0), Err(QueueRefused::Again));
-    assert_eq!(rt; queue.enqueue(p, 5, 1), Ok(0));
-    assert_eq!(rt; queue.enqueue(p, 6, 1), Err(QueueRefused::NoNode));
-    assert_eq!(rt; queue.dequeue(p, 1), Ok(Some((5, 0))));
-    assert_eq!(rt; queue.dequeue(p, 1), Ok(None));
-}
-
-#[test]
-fn a_queue_of_room_one_is_filled(rt: HostRuntime) -> Result<(), Fail> {
-    let (queue, mut pass) = PlainQueue::new(rt.alloc(), 1, 0)?.pass();
-    pass.act_as(1);
-    queue.members();
-    fill_a_queue(&rt, &queue, &mut pass);
-    Ok(())
-}
-
-// The calls of a queue of room two, one position before the last; or of one that is past it.
-fn use_up_positions<R: Abort, Q: SharedQueue>(rt: &R, queue: &Q, p: &mut Q::Pass, is_past: bool)
-    requires usable { Q.usable queue.now p.old }
-    ensures usable { Q.usable queue.now p.new }
-{
-    if !is_past {
-        assert_eq!(rt; queue.enqueue(p, 1, 2), Ok(4611686018427387903));
-    }
-    assert_eq!(rt; queue.enqueue(p, 2, 2), Err(QueueRefused::Positions));
-    if !is_past {
-        let last = Some((1, 4611686018427387903));
-        assert_eq!(rt; queue.dequeue(p, 2), Ok(last));
-    }
-}
-
-#[test]
-fn positions_are_used_up(rt: HostRuntime) -> Result<(), Fail> {
-    let (queue, mut pass) = PlainQueue::new(rt.alloc(), 2, 4611686018427387903)?.pass();
-    use_up_positions(&rt, &queue, &mut pass, false);
-    let (queue, mut pass) = PlainQueue::new(rt.alloc(), 1, 4611686018427387904)?.pass();
-    use_up_positions(&rt, &queue, &mut pass, true);
-    Ok(())
-}
-
-// The calls of a set of room one.
-fn fill_a_set<R: Abort, S: SharedSet>(rt: &R, set: &S, p: &mut S::Pass)
-    requires usable { S.usable set.now p.old }
-    ensures usable { S.usable set.now p.new }
-{
-    assert_eq!(rt; set.agent(p), 1);
-    assert_eq!(rt; set.insert(p, 7, 0), Err(ListRefused::Again));
-    assert_eq!(rt; set.insert(p, 7, 1), Ok(true));
-    assert_eq!(rt; set.insert(p, 7, 1), Err(ListRefused::NoNode));
-    assert_eq!(rt; set.insert(p, 8, 1), Err(ListRefused::NoNode));
-    assert_eq!(rt; set.contains(p, 7, 1), Ok(true));
-    assert_eq!(rt; set.remove(p, 7, 1), Ok(true));
-    assert_eq!(rt; set.contains(p, 7, 1), Ok(false));
-}
-
-#[test]
-fn a_set_of_room_one_is_filled(rt: HostRuntime) -> Result<(), Fail> {
-    let (set, mut pass) = PlainSet::new(rt.alloc(), 1)?.pass();
-    pass.act_as(1);
-    set.members();
-    fill_a_set(&rt, &set, &mut pass);
-    Ok(())
-}
-
-// The calls of a set of room 0, whose history takes four entries.
-fn fill_a_history<R: Abort, S: SharedSet>(rt: &R, set: &S, p: &mut S::Pass)
-    requires usable { S.usable set.now p.old }
-    ensures usable { S.usable set.now p.new }
-{
-    assert_eq!(rt; set.insert(p, 7, 1), Err(ListRefused::NoNode));
-    assert_eq!(rt; set.remove(p, 7, 1), Ok(false));
-    assert_eq!(rt; set.remove(p, 8, 1), Ok(false));
-    assert_eq!(rt; set.remove(p, 9, 1), Ok(false));
-    assert_eq!(rt; set.contains(p, 7, 1), Ok(false));
-    assert_eq!(rt; set.contains(p, 7, 1), Err(Again));
-    assert_eq!(rt; set.remove(p, 7, 1), Err(Again));
-    assert_eq!(rt; set.insert(p, 7, 1), Err(ListRefused::Again));
-}
-
-#[test]
-fn a_stored_history_is_filled(rt: HostRuntime) -> Result<(), Fail> {
-    let (set, mut pass) = PlainSet::new(rt.alloc(), 0)?.pass();
-    fill_a_history(&rt, &set, &mut pass);
-    Ok(())
-}
-
 #[test]
 fn passes_cross_threads(rt: HostRuntime) -> Result<(), Fail> {
-    let (queue, mut jobs) = PlainQueue::new(rt.alloc(), 1, 0)?.pass();
-    let (set, mut keys) = PlainSet::new(rt.alloc(), 1)?.pass();
+    let (queue, mut jobs) = plain_queue(rt.alloc(), 1, 0)?;
+    let (set, mut keys) = plain_set(rt.alloc(), 1)?;
     let (at, absent) = join(
         &rt,
         || queue.enqueue(&mut jobs, 3, 1),
         || set.insert(&mut keys, 7, 1),
     );
-    assert_eq!(rt; at, Ok(0));
-    assert_eq!(rt; absent, Ok(true));
+    assert!(rt; at == Ok(0));
+    assert!(rt; absent == Ok(true));
     Ok(())
 }

@@ -8,6 +8,7 @@ ghost use Rattle.orc_jobs.specs.{
   Numbers.{IsNumber, SpellsNumbers},
 };
 
+use super::between;
 use orc_fault::NoMemory;
 use orc_jobs::{
     Cause, FileRefused, Job, Line, Lines, MOST_BYTES, Text, job_value, lines_text, make_lines,
@@ -73,9 +74,12 @@ fn values_by_hand()
 fn have_values<R: Abort>(rt: &R, lines: &Lines, wanted: &[u64])
     requires { AreGood lines.now }
 {
-    assert_eq!(rt; lines.len(), wanted.len());
-    for (place, value) in wanted.iter().enumerate() {
-        assert_eq!(rt; job_value(lines.get(place)), *value, "line {place}");
+    assert!(rt; lines.len() == wanted.len());
+    for place in 0..wanted.len() {
+        assert!(rt;
+            job_value(lines.get(place)) == wanted[place],
+            "line {place}"
+        );
     }
 }
 
@@ -88,102 +92,112 @@ fn is_read<R: Abort>(rt: &R, alloc: Global, bytes: &[u8], wanted: &[u64]) {
     }
 }
 
-// Reads a record as the first and as the second of a file, and asks for its cause.
-fn is_refused<R: Abort>(rt: &R, alloc: Global, record: &[u8], why: Cause) -> Result<(), Fail> {
-    let mut after = b"drop,1\n".to_vec(alloc)?;
-    after.extend_from_slice(record)?;
-    after.extend_from_slice(b"\nput")?;
-    for (line, bytes) in [(0, record), (1, after.as_slice())] {
-        assert!(rt; bytes.len() <= MOST_BYTES);
-        match read_jobs(alloc, bytes) {
-            Ok(_) => assert!(rt; false, "{record:?} is read"),
-            Err(fault) => assert_eq!(rt; fault, FileRefused::Malformed { line, cause: why }),
+// Reads a file whose record of this number is the first that is no line, and asks for its cause.
+fn is_malformed<R: Abort>(rt: &R, alloc: Global, bytes: &[u8], line: u32, why: Cause) {
+    assert!(rt; bytes.len() <= MOST_BYTES);
+    match read_jobs(alloc, bytes) {
+        Ok(_) => assert!(rt; false, "{bytes:?} is read"),
+        Err(fault) => {
+            assert!(rt;
+                fault == FileRefused::Malformed { line, cause: why },
+                "{bytes:?}"
+            );
         }
     }
+}
+
+// Reads a record as the first and as the second of a file, and asks for its cause.
+fn is_refused<R: Abort>(rt: &R, alloc: Global, record: &[u8], why: Cause) -> Result<(), NoMemory> {
+    is_malformed(rt, alloc, record, 0, why);
+    let second = between(alloc, b"drop,1\n", record, b"\nput")?;
+    is_malformed(rt, alloc, second.as_slice(), 1, why);
     Ok(())
 }
 
+// Files, and the values of their lines.
+const FILES: [(&[u8], &[u64]); 15] = [
+    (b"", &[]),
+    (
+        b"post,7,bytes,hello\npost,9,sum,1 2 3\ndrop,9\npost,7,words,a b\ndrop,8\n",
+        &[5, 6, 0, 2, 0],
+    ),
+    (
+        b"post,1,bytes,a\nrush,2,bytes,bb\ndrop,1\nrush,1,sum,3 4\n",
+        &[1, 2, 0, 7],
+    ),
+    (b"post,4294967295,bytes,x", &[1]),
+    (b"post,1,bytes,\npost,1,words,\npost,1,sum,", &[0, 0, 0]),
+    (b"post,1,words,  a  bc ", &[2]),
+    (b"post,1,words,a\tb", &[1]),
+    (
+        b"post,1,sum,4294967295\npost,1,sum,4294967295 4294967295 0",
+        &[4294967295, 8589934590],
+    ),
+    // A carriage return ends a record, alone and before a line feed, and empty lines give none.
+    (
+        b"post,1,bytes,a\r\n\r\n\n\rpost,1,bytes,bc\rdrop,1",
+        &[1, 2, 0],
+    ),
+    (b"post,1,bytes,\"a\nb\"\n", &[3]),
+    (b"post,1,bytes,\"a,\"\"b\"\n", &[4]),
+    (b"post,1,bytes,\"a\n", &[2]),
+    (b"\"drop\",\"1\"", &[0]),
+    (b"\xef\xbb\xbfdrop,1\n", &[0]),
+    (b"post,1,bytes,\xc3\xa9\n", &[2]),
+];
+
 #[test]
-fn reads_lines(rt: HostRuntime) -> Result<(), Fail> {
-    let files: [(&[u8], &[u64]); 15] = [
-        (b"", &[]),
-        (
-            b"post,7,bytes,hello\npost,9,sum,1 2 3\ndrop,9\npost,7,words,a b\ndrop,8\n",
-            &[5, 6, 0, 2, 0],
-        ),
-        (
-            b"post,1,bytes,a\nrush,2,bytes,bb\ndrop,1\nrush,1,sum,3 4\n",
-            &[1, 2, 0, 7],
-        ),
-        (b"post,4294967295,bytes,x", &[1]),
-        (b"post,1,bytes,\npost,1,words,\npost,1,sum,", &[0, 0, 0]),
-        (b"post,1,words,  a  bc ", &[2]),
-        (b"post,1,words,a\tb", &[1]),
-        (
-            b"post,1,sum,4294967295\npost,1,sum,4294967295 4294967295 0",
-            &[4294967295, 8589934590],
-        ),
-        // A carriage return ends a record, alone and before a line feed, and empty lines give none.
-        (
-            b"post,1,bytes,a\r\n\r\n\n\rpost,1,bytes,bc\rdrop,1",
-            &[1, 2, 0],
-        ),
-        (b"post,1,bytes,\"a\nb\"\n", &[3]),
-        (b"post,1,bytes,\"a,\"\"b\"\n", &[4]),
-        (b"post,1,bytes,\"a\n", &[2]),
-        (b"\"drop\",\"1\"", &[0]),
-        (b"\xef\xbb\xbfdrop,1\n", &[0]),
-        (b"post,1,bytes,\xc3\xa9\n", &[2]),
-    ];
-    for (bytes, wanted) in files {
+fn reads_lines(rt: HostRuntime) {
+    for (bytes, wanted) in FILES {
         is_read(&rt, rt.alloc(), bytes, wanted);
     }
-    Ok(())
 }
+
+// Records that are no lines, and why.
+const RECORDS: [(&[u8], Cause); 38] = [
+    (b"drop", Cause::Fields),
+    (b"drop,1,2", Cause::Fields),
+    (b"post,1,bytes", Cause::Fields),
+    (b"post,1,bytes,x,y", Cause::Fields),
+    (b"put,x", Cause::Fields),
+    (b"\"\"", Cause::Fields),
+    (b"\xff", Cause::Fields),
+    (b"\xff,1,bytes,x", Cause::Utf8),
+    (b"post,\xff,bytes,x", Cause::Utf8),
+    (b"post,1,\xff,x", Cause::Utf8),
+    (b"post,1,bytes,\xc3", Cause::Utf8),
+    (b"drop,\xff", Cause::Utf8),
+    (b"put,x,y,\xff", Cause::Utf8),
+    (b"put,x,y,z", Cause::Verb),
+    (b"Post,1,bytes,x", Cause::Verb),
+    (b"post,4294967296,bytes,x", Cause::Id),
+    (b"post,007,bytes,x", Cause::Id),
+    (b"post,+7,bytes,x", Cause::Id),
+    (b"post,,y,z", Cause::Id),
+    (b"drop,01", Cause::Id),
+    (b"post,1,bytes ,x", Cause::Op),
+    (b"post,1,count,x", Cause::Op),
+    (b"post,1,sum,1  2", Cause::Sum),
+    (b"post,1,sum, 1", Cause::Sum),
+    (b"post,1,sum,1 ", Cause::Sum),
+    (b"post,1,sum, ", Cause::Sum),
+    (b"post,1,sum,01", Cause::Sum),
+    (b"post,1,sum,1,2", Cause::Fields),
+    (b"post,1,sum,4294967296", Cause::Sum),
+    (b"post,1,sum,1\t2", Cause::Sum),
+    (b"rush,2", Cause::Fields),
+    (b"rush,1,bytes,x,y", Cause::Fields),
+    (b"rush,1,bytes,\xff", Cause::Utf8),
+    (b"Rush,1,bytes,x", Cause::Verb),
+    (b"rush,01,bytes,x", Cause::Id),
+    (b"rush,1,count,x", Cause::Op),
+    (b"rush,1,sum,1  2", Cause::Sum),
+    (b"rush,1,drop,", Cause::Op),
+];
 
 #[test]
 fn tells_the_first_cause(rt: HostRuntime) -> Result<(), Fail> {
-    let records: [(&[u8], Cause); 38] = [
-        (b"drop", Cause::Fields),
-        (b"drop,1,2", Cause::Fields),
-        (b"post,1,bytes", Cause::Fields),
-        (b"post,1,bytes,x,y", Cause::Fields),
-        (b"put,x", Cause::Fields),
-        (b"\"\"", Cause::Fields),
-        (b"\xff", Cause::Fields),
-        (b"\xff,1,bytes,x", Cause::Utf8),
-        (b"post,\xff,bytes,x", Cause::Utf8),
-        (b"post,1,\xff,x", Cause::Utf8),
-        (b"post,1,bytes,\xc3", Cause::Utf8),
-        (b"drop,\xff", Cause::Utf8),
-        (b"put,x,y,\xff", Cause::Utf8),
-        (b"put,x,y,z", Cause::Verb),
-        (b"Post,1,bytes,x", Cause::Verb),
-        (b"post,4294967296,bytes,x", Cause::Id),
-        (b"post,007,bytes,x", Cause::Id),
-        (b"post,+7,bytes,x", Cause::Id),
-        (b"post,,y,z", Cause::Id),
-        (b"drop,01", Cause::Id),
-        (b"post,1,bytes ,x", Cause::Op),
-        (b"post,1,count,x", Cause::Op),
-        (b"post,1,sum,1  2", Cause::Sum),
-        (b"post,1,sum, 1", Cause::Sum),
-        (b"post,1,sum,1 ", Cause::Sum),
-        (b"post,1,sum, ", Cause::Sum),
-        (b"post,1,sum,01", Cause::Sum),
-        (b"post,1,sum,1,2", Cause::Fields),
-        (b"post,1,sum,4294967296", Cause::Sum),
-        (b"post,1,sum,1\t2", Cause::Sum),
-        (b"rush,2", Cause::Fields),
-        (b"rush,1,bytes,x,y", Cause::Fields),
-        (b"rush,1,bytes,\xff", Cause::Utf8),
-        (b"Rush,1,bytes,x", Cause::Verb),
-        (b"rush,01,bytes,x", Cause::Id),
-        (b"rush,1,count,x", Cause::Op),
-        (b"rush,1,sum,1  2", Cause::Sum),
-        (b"rush,1,drop,", Cause::Op),
-    ];
-    for (record, why) in records {
+    for (record, why) in RECORDS {
         is_refused(&rt, rt.alloc(), record, why)?;
     }
     Ok(())
@@ -203,32 +217,50 @@ fn drops(alloc: Global, lines: usize, wrong: Option<usize>) -> Result<Vec<u8>, F
     Ok(bytes)
 }
 
+// Asks whether a file of so many drops is refused for this, or else has so many lines.
+fn is_counted<R: Abort>(
+    rt: &R,
+    alloc: Global,
+    lines: usize,
+    wrong: Option<usize>,
+    wanted: Option<FileRefused<Cause>>,
+) -> Result<(), Fail> {
+    let bytes = drops(alloc, lines, wrong)?;
+    assert!(rt; bytes.len() <= MOST_BYTES);
+    match read_jobs(alloc, &bytes) {
+        Ok(found) => assert!(rt; wanted.is_none() && found.len() == lines),
+        Err(fault) => assert!(rt; wanted == Some(fault)),
+    }
+    Ok(())
+}
+
+// The third field is what is refused, where something is.
+const COUNTS: [(usize, Option<usize>, Option<FileRefused<Cause>>); 5] = [
+    (65535, None, None),
+    (65536, None, Some(FileRefused::TooMany)),
+    (
+        65536,
+        Some(3),
+        Some(FileRefused::Malformed {
+            line: 3,
+            cause: Cause::Id,
+        }),
+    ),
+    (
+        65536,
+        Some(65534),
+        Some(FileRefused::Malformed {
+            line: 65534,
+            cause: Cause::Id,
+        }),
+    ),
+    (65536, Some(65535), Some(FileRefused::TooMany)),
+];
+
 #[test]
 fn counts_records(rt: HostRuntime) -> Result<(), Fail> {
-    let refused = FileRefused::Malformed {
-        line: 3,
-        cause: Cause::Id,
-    };
-    let last = FileRefused::Malformed {
-        line: 65534,
-        cause: Cause::Id,
-    };
-    for (lines, wrong, wanted) in [
-        (65535, None, None),
-        (65536, None, Some(FileRefused::TooMany)),
-        (65536, Some(3), Some(refused)),
-        (65536, Some(65534), Some(last)),
-        (65536, Some(65535), Some(FileRefused::TooMany)),
-    ] {
-        let bytes = drops(rt.alloc(), lines, wrong)?;
-        assert!(rt; bytes.len() <= MOST_BYTES);
-        match read_jobs(rt.alloc(), &bytes) {
-            Ok(found) => {
-                assert_eq!(rt; wanted, None);
-                assert_eq!(rt; found.len(), lines);
-            }
-            Err(fault) => assert_eq!(rt; wanted, Some(fault)),
-        }
+    for (lines, wrong, wanted) in COUNTS {
+        is_counted(&rt, rt.alloc(), lines, wrong, wanted)?;
     }
     Ok(())
 }
@@ -256,9 +288,9 @@ fn is_the_post(line: &Line, bytes: &[u8]) -> bool {
 #[test]
 fn keeps_lists(rt: HostRuntime) -> Result<(), Fail> {
     let text = Text::from_slice(rt.alloc(), b"hi")?;
-    assert_eq!(rt; (text.len(), text.get(1)), (2, b'i'));
+    assert!(rt; text.len() == 2 && text.get(1) == b'i');
     let lines = two_lines(rt.alloc(), &text)?;
-    assert_eq!(rt; lines.len(), 2);
+    assert!(rt; lines.len() == 2);
     assert!(rt; is_the_post(lines.get(1), b"hi"));
     Ok(())
 }
@@ -274,19 +306,20 @@ fn generates_two_lines(rt: HostRuntime) -> Result<(), Fail> {
     let lines = make_lines(rt.alloc(), 1, 2)?;
     let text = lines_text(rt.alloc(), &lines)?;
     let wanted = b"post,0,bytes,x\npost,1,bytes,xxxxx\n";
-    assert_eq!(rt; text.bytes(), wanted.as_slice());
+    assert!(rt; text.bytes() == wanted.as_slice());
     Ok(())
+}
+
+// How many lines a file has.
+fn line_count<R: Abort>(rt: &R, alloc: Global, bytes: &[u8]) -> Result<usize, FileRefused<Cause>> {
+    assert!(rt; bytes.len() <= MOST_BYTES);
+    Ok(read_jobs(alloc, bytes)?.len())
 }
 
 #[test]
 fn the_most_generated_lines_are_read(rt: HostRuntime) -> Result<(), Fail> {
     let lines = make_lines(rt.alloc(), u32::MAX, 60_000)?;
     let text = lines_text(rt.alloc(), &lines)?;
-    let bytes = text.bytes();
-    assert!(rt; bytes.len() <= MOST_BYTES);
-    match read_jobs(rt.alloc(), bytes) {
-        Ok(read) => assert_eq!(rt; read.len(), 60_000),
-        Err(fault) => assert!(rt; false, "{fault:?}"),
-    }
+    assert!(rt; line_count(&rt, rt.alloc(), text.bytes()) == Ok(60_000));
     Ok(())
 }

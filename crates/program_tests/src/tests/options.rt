@@ -126,47 +126,54 @@ fn words_give_sets(rt: HostRuntime) -> Result<(), Fail> {
     give(&rt, rt.alloc(), rows.as_slice())
 }
 
+// Words of which each is refused.
+const WRONG_WORDS: [&str; 33] = [
+    "--help",
+    "-h",
+    "--version",
+    "help",
+    "replay",
+    "--posters=0",
+    "--posters=9",
+    "--posters",
+    "--posters=",
+    "--takers=8",
+    "--takers=-1",
+    "--stages=0",
+    "--stages=7",
+    "--rows=7",
+    "--rows=65536",
+    "--rows=4294967304",
+    "--rows= 8",
+    "--buckets=0",
+    "--buckets=257",
+    "--rest=maybe",
+    "--rest=Yes",
+    "--rest",
+    "--mode=Run",
+    "--mode=Trial",
+    "--mode=mak",
+    "--mode",
+    "--row=8",
+    "--seed=0",
+    "--seed=4294967296",
+    "--lines=0",
+    "--lines=60001",
+    "--line=1",
+    "x",
+];
+
+// Asks whether these words are refused.
+fn are_refused<R: Abort>(rt: &R, alloc: Global, words: &[&str]) -> Result<(), Fail> {
+    let got = settings_of(alloc, &words_of(alloc, words)?);
+    assert!(rt; got == Err(Refused::Words), "at {words:?}");
+    Ok(())
+}
+
 #[test]
 fn words_are_refused(rt: HostRuntime) -> Result<(), Fail> {
-    for word in [
-        "--help",
-        "-h",
-        "--version",
-        "help",
-        "replay",
-        "--posters=0",
-        "--posters=9",
-        "--posters",
-        "--posters=",
-        "--takers=8",
-        "--takers=-1",
-        "--stages=0",
-        "--stages=7",
-        "--rows=7",
-        "--rows=65536",
-        "--rows=4294967304",
-        "--rows= 8",
-        "--buckets=0",
-        "--buckets=257",
-        "--rest=maybe",
-        "--rest=Yes",
-        "--rest",
-        "--mode=Run",
-        "--mode=Trial",
-        "--mode=mak",
-        "--mode",
-        "--row=8",
-        "--seed=0",
-        "--seed=4294967296",
-        "--lines=0",
-        "--lines=60001",
-        "--line=1",
-        "x",
-    ] {
-        let got = settings_of(rt.alloc(), &words_of(rt.alloc(), &[word])?);
-        assert!(rt; got == Err(Refused::Words), "at {word}");
+    for word in WRONG_WORDS {
+        are_refused(&rt, rt.alloc(), &[word])?;
     }
-    let twice = words_of(rt.alloc(), &["--rows=8", "--rows=8"])?;
-    assert!(rt; settings_of(rt.alloc(), &twice) == Err(Refused::Words));
-    Ok(())
+    are_refused(&rt, rt.alloc(), &["--rows=8", "--rows=8"])
 }

@@ -1,12 +1,10 @@
 //! Runs on threads, whose replies are read back, and workers that work beside each other.
 
-ghost use Rattle.std.specs.Prelude.{◌≤◌, IfOk};
-ghost use Rattle.orc_jobs.specs.GoodLines.{AreGood};
+ghost use Rattle.std.specs.Prelude.{◌≤◌};
 
-use super::lines_of;
+use super::{are_replies, lines_of, posts};
 use orc_board::{Gate, OpenGate, PostReply, PostWord, Replies, TakeReply, TakeWord};
 use orc_fault::NoMemory;
-use orc_jobs::Lines;
 use orc_run::{Finished, SetChoice, Task, run_lines};
 use std::alloc::Global;
 use std::sync::Wait;
@@ -18,19 +16,14 @@ mod meeting;
 const FIVE_LINES: &[u8] =
     b"post,7,bytes,hello\npost,9,sum,1 2 3\ndrop,9\npost,7,words,a b\ndrop,8\n";
 
-const NINE_POSTS: &[u8] =
-    b"post,0,bytes,x\npost,1,bytes,x\npost,2,bytes,x\npost,3,bytes,x\npost,4,bytes,x\npost,5,bytes,x\npost,6,bytes,x\npost,7,bytes,x\npost,8,bytes,x\n";
-
 // So many rounds, in each of which each of four posters posts a job and drops its id.
-fn rounds_of(alloc: Global, rounds: u32) -> Result<Lines, NoMemory>
-    ensures { IfOk result AreGood }
-{
+fn rounds_of(alloc: Global, rounds: u32) -> Result<String, NoMemory> {
     let mut text = String::new(alloc);
     for _ in 0..rounds {
         text.push_str("post,1,bytes,x\npost,2,bytes,x\npost,3,bytes,x\npost,4,bytes,x\n")?;
         text.push_str("drop,1\ndrop,2\ndrop,3\ndrop,4\n")?;
     }
-    lines_of(alloc, text.as_bytes())
+    Ok(text)
 }
 
 // Whether the claims are of the positions from 0 on, so many, each once.
@@ -65,41 +58,68 @@ struct Ran {
     set: (u64, u64, u32),
 }
 
-// Runs the task with a set of so many lists. All tests call here, so that the call's contract is looked at in one proof.
-fn run<R: Threads + Wait + Sync, G: Gate + Sync>(
-    rt: &R,
-    alloc: Global,
-    task: &Task<'_>,
-    buckets: u32,
-    gate: &G,
-) -> Result<Ran, NoMemory>
-    requires good { AreGood task.now.lines.now }
-    requires buckets { (1 ≤ buckets) × (buckets ≤ 256) }
-{
-    let choice = SetChoice::Lists(buckets);
+// What is told of what a run left.
+fn told_of(finished: Finished) -> Ran {
     let Finished {
         queue,
         rush: _,
         set,
         replies,
-    } = run_lines(rt, alloc, task, choice, gate)?;
-    Ok(Ran {
+    } = finished;
+    Ran {
         replies,
         queue: (queue.given(), queue.reused(), queue.linked()),
         set: (set.given(), set.reused(), set.linked()),
-    })
+    }
+}
+
+// Runs this file by so many posters and takers, with eight rows a container and a set of so many lists. All tests call here, so that the
+// call's contract is looked at in one proof.
+fn run<R: Threads + Wait + Sync, G: Gate + Sync>(
+    rt: &R,
+    alloc: Global,
+    text: &[u8],
+    posters: u32,
+    takers: u32,
+    buckets: u32,
+    gate: &G,
+) -> Result<Ran, NoMemory>
+    requires posters { (1 ≤ posters) × (posters ≤ 8) }
+    requires takers { takers ≤ 7 }
+    requires buckets { (1 ≤ buckets) × (buckets ≤ 256) }
+{
+    let lines = lines_of(alloc, text)?;
+    let task = Task {
+        lines: &lines,
+        posters,
+        takers,
+        rows: 8,
+    };
+    let finished = run_lines(rt, alloc, &task, SetChoice::Lists(buckets), gate)?;
+    Ok(told_of(finished))
+}
+
+// Runs so many posts.
+fn run_posts<R: Threads + Wait + Sync, G: Gate + Sync>(
+    rt: &R,
+    alloc: Global,
+    count: u32,
+    posters: u32,
+    takers: u32,
+    buckets: u32,
+    gate: &G,
+) -> Result<Ran, NoMemory>
+    requires posters { (1 ≤ posters) × (posters ≤ 8) }
+    requires takers { takers ≤ 7 }
+    requires buckets { (1 ≤ buckets) × (buckets ≤ 256) }
+{
+    let text = posts(alloc, count)?;
+    run(rt, alloc, text.as_bytes(), posters, takers, buckets, gate)
 }
 
 #[test]
 fn a_drop_closes_an_open_id(rt: HostRuntime) -> Result<(), Fail> {
-    let lines = lines_of(rt.alloc(), FIVE_LINES)?;
-    let task = Task {
-        lines: &lines,
-        posters: 1,
-        takers: 0,
-        rows: 8,
-    };
-    let ran = run(&rt, rt.alloc(), &task, 1, &OpenGate)?;
+    let ran = run(&rt, rt.alloc(), FIVE_LINES, 1, 0, 1, &OpenGate)?;
     let words = [
         PostWord::Posted(0),
         PostWord::Posted(1),
@@ -107,15 +127,7 @@ fn a_drop_closes_an_open_id(rt: HostRuntime) -> Result<(), Fail> {
         PostWord::Busy,
         PostWord::Unknown,
     ];
-    assert_eq!(rt; ran.replies.posts.len(), 5);
-    for (line, what) in (0..).zip(words) {
-        let reply = PostReply {
-            poster: 1,
-            line,
-            what,
-        };
-        assert!(rt; ran.replies.posts.items().contains(&reply));
-    }
+    assert!(rt; are_replies(ran.replies.posts.items(), &words));
     let done = TakeReply {
         taker: 0,
         at: 0,
@@ -130,43 +142,28 @@ fn a_drop_closes_an_open_id(rt: HostRuntime) -> Result<(), Fail> {
         rush: false,
         what: TakeWord::Void,
     };
-    assert_eq!(rt; ran.replies.takes.items(), [done, void].as_slice());
-    assert_eq!(rt; ran.queue, (3, 2, 1));
-    assert_eq!(rt; ran.set, (2, 2, 0));
+    assert!(rt; ran.replies.takes.items() == [done, void].as_slice());
+    assert!(rt; ran.queue == (3, 2, 1) && ran.set == (2, 2, 0));
     Ok(())
 }
 
 #[test]
 fn a_small_board_refuses_what_has_no_row(rt: HostRuntime) -> Result<(), Fail> {
-    let lines = lines_of(rt.alloc(), NINE_POSTS)?;
-    let task = Task {
-        lines: &lines,
-        posters: 1,
-        takers: 0,
-        rows: 8,
-    };
-    let ran = run(&rt, rt.alloc(), &task, 256, &OpenGate)?;
-    assert_eq!(rt; accepted(ran.replies.posts.items()), 7);
-    assert_eq!(rt; ran.queue, (8, 7, 1));
-    assert_eq!(rt; ran.set, (9, 9, 0));
+    let ran = run_posts(&rt, rt.alloc(), 9, 1, 0, 256, &OpenGate)?;
+    assert!(rt; accepted(ran.replies.posts.items()) == 7);
+    assert!(rt; ran.queue == (8, 7, 1) && ran.set == (9, 9, 0));
     Ok(())
 }
 
 #[test]
 fn eight_rows_serve_ten_thousand_posts_and_drops(rt: HostRuntime) -> Result<(), Fail> {
-    let lines = rounds_of(rt.alloc(), 1250)?;
-    let task = Task {
-        lines: &lines,
-        posters: 4,
-        takers: 3,
-        rows: 8,
-    };
-    let ran = run(&rt, rt.alloc(), &task, 16, &OpenGate)?;
+    let text = rounds_of(rt.alloc(), 1250)?;
+    let ran = run(&rt, rt.alloc(), text.as_bytes(), 4, 3, 16, &OpenGate)?;
     let posts = ran.replies.posts.items();
     let takes = ran.replies.takes.items();
-    assert_eq!(rt; posts.len(), 10000);
+    assert!(rt; posts.len() == 10000);
     assert!(rt; each_claimed_once(rt.alloc(), takes, accepted(posts))?);
     assert!(rt; ran.queue.1.saturating_add(ran.set.1) >= 1000);
-    assert_eq!(rt; ran.queue.2, 1);
+    assert!(rt; ran.queue.2 == 1);
     Ok(())
 }

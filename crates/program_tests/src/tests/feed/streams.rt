@@ -46,13 +46,13 @@ impl Write for FailsSecond {
 fn a_failed_call_is_told_and_not_made_again(rt: HostRuntime) -> Result<(), Fail> {
     let mut source = StdSource::new(FailsSecond { calls: 0 });
     let mut to = [0; 4];
-    assert_eq!(rt; source.read(&mut to), Ok(1));
-    assert_eq!(rt; source.read(&mut to), Err(Failed));
-    assert_eq!(rt; source.read(&mut to), Ok(1));
-    assert_eq!(rt; to[0], 3);
+    assert!(rt; source.read(&mut to) == Ok(1));
+    assert!(rt; source.read(&mut to) == Err(Failed));
+    assert!(rt; source.read(&mut to) == Ok(1));
+    assert!(rt; to[0] == 3);
     let mut sink = StdSink::new(FailsSecond { calls: 0 });
-    assert_eq!(rt; sink.write(b"ab"), Ok(1));
-    assert_eq!(rt; sink.write(b"b"), Err(Failed));
-    assert_eq!(rt; sink.write(b"b"), Ok(1));
+    assert!(rt; sink.write(b"ab") == Ok(1));
+    assert!(rt; sink.write(b"b") == Err(Failed));
+    assert!(rt; sink.write(b"b") == Ok(1));
     Ok(())
 }

@@ -1,26 +1,16 @@
 //! That posters and takers work beside each other, which no contract says: gates that hold one until another has come.
 
 use super::super::gates::{TwoMeet, comes_to};
-use super::super::{lines_of, posts};
-use super::run;
+use super::run_posts;
 use orc_board::Gate;
-use orc_run::Task;
 use std::sync::atomic::{AtomicU64, Ordering};
 use std::test::Fail;
 
 #[test]
 fn two_posters_each_see_the_other_come(rt: HostRuntime) -> Result<(), Fail> {
-    let text = posts(rt.alloc(), 6)?;
-    let lines = lines_of(rt.alloc(), text.as_bytes())?;
     let gate = TwoMeet::new();
-    let task = Task {
-        lines: &lines,
-        posters: 2,
-        takers: 0,
-        rows: 8,
-    };
-    let _ran = run(&rt, rt.alloc(), &task, 16, &gate)?;
-    assert_eq!(rt; gate.met(), 2);
+    let _ran = run_posts(&rt, rt.alloc(), 6, 2, 0, 16, &gate)?;
+    assert!(rt; gate.met() == 2);
     Ok(())
 }
 
@@ -44,19 +34,11 @@ impl Gate for TakerGoesOn {
 
 #[test]
 fn a_taker_goes_on_while_a_poster_is_left(rt: HostRuntime) -> Result<(), Fail> {
-    let text = posts(rt.alloc(), 2)?;
-    let lines = lines_of(rt.alloc(), text.as_bytes())?;
     let gate = TakerGoesOn {
         again: AtomicU64::new(0),
         seen: AtomicU64::new(0),
     };
-    let task = Task {
-        lines: &lines,
-        posters: 1,
-        takers: 1,
-        rows: 8,
-    };
-    let _ran = run(&rt, rt.alloc(), &task, 16, &gate)?;
-    assert_eq!(rt; gate.seen.load(Ordering::SeqCst), 1);
+    let _ran = run_posts(&rt, rt.alloc(), 2, 1, 1, 16, &gate)?;
+    assert!(rt; gate.seen.load(Ordering::SeqCst) == 1);
     Ok(())
 }

@@ -1,11 +1,12 @@
-//! Rows of a pipeline over plain queues, one agent after another on this thread.
+//! Rows of a pipeline over plain queues, by one agent.
 ghost use Rattle.orc_jobs.specs.GoodLines.{AreGood};
+ghost use Rattle.orc_stages.specs.Calls.{AreStagePasses};
 
-use super::super::lines_of;
+use super::super::{lines_of, plain_queue};
 use super::{moved, posted};
 use orc_board::{OpenGate, PostList, PostReply, PostWord};
 use orc_fault::NoMemory;
-use orc_history::PlainQueue;
+use orc_history::SharedQueue;
 use orc_jobs::Lines;
 use orc_stages::{OutList, StageList, StageReply, move_rest, post_items, run_stage, take_outs};
 use orc_workers::count_jobs;
@@ -32,18 +33,24 @@ struct Wanted<'a> {
     outs: &'a [u64],
 }
 
-// What a poster, two stages and the caller do with these lines, where the middle queue has room for so many jobs.
-fn two_stages<R: Wait>(
+// What comes of these lines at three queues, where agent 1 does all: as the poster, as two stages, or as the caller in place of the first,
+// and as the caller who takes what has come out.
+fn at_queues<R: Wait, Q: SharedQueue>(
     rt: &R,
     alloc: Global,
     lines: &Lines,
-    middle: u32,
+    queue0: &Q,
+    queue1: &Q,
+    queue2: &Q,
+    pass0: &mut Q::Pass,
+    pass1: &mut Q::Pass,
+    pass2: &mut Q::Pass,
+    by_caller: bool,
 ) -> Result<TwoStages, NoMemory>
-    requires { AreGood lines.now }
+    requires first { AreStagePasses Q.SharedQueue queue0.now queue1.now 1 pass0.old pass1.old }
+    requires second { AreStagePasses Q.SharedQueue queue1.now queue2.now 1 pass1.old pass2.old }
+    requires good { AreGood lines.now }
 {
-    let (queue0, mut pass0) = PlainQueue::new(alloc, 8, 0)?.pass();
-    let (queue1, mut pass1) = PlainQueue::new(alloc, middle, 0)?.pass();
-    let (queue2, mut pass2) = PlainQueue::new(alloc, 8, 0)?.pass();
     let jobs = count_jobs(lines);
     let mut posts = PostList::new(alloc, lines.len())?;
     let mut first = StageList::new(alloc, jobs)?;
@@ -51,22 +58,20 @@ fn two_stages<R: Wait>(
     let mut outs = OutList::new(alloc, jobs)?;
     let before = AtomicU64::new(0);
     let after = AtomicU64::new(2);
-    pass0.act_as(1);
-    post_items(rt, &queue0, &mut pass0, 1, 1, lines, &OpenGate, &mut posts);
-    pass0.act_as(2);
-    pass1.act_as(2);
-    run_stage(
-        rt, &queue0, &queue1, &mut pass0, &mut pass1, 1, lines, &OpenGate, &before, &after,
-        &mut first,
-    );
-    pass1.act_as(3);
-    pass2.act_as(3);
+    post_items(rt, queue0, pass0, 1, 1, lines, &OpenGate, &mut posts);
+    if by_caller {
+        move_rest(rt, queue0, queue1, pass0, pass1, 1, lines, &mut first);
+    } else {
+        run_stage(
+            rt, queue0, queue1, pass0, pass1, 1, lines, &OpenGate, &before, &after, &mut first,
+        );
+    }
     run_stage(
         rt,
-        &queue1,
-        &queue2,
-        &mut pass1,
-        &mut pass2,
+        queue1,
+        queue2,
+        pass1,
+        pass2,
         2,
         lines,
         &OpenGate,
@@ -74,8 +79,7 @@ fn two_stages<R: Wait>(
         &after,
         &mut second,
     );
-    pass2.act_as(0);
-    take_outs(rt, &queue2, &mut pass2, &mut outs);
+    take_outs(rt, queue2, pass2, &mut outs);
     Ok(TwoStages {
         posts,
         first,
@@ -84,16 +88,22 @@ fn two_stages<R: Wait>(
     })
 }
 
-// Which lists of a run of this file are those that are wanted.
+// Which lists of a run of this file over plain queues, of which the middle one has room for so many jobs, are those that are wanted.
 fn agree<R: Wait>(
     rt: &R,
     alloc: Global,
     text: &[u8],
     middle: u32,
+    by_caller: bool,
     wanted: Wanted,
 ) -> Result<[bool; 4], NoMemory> {
     let lines = lines_of(alloc, text)?;
-    let done = two_stages(rt, alloc, &lines, middle)?;
+    let (queue0, mut pass0) = plain_queue(alloc, 8, 0)?;
+    let (queue1, mut pass1) = plain_queue(alloc, middle, 0)?;
+    let (queue2, mut pass2) = plain_queue(alloc, 8, 0)?;
+    let done = at_queues(
+        rt, alloc, &lines, &queue0, &queue1, &queue2, &mut pass0, &mut pass1, &mut pass2, by_caller,
+    )?;
     Ok([
         done.posts.items() == wanted.posts,
         done.first.items() == wanted.first,
@@ -111,7 +121,7 @@ fn two_posts_go_through_two_stages(rt: HostRuntime) -> Result<(), Fail> {
         outs: &[0, 1],
     };
     let text = b"post,3,bytes,abc\npost,3,words,a b\n";
-    assert_eq!(rt; agree(&rt, rt.alloc(), text, 8, wanted)?, [true; 4]);
+    assert!(rt; agree(&rt, rt.alloc(), text, 8, false, wanted)? == [true; 4]);
     Ok(())
 }
 
@@ -128,7 +138,7 @@ fn a_drop_is_skipped(rt: HostRuntime) -> Result<(), Fail> {
         second: &[],
         outs: &[],
     };
-    assert_eq!(rt; agree(&rt, rt.alloc(), b"drop,3\n", 8, wanted)?, [true; 4]);
+    assert!(rt; agree(&rt, rt.alloc(), b"drop,3\n", 8, false, wanted)? == [true; 4]);
     Ok(())
 }
 
@@ -141,34 +151,19 @@ fn later_stages_go_on_where_a_job_finds_no_place(rt: HostRuntime) -> Result<(), 
         outs: &[0],
     };
     let text = b"post,1,bytes,a\nrush,2,bytes,bb\npost,3,bytes,ccc\n";
-    assert_eq!(rt; agree(&rt, rt.alloc(), text, 1, wanted)?, [true; 4]);
+    assert!(rt; agree(&rt, rt.alloc(), text, 1, false, wanted)? == [true; 4]);
     Ok(())
-}
-
-// Whether the caller moves so of this file, where no stage worked.
-fn moved_by_the_caller<R: Wait>(
-    rt: &R,
-    alloc: Global,
-    text: &[u8],
-    wanted: &[StageReply],
-) -> Result<bool, NoMemory> {
-    let lines = lines_of(alloc, text)?;
-    let (queue0, mut pass0) = PlainQueue::new(alloc, 8, 0)?.pass();
-    let (queue1, mut pass1) = PlainQueue::new(alloc, 8, 0)?.pass();
-    let mut posts = PostList::new(alloc, lines.len())?;
-    let mut moves = StageList::new(alloc, lines.len())?;
-    pass0.act_as(1);
-    post_items(rt, &queue0, &mut pass0, 1, 1, &lines, &OpenGate, &mut posts);
-    pass0.act_as(0);
-    move_rest(
-        rt, &queue0, &queue1, &mut pass0, &mut pass1, 1, &lines, &mut moves,
-    );
-    Ok(moves.items() == wanted)
 }
 
 #[test]
 fn the_caller_moves_what_is_left(rt: HostRuntime) -> Result<(), Fail> {
-    let wanted = [moved(1, 0, Some(3))];
-    assert!(rt; moved_by_the_caller(&rt, rt.alloc(), b"post,3,bytes,abc\n", &wanted)?);
+    let wanted = Wanted {
+        posts: &[posted(0, 0)],
+        first: &[moved(1, 0, Some(3))],
+        second: &[moved(2, 0, Some(6))],
+        outs: &[0],
+    };
+    let text = b"post,3,bytes,abc\n";
+    assert!(rt; agree(&rt, rt.alloc(), text, 8, true, wanted)? == [true; 4]);
     Ok(())
 }

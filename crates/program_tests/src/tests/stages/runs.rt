@@ -7,7 +7,7 @@ use super::{moved, posted};
 use orc_board::{Gate, OpenGate, PostList, PostReply, PostWord};
 use orc_fault::NoMemory;
 use orc_stages::{OutList, StageList, StageReply};
-use orc_stages_run::run_pipeline;
+use orc_stages_run::{StagesFinished, run_pipeline};
 use std::alloc::Global;
 use std::sync::Wait;
 use std::sync::atomic::{AtomicU64, Ordering};
@@ -21,6 +21,18 @@ struct Outcome {
     moves: StageList,
     outs: OutList,
     queues: usize,
+}
+
+// What is told of what a run left.
+fn told_of(finished: StagesFinished) -> Outcome {
+    let queues = finished.queues.len();
+    let done = finished.done;
+    Outcome {
+        posts: done.posts,
+        moves: done.moves,
+        outs: done.outs,
+        queues,
+    }
 }
 
 // What a run of this file by so many posters and stages leaves. All tests call here, so that the call's contract is looked at in one
@@ -40,14 +52,25 @@ fn outcome_of<R: Threads + Wait + Sync, G: Gate + Sync>(
 {
     let lines = lines_of(alloc, text)?;
     let finished = run_pipeline(rt, alloc, &lines, posters, stages, rows, gate)?;
-    let queues = finished.queues.len();
-    let done = finished.done;
-    Ok(Outcome {
-        posts: done.posts,
-        moves: done.moves,
-        outs: done.outs,
-        queues,
-    })
+    Ok(told_of(finished))
+}
+
+// What a run of so many posts leaves.
+fn outcome_of_posts<R: Threads + Wait + Sync, G: Gate + Sync>(
+    rt: &R,
+    alloc: Global,
+    count: u32,
+    posters: u32,
+    stages: u32,
+    rows: u32,
+    gate: &G,
+) -> Result<Outcome, NoMemory>
+    requires posters { (1 ≤ posters) × (posters ≤ 8) }
+    requires stages { (1 ≤ stages) × (stages ≤ 6) }
+    requires rows { (2 ≤ rows) × (rows ≤ 65535) }
+{
+    let text = posts(alloc, count)?;
+    outcome_of(rt, alloc, text.as_bytes(), posters, stages, rows, gate)
 }
 
 #[test]
@@ -58,8 +81,8 @@ fn a_drop_is_skipped(rt: HostRuntime) -> Result<(), Fail> {
         line: 0,
         what: PostWord::Skipped,
     };
-    assert_eq!(rt; got.posts.items(), [skipped].as_slice());
-    assert_eq!(rt; (got.moves.len(), got.outs.len(), got.queues), (0, 0, 3));
+    assert!(rt; got.posts.items() == [skipped].as_slice());
+    assert!(rt; (got.moves.len(), got.outs.len(), got.queues) == (0, 0, 3));
     Ok(())
 }
 
@@ -78,11 +101,9 @@ fn in_file_order(outs: &OutList, ends: [u64; 3]) -> bool {
 
 #[test]
 fn a_thousand_posts_come_out_in_file_order(rt: HostRuntime) -> Result<(), Fail> {
-    let alloc = rt.alloc();
-    let text = posts(alloc, 1000)?;
-    let got = outcome_of(&rt, alloc, text.as_bytes(), 3, 6, 2000, &OpenGate)?;
-    assert_eq!(rt; (got.posts.len(), got.moves.len()), (1000, 6000));
-    assert_eq!(rt; (got.outs.len(), got.queues), (1000, 7));
+    let got = outcome_of_posts(&rt, rt.alloc(), 1000, 3, 6, 2000, &OpenGate)?;
+    assert!(rt; (got.posts.len(), got.moves.len()) == (1000, 6000));
+    assert!(rt; (got.outs.len(), got.queues) == (1000, 7));
     assert!(rt; in_file_order(&got.outs, [1002, 1000, 1001]));
     Ok(())
 }
@@ -118,21 +139,24 @@ impl Gate for SecondStageWaits {
     }
 }
 
+// Whether these are the moves of the first jobs at this stage, of which seven got a place with this value, and later ones none.
+fn seven_placed(moves: &[StageReply], stage: u32, value: u64) -> bool {
+    for (line, reply) in (0..).zip(moves) {
+        let value = if line < 7 { Some(value) } else { None };
+        if *reply != moved(stage, line, value) {
+            return false;
+        }
+    }
+    true
+}
+
 // Whether the first seven jobs went through both stages and came out in their order, and the next eight found no place behind the
 // first stage.
-fn seven_come_out(got: &Outcome) -> bool {
-    let mut all = true;
-    for (line, reply) in (0..).zip(got.moves.items().iter().take(15)) {
-        let value = if line < 7 { Some(1) } else { None };
-        all &= *reply == moved(1, line, value);
-    }
-    for (line, reply) in (0..).zip(got.moves.items().iter().skip(16).take(7)) {
-        all &= *reply == moved(2, line, Some(2));
-    }
-    for (line, job) in (0..).zip(got.outs.items().iter().take(7)) {
-        all &= *job == line;
-    }
-    all
+fn seven_come_out(moves: &[StageReply], outs: &[u64]) -> bool {
+    moves.len() >= 23
+        && seven_placed(&moves[..15], 1, 1)
+        && seven_placed(&moves[16..23], 2, 2)
+        && outs.starts_with(&[0, 1, 2, 3, 4, 5, 6])
 }
 
 // How many jobs found a place behind this stage.
@@ -150,22 +174,17 @@ fn placed_by(moves: &[StageReply], stage: u32) -> usize {
 // first stage where the second has taken a job before, and may then find none behind the second.
 #[test]
 fn later_stages_go_on_where_jobs_find_no_place(rt: HostRuntime) -> Result<(), Fail> {
-    let alloc = rt.alloc();
-    let text = posts(alloc, 16)?;
     let gate = SecondStageWaits {
         posted: AtomicU64::new(0),
         tried: AtomicU64::new(0),
     };
-    let got = outcome_of(&rt, alloc, text.as_bytes(), 1, 2, 8, &gate)?;
-    assert_eq!(rt; got.posts.items().last(), Some(&posted(15, 15)));
-    assert!(rt; seven_come_out(&got));
+    let got = outcome_of_posts(&rt, rt.alloc(), 16, 1, 2, 8, &gate)?;
+    assert!(rt; got.posts.items().last() == Some(&posted(15, 15)));
     let moves = got.moves.items();
+    assert!(rt; seven_come_out(moves, got.outs.items()));
     let (by_first, by_second) = (placed_by(moves, 1), placed_by(moves, 2));
-    assert!(rt; by_second >= 7);
-    assert_eq!(rt;
-        (moves.len(), got.outs.len()),
-        (by_first.wrapping_add(16), by_second)
-    );
+    assert!(rt; by_second >= 7 && got.outs.len() == by_second);
+    assert!(rt; moves.len() == by_first.wrapping_add(16));
     Ok(())
 }
 
@@ -190,13 +209,11 @@ impl Gate for StagesMeet {
 
 #[test]
 fn each_stage_has_a_worker_of_its_own(rt: HostRuntime) -> Result<(), Fail> {
-    let alloc = rt.alloc();
-    let text = posts(alloc, 3)?;
     let gate = StagesMeet {
         came: AtomicU64::new(0),
         met: AtomicU64::new(0),
     };
-    let got = outcome_of(&rt, alloc, text.as_bytes(), 1, 3, 8, &gate)?;
-    assert_eq!(rt; (gate.met.load(Ordering::SeqCst), got.outs.len()), (3, 3));
+    let got = outcome_of_posts(&rt, rt.alloc(), 3, 1, 3, 8, &gate)?;
+    assert!(rt; gate.met.load(Ordering::SeqCst) == 3 && got.outs.len() == 3);
     Ok(())
 }

@@ -31,6 +31,6 @@ fn two_workers_each_see_the_other_come(rt: HostRuntime) -> Result<(), Fail> {
     let lines = b"left,1\nright,2\nsee\nsee\nboth,3,4\nsee\n";
     let gate = TwoMeet::new();
     watch_by_two(&rt, rt.alloc(), lines, &gate)?;
-    assert_eq!(rt; gate.met(), 2);
+    assert!(rt; gate.met() == 2);
     Ok(())
 }
