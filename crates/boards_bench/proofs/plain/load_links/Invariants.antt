@@ -1,5 +1,5 @@
 use Rattle.orc_plain_board.specs.Views.{Belongs}
-use Rattle.plain_board_bench.proofs.load_links.Given as goal
+use Rattle.boards_bench.proofs.plain.load_links.Given as goal
 
 abbrev pub invariant-loop-load : goal.invariant-loop-load
 invariant-loop-load l = Belongs l.board l.p

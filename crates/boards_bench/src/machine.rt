@@ -1,12 +1,11 @@
-//! Makes steps of the machine over a state of 65,535 rows, and prints how many it made.
-//! The times that it took go to standard error.
-#![tactic(auto)]
+//! Steps of the machine over a state of 65,535 rows.
 
 use orc_core::{CounterUse, NotAllowed, Op, State, apply};
 use orc_words::{HIGHEST_LIMIT, RowLink, Shape, Word};
 use std::alloc::Global;
 use std::io;
-use std::time::Instant;
+use std::io::{Eprint, Print};
+use std::time::{Clock, Instant};
 
 // How many times each row is taken, linked, retired and freed.
 const LIVES: u32 = 10;
@@ -122,17 +121,33 @@ fn run(bench: &mut Bench) -> Result<(), NotAllowed> {
     Ok(())
 }
 
-fn main(rt: HostRuntime) -> io::Result<()> {
-    let start = Instant::now(&rt)?;
-    let largest = new_state(rt.alloc(), 257, 16);
-    let made = start.elapsed(&rt)?.as_micros();
-    let (Some(_), Some(state)) = (largest, new_state(rt.alloc(), 1, 2)) else {
-        return println!(rt; "no memory");
-    };
-    let mut bench = Bench { state, steps: 0 };
-    let start = Instant::now(&rt)?;
-    let outcome = run(&mut bench);
-    let ran = start.elapsed(&rt)?.as_micros();
+// How many microseconds a new state of the largest shape takes, if memory is there for it.
+fn time_largest<R: Clock>(rt: &R, alloc: Global) -> io::Result<Option<u128>> {
+    let start = Instant::now(rt)?;
+    let largest = new_state(alloc, 257, 16);
+    let took = start.elapsed(rt);
+    if largest.is_none() {
+        return Ok(None);
+    }
+    Ok(Some(took?.as_micros()))
+}
+
+// Makes all steps, and prints how many they were, and the times that a new state of the largest shape and they took.
+fn time_steps<R: Clock + Print + Eprint>(rt: &R, bench: &mut Bench, made: u128) -> io::Result<()> {
+    let start = Instant::now(rt)?;
+    let outcome = run(bench);
+    let ran = start.elapsed(rt)?.as_micros();
     eprintln!(rt; "largest new state: {made} microseconds; all steps: {ran} microseconds")?;
     println!(rt; "steps {} {outcome:?}", bench.steps)
+}
+
+// Times a new state of the largest shape, and the steps over a small one.
+pub(crate) fn time<R: Clock + Print + Eprint>(rt: &R, alloc: Global) -> io::Result<()> {
+    let Some(made) = time_largest(rt, alloc)? else {
+        return println!(rt; "no memory");
+    };
+    let Some(state) = new_state(alloc, 1, 2) else {
+        return println!(rt; "no memory");
+    };
+    time_steps(rt, &mut Bench { state, steps: 0 }, made)
 }
