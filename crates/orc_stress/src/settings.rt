@@ -36,6 +36,24 @@ impl Kind {
             Kind::Sorted => "sorted",
         }
     }
+
+    // Where an agent is stopped, if no word says where.
+    fn first_stop(self) -> Stop {
+        match self {
+            Kind::Cell => Stop::Staged,
+            _ => Stop::First,
+        }
+    }
+
+    // Whether it has calls that stop there.
+    fn stops(self, stop: Stop) -> bool {
+        match stop {
+            Stop::First => self != Kind::Cell,
+            Stop::Tail => self == Kind::Queue,
+            Stop::Marked => self == Kind::List || self == Kind::Set,
+            Stop::Staged => self == Kind::Cell,
+        }
+    }
 }
 
 /// What it stands on.
@@ -160,6 +178,39 @@ static MIXES: [&str; 4] = ["pairs", "apart", "90/5/5", "34/33/33"];
 
 static STOPS: [&str; 4] = ["first", "tail", "marked", "staged"];
 
+// The options with a number: the word, the number without it, the least and the greatest.
+const NUMBERS: [(&str, &str, u32, u32); 8] = [
+    ("agents", "1", 1, 16),
+    ("rows", "65535", 2, 65535),
+    ("roots", "16", 1, 257),
+    ("keys", "1000", 1, 1000000),
+    ("threads", "4", 1, 16),
+    ("calls", "60000", 0, 4294967295),
+    ("turns", "64", 1, 65535),
+    ("seed", "1", 1, 4294967295),
+];
+
+const FLAGS: [&str; 3] = ["stall", "whole", "untimed"];
+
+// Adds an option with one of several words.
+fn with_choice<'a>(
+    alloc: Global,
+    command: Command<'a>,
+    id: &'a str,
+    names: &'a [&'a str],
+) -> Result<Command<'a>, AllocError> {
+    let option = Arg::new(alloc, id).long(id);
+    command.arg(option.value_parser(ValueParser::Names(names)))
+}
+
+// Adds the options that name what is driven and where an agent is stopped.
+fn with_choices<'a>(alloc: Global, command: Command<'a>) -> Result<Command<'a>, AllocError> {
+    let command = with_choice(alloc, command, "container", KINDS.as_slice())?;
+    let command = with_choice(alloc, command, "domain", DOMAINS.as_slice())?;
+    let command = with_choice(alloc, command, "mix", MIXES.as_slice())?;
+    with_choice(alloc, command, "stop", STOPS.as_slice())
+}
+
 // An option with a number in a range.
 fn number_option<'a>(alloc: Global, id: &'a str, default: &'a str, low: u32, high: u32) -> Arg<'a> {
     Arg::new(alloc, id)
@@ -168,51 +219,29 @@ fn number_option<'a>(alloc: Global, id: &'a str, default: &'a str, low: u32, hig
         .default_value(default)
 }
 
-// An option with one of several words.
-fn choice_option<'a>(alloc: Global, id: &'a str, names: &'a [&'a str]) -> Arg<'a> {
-    Arg::new(alloc, id)
-        .long(id)
-        .value_parser(ValueParser::Names(names))
+// Adds the options that say how large what is driven is, and how much is called.
+fn with_numbers<'a>(alloc: Global, mut command: Command<'a>) -> Result<Command<'a>, AllocError> {
+    for (id, default, low, high) in NUMBERS {
+        command = command.arg(number_option(alloc, id, default, low, high))?;
+    }
+    Ok(command)
 }
 
-// An option without a value.
-fn flag<'a>(alloc: Global, id: &'a str) -> Arg<'a> {
-    Arg::new(alloc, id).long(id).action(ArgAction::SetTrue)
-}
-
-// Adds the options that name what is driven and where an agent is stopped.
-fn with_choices<'a>(alloc: Global, command: Command<'a>) -> Result<Command<'a>, AllocError> {
-    let command = command.arg(choice_option(alloc, "container", KINDS.as_slice()))?;
-    let command = command.arg(choice_option(alloc, "domain", DOMAINS.as_slice()))?;
-    let command = command.arg(choice_option(alloc, "mix", MIXES.as_slice()))?;
-    command.arg(choice_option(alloc, "stop", STOPS.as_slice()))
-}
-
-// Adds the options that say how large what is driven is.
-fn with_sizes<'a>(alloc: Global, command: Command<'a>) -> Result<Command<'a>, AllocError> {
-    let command = command.arg(number_option(alloc, "agents", "1", 1, 16))?;
-    let command = command.arg(number_option(alloc, "rows", "65535", 2, 65535))?;
-    let command = command.arg(number_option(alloc, "roots", "16", 1, 257))?;
-    command.arg(number_option(alloc, "keys", "1000", 1, 1000000))
-}
-
-// Adds the options that say how much is called.
-fn with_loads<'a>(alloc: Global, command: Command<'a>) -> Result<Command<'a>, AllocError> {
-    let command = command.arg(number_option(alloc, "threads", "4", 1, 16))?;
-    let command = command.arg(number_option(alloc, "calls", "60000", 0, 4294967295))?;
-    let command = command.arg(number_option(alloc, "turns", "64", 1, 65535))?;
-    command.arg(number_option(alloc, "seed", "1", 1, 4294967295))
+// Adds the options without a value.
+fn with_flags<'a>(alloc: Global, mut command: Command<'a>) -> Result<Command<'a>, AllocError> {
+    for id in FLAGS {
+        let option = Arg::new(alloc, id).long(id);
+        command = command.arg(option.action(ArgAction::SetTrue))?;
+    }
+    Ok(command)
 }
 
 // The command with its options.
 fn command<'a>(alloc: Global) -> Result<Command<'a>, AllocError> {
     let command = Command::new(alloc, "stress").no_binary_name(true);
     let command = with_choices(alloc, command)?;
-    let command = with_sizes(alloc, command)?;
-    let command = with_loads(alloc, command)?;
-    let command = command.arg(flag(alloc, "stall"))?;
-    let command = command.arg(flag(alloc, "whole"))?;
-    command.arg(flag(alloc, "untimed"))
+    let command = with_numbers(alloc, command)?;
+    with_flags(alloc, command)
 }
 
 // The number of an option.
@@ -228,28 +257,35 @@ fn number_of(matches: &ArgMatches<'_>, id: &str, low: u32, high: u32) -> u32
 
 // The calls that a word names, where the container has such; without a word those that the container mostly gets.
 fn mix_of(word: Option<&str>, container: Kind) -> Option<Mix> {
-    match (word, container) {
-        (None | Some("pairs"), Kind::Queue) => Some(Mix::Pairs),
-        (Some("apart"), Kind::Queue) => Some(Mix::Apart),
-        (_, Kind::Queue) => None,
-        (None | Some("90/5/5"), Kind::Cell) => Some(Mix::PairReads),
-        (Some("34/33/33"), Kind::Cell) => Some(Mix::PairWrites),
-        (None | Some("90/5/5"), _) => Some(Mix::Reads),
-        (Some("34/33/33"), _) => Some(Mix::Writes),
-        (Some(_), _) => None,
+    let (most, other) = match container {
+        Kind::Queue => (Mix::Pairs, Mix::Apart),
+        Kind::Cell => (Mix::PairReads, Mix::PairWrites),
+        Kind::List | Kind::Set | Kind::Split | Kind::Sorted => (Mix::Reads, Mix::Writes),
+    };
+    let word = word.unwrap_or(most.word());
+    if word == most.word() {
+        Some(most)
+    } else if word == other.word() {
+        Some(other)
+    } else {
+        None
     }
 }
 
 // Where a word says that an agent is stopped, if the container has such calls; without a word it holds the first node, or has staged
 // a part of a cell.
 fn stop_of(word: Option<&str>, container: Kind) -> Option<Stop> {
-    match (word, container) {
-        (None | Some("staged"), Kind::Cell) => Some(Stop::Staged),
-        (_, Kind::Cell) => None,
-        (None | Some("first"), _) => Some(Stop::First),
-        (Some("tail"), Kind::Queue) => Some(Stop::Tail),
-        (Some("marked"), Kind::List | Kind::Set) => Some(Stop::Marked),
-        (Some(_), _) => None,
+    let stop = match word {
+        Some("tail") => Stop::Tail,
+        Some("marked") => Stop::Marked,
+        Some("staged") => Stop::Staged,
+        Some(_) => Stop::First,
+        None => container.first_stop(),
+    };
+    if container.stops(stop) {
+        Some(stop)
+    } else {
+        None
     }
 }
 
