@@ -26,31 +26,23 @@ pub(crate) fn run<R: Threads + Clock + Sync>(
 ) -> Result<(Driven, Counts), Unmade>
     ensures calls { IfOk result (λ r. calls_of r.0.tally.answers ≡ settings.now.plan.threads * settings.now.plan.load.calls) }
 {
-    match (settings.container, settings.domain) {
-        (Kind::Queue, Domain::Plain) => run_queue::<R, PlainDomain<Fifo>>(
-            rt, alloc, settings, instant,
-        ),
-        (Kind::Queue, Domain::Reclaiming) => run_queue::<R, OrcDomain<Fifo>>(
-            rt, alloc, settings, instant,
-        ),
-        (Kind::List | Kind::Set, Domain::Plain) => run_set::<R, PlainDomain<Chain>>(
-            rt, alloc, settings, instant,
-        ),
-        (Kind::List | Kind::Set, Domain::Reclaiming) => run_set::<R, OrcDomain<Chain>>(
-            rt, alloc, settings, instant,
-        ),
-        (Kind::Split, Domain::Plain) => run_split::<R, PlainDomain<Split>>(
-            rt, alloc, settings, instant,
-        ),
-        (Kind::Split, Domain::Reclaiming) => run_split::<R, OrcDomain<Split>>(
-            rt, alloc, settings, instant,
-        ),
-        (Kind::Cell, Domain::Plain) => run_cell::<R, PlainDomain<Pairs>>(
-            rt, alloc, settings, instant,
-        ),
-        (Kind::Cell, Domain::Reclaiming) => run_cell::<R, OrcDomain<Pairs>>(
-            rt, alloc, settings, instant,
-        ),
-        (Kind::Sorted, _) => Ok(run_sorted(rt, alloc, &settings.plan, instant)?),
+    match settings.container {
+        Kind::Queue => match settings.domain {
+            Domain::Plain => run_queue::<R, PlainDomain<Fifo>>(rt, alloc, settings, instant),
+            Domain::Reclaiming => run_queue::<R, OrcDomain<Fifo>>(rt, alloc, settings, instant),
+        },
+        Kind::List | Kind::Set => match settings.domain {
+            Domain::Plain => run_set::<R, PlainDomain<Chain>>(rt, alloc, settings, instant),
+            Domain::Reclaiming => run_set::<R, OrcDomain<Chain>>(rt, alloc, settings, instant),
+        },
+        Kind::Split => match settings.domain {
+            Domain::Plain => run_split::<R, PlainDomain<Split>>(rt, alloc, settings, instant),
+            Domain::Reclaiming => run_split::<R, OrcDomain<Split>>(rt, alloc, settings, instant),
+        },
+        Kind::Cell => match settings.domain {
+            Domain::Plain => run_cell::<R, PlainDomain<Pairs>>(rt, alloc, settings, instant),
+            Domain::Reclaiming => run_cell::<R, OrcDomain<Pairs>>(rt, alloc, settings, instant),
+        },
+        Kind::Sorted => Ok(run_sorted(rt, alloc, &settings.plan, instant)?),
     }
 }
