@@ -1,14 +1,15 @@
 //! Laps: so many posts on threads, and then the takes of all jobs.
 
-ghost use Rattle.std.specs.Prelude.{◌≤◌, All};
+ghost use Rattle.std.specs.Prelude.{◌≡◌, ◌+◌, ◌≤◌, All, length};
 ghost use Rattle.orc_jobs.specs.GoodLines.{AreGood};
+ghost use Rattle.workers_bench.specs.Usable.{IsNewQueue, IsNewSet};
 
 use crate::bare::{next_passes, post_on_threads, take_bare};
 use orc_board::Gate;
 use orc_chain_rule::Chain;
 use orc_containers::{Domain, new_queue, new_set};
 use orc_fifo_rule::Fifo;
-use orc_history::{SharedQueue, SharedSet};
+use orc_history::{LearnQueue, LearnSet, SharedQueue, SharedSet};
 use orc_jobs::Lines;
 use orc_workers::{fresh_desks, run_at_desks};
 use std::alloc::Global;
@@ -54,6 +55,62 @@ fn micros_since(clock: &impl Clock, start: Instant) -> u64 {
     }
 }
 
+// A lap by workers of the board with new queues and a new set, which have one pass for each agent, or none where memory is refused.
+fn lap_at_new<R: Threads + Wait + Clock + Sync, Q: LearnQueue + Sync, S: LearnSet + Sync>(
+    rt: &R,
+    alloc: Global,
+    lines: &Lines,
+    posters: u32,
+    takers: u32,
+    queue: &Q,
+    rush: &Q,
+    set: &S,
+    queue_passes: Vec<Q::Pass>,
+    rush_passes: Vec<Q::Pass>,
+    set_passes: Vec<S::Pass>,
+) -> io::Result<Option<Lap>>
+where
+    Q::Pass: Send,
+    S::Pass: Send,
+    requires good { AreGood lines.now }
+    requires posters { 1 ≤ posters }
+    requires queue { IsNewQueue Q.SharedQueue queue.now queue_passes.items }
+    requires rush { IsNewQueue Q.SharedQueue rush.now rush_passes.items }
+    requires set { IsNewSet S.SharedSet set.now set_passes.items }
+    requires agents { (Q.agents queue.now ≡ 1 + (posters + takers)) × (Q.agents rush.now ≡ 1 + (posters + takers))
+        × (S.agents set.now ≡ 1 + (posters + takers)) }
+    requires passes { (length queue_passes.items ≡ 1 + (posters + takers)) × (length rush_passes.items ≡ 1 + (posters + takers))
+        × (length set_passes.items ≡ 1 + (posters + takers)) }
+{
+    let Ok(mut desks) = fresh_desks(
+        alloc,
+        queue,
+        rush,
+        set,
+        queue_passes,
+        rush_passes,
+        set_passes,
+    ) else {
+        return Ok(None);
+    };
+    let start = Instant::now(rt)?;
+    let watch = Stopwatch {
+        clock: rt,
+        start,
+        posting: AtomicU64::new(0),
+    };
+    let run = run_at_desks(
+        rt, alloc, lines, posters, takers, queue, rush, set, &mut desks, &watch,
+    );
+    let all = micros_since(rt, start);
+    let posting = watch.posting.load(Ordering::SeqCst);
+    let Ok(replies) = run else {
+        return Ok(None);
+    };
+    let jobs = replies.takes.len() as u64;
+    Ok(Some(Lap { posting, all, jobs }))
+}
+
 // A lap by workers of the board over new domains of these types, or none where memory is refused.
 pub(crate) fn lap_of_workers<
     R: Threads + Wait + Clock + Sync,
@@ -83,61 +140,45 @@ where
     let Ok((set, set_passes)) = new_set::<C>(alloc, ROWS, agents, buckets) else {
         return Ok(None);
     };
-    let Ok(mut desks) = fresh_desks(
+    lap_at_new(
+        rt,
         alloc,
+        lines,
+        posters,
+        takers,
         &queue,
         &rush,
         &set,
         queue_passes,
         rush_passes,
         set_passes,
-    ) else {
-        return Ok(None);
-    };
-    let start = Instant::now(rt)?;
-    let watch = Stopwatch {
-        clock: rt,
-        start,
-        posting: AtomicU64::new(0),
-    };
-    let run = run_at_desks(
-        rt, alloc, lines, posters, takers, &queue, &rush, &set, &mut desks, &watch,
-    );
-    let all = micros_since(rt, start);
-    let posting = watch.posting.load(Ordering::SeqCst);
-    let Ok(replies) = run else {
-        return Ok(None);
-    };
-    let jobs = replies.takes.len() as u64;
-    Ok(Some(Lap { posting, all, jobs }))
+    )
 }
 
 // A lap by bare calls on so many threads, or none where there is no pass.
-pub(crate) fn lap_of_calls<
-    R: Threads + Clock + Sync,
-    Q: SharedQueue + Drop + Sync,
-    S: SharedSet + Drop + Sync,
->(
+pub(crate) fn lap_of_calls<R: Threads + Clock + Sync, Q: SharedQueue + Sync, S: SharedSet + Sync>(
     rt: &R,
     posts: u32,
     threads: u32,
-    made: (Q, S, Vec<Q::Pass>, Vec<S::Pass>),
+    queue: &Q,
+    set: &S,
+    mut queue_passes: Vec<Q::Pass>,
+    mut set_passes: Vec<S::Pass>,
 ) -> io::Result<Option<Lap>>
 where
     Q::Pass: Send,
     S::Pass: Send,
     requires threads { 1 ≤ threads }
-    requires queue { All (λ p. Q.usable made.0 p) made.2.items }
-    requires set { All (λ p. S.usable made.1 p) made.3.items }
+    requires queue { All (λ p. Q.usable queue.now p) queue_passes.items }
+    requires set { All (λ p. S.usable set.now p) set_passes.items }
 {
-    let (queue, set, mut queue_passes, mut set_passes) = made;
-    let Some(passes) = next_passes(&queue, &set, &mut queue_passes, &mut set_passes) else {
+    let Some(passes) = next_passes(queue, set, &mut queue_passes, &mut set_passes) else {
         return Ok(None);
     };
     let start = Instant::now(rt)?;
-    post_on_threads(rt, &queue, &set, posts, threads, queue_passes, set_passes);
+    post_on_threads(rt, queue, set, posts, threads, queue_passes, set_passes);
     let posting = micros_since(rt, start);
-    let jobs = take_bare(&queue, &set, passes, posts);
+    let jobs = take_bare(queue, set, passes, posts);
     let all = micros_since(rt, start);
     Ok(Some(Lap { posting, all, jobs }))
 }

@@ -34,7 +34,23 @@ where
     let Ok((set, set_passes)) = new_set::<C>(alloc, ROWS, 1 + threads, buckets) else {
         return Ok(None);
     };
-    lap_of_calls(rt, posts, threads, (queue, set, queue_passes, set_passes))
+    lap_of_calls(rt, posts, threads, &queue, &set, queue_passes, set_passes)
+}
+
+// How many jobs a run over reclaiming domains takes, or none where memory is refused.
+fn jobs_reclaimed<R: Threads + Wait + Sync>(
+    rt: &R,
+    alloc: Global,
+    task: &Task<'_>,
+    buckets: u32,
+) -> Option<u64>
+    requires good { AreGood task.now.lines.now }
+    requires buckets { (1 ≤ buckets) × (buckets ≤ 256) }
+{
+    match run_lines(rt, alloc, task, SetChoice::Lists(buckets), &OpenGate) {
+        Ok(finished) => Some(finished.replies.takes.len() as u64),
+        Err(_) => None,
+    }
 }
 
 // How many jobs a run takes over the domains that the options name, which it makes: reclaiming ones, or ones of these types.
@@ -63,10 +79,7 @@ where
             takers,
             rows: ROWS,
         };
-        match run_lines(rt, alloc, &task, SetChoice::Lists(buckets), &OpenGate) {
-            Ok(finished) => Ok(Some(finished.replies.takes.len() as u64)),
-            Err(_) => Ok(None),
-        }
+        Ok(jobs_reclaimed(rt, alloc, &task, buckets))
     } else {
         let lap = lap_of_workers::<R, F, C>(rt, alloc, lines, buckets, posters, takers)?;
         Ok(lap.map(|lap| lap.jobs))
