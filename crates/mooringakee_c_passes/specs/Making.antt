@@ -42,7 +42,7 @@ AreNewPasses {D} {N} IsNew sizes passes = (domain : OrcDomain D N) × (domain_bo
 
 -- the agent's place at a new queue over this domain, whose calls have so many turns
 abbrev pub IsNewQueueSeat : OrcDomain Fifo FifoNote → ℕ → ℕ → Seat → Type 0
-IsNewQueueSeat domain turns agent (Queue s) = IsNewPlace queue domain turns agent s.container.value.queue.links s × BeginsAtZero domain
+IsNewQueueSeat domain turns agent (Queue s) = IsNewPlace queue domain turns agent s.container.value.queue.links.domain s × BeginsAtZero domain
 IsNewQueueSeat domain turns agent _ = ⊥
 
 -- a pass for each agent, in order, to one new queue
@@ -52,7 +52,7 @@ AreNewQueuePasses rows turns passes =
 
 -- the agent's place at a new set over this domain, whose calls have so many turns
 abbrev pub IsNewSetSeat : OrcDomain Chain ChainNote → ℕ → ℕ → Seat → Type 0
-IsNewSetSeat domain turns agent (Set s) = IsNewPlace set domain turns agent s.container.value.set.list.links s
+IsNewSetSeat domain turns agent (Set s) = IsNewPlace set domain turns agent s.container.value.set.list.links.domain s
 IsNewSetSeat domain turns agent _ = ⊥
 
 -- a pass for each agent, in order, to one new set
@@ -62,7 +62,7 @@ AreNewSetPasses rows buckets turns passes =
 
 -- the agent's place at a new split-ordered set over this domain, whose calls have so many turns
 abbrev pub IsNewSplitSeat : OrcDomain SplitRule SplitNote → ℕ → ℕ → Seat → Type 0
-IsNewSplitSeat domain turns agent (Split s) = IsNewPlace split domain turns agent s.container.value.set.links s
+IsNewSplitSeat domain turns agent (Split s) = IsNewPlace split domain turns agent s.container.value.set.links.domain s
 IsNewSplitSeat domain turns agent _ = ⊥
 
 -- a pass for each agent, in order, to one new split-ordered set

@@ -19,26 +19,26 @@ backlog_at (Split s) = backlog_of s.pass
 
 -- no other agent made a step meanwhile
 abbrev pub WasAlone : Seat → Seat → Type 0
-WasAlone (Queue old) (Queue new) = WasAloneAt old.container.value.queue.links old.pass new.pass
-WasAlone (Set old) (Set new) = WasAloneAt old.container.value.set.list.links old.pass new.pass
-WasAlone (Split old) (Split new) = WasAloneAt old.container.value.set.links old.pass new.pass
+WasAlone (Queue old) (Queue new) = WasAloneAt old.container.value.queue.links.domain old.pass new.pass
+WasAlone (Set old) (Set new) = WasAloneAt old.container.value.set.list.links.domain old.pass new.pass
+WasAlone (Split old) (Split new) = WasAloneAt old.container.value.set.links.domain old.pass new.pass
 WasAlone _ _ = ⊥
 
 -- the container is the same, and the place's agent entered nothing
 abbrev pub StaysWithoutEntry : Seat → Seat → Type 0
 StaysWithoutEntry (Queue old) (Queue new) = (new.container ≡ old.container)
-    × GoesOn (calls_view queue old.container.value.queue.links old.turns old.pass) [] (calls_view queue new.container.value.queue.links new.turns new.pass)
+    × GoesOn (calls_view queue old.container.value.queue.links.domain old.turns old.pass) [] (calls_view queue new.container.value.queue.links.domain new.turns new.pass)
 StaysWithoutEntry (Set old) (Set new) = (new.container ≡ old.container)
-    × GoesOn (calls_view set old.container.value.set.list.links old.turns old.pass) [] (calls_view set new.container.value.set.list.links new.turns new.pass)
+    × GoesOn (calls_view set old.container.value.set.list.links.domain old.turns old.pass) [] (calls_view set new.container.value.set.list.links.domain new.turns new.pass)
 StaysWithoutEntry (Split old) (Split new) = (new.container ≡ old.container)
-    × GoesOn (calls_view split old.container.value.set.links old.turns old.pass) [] (calls_view split new.container.value.set.links new.turns new.pass)
+    × GoesOn (calls_view split old.container.value.set.links.domain old.turns old.pass) [] (calls_view split new.container.value.set.links.domain new.turns new.pass)
 StaysWithoutEntry _ _ = ⊥
 
 -- the place's agent took in what was handed over to it
 abbrev pub TookIn : Seat → Seat → Type 0
-TookIn (Queue old) (Queue new) = TookInAt old.container.value.queue.links old.pass new.pass
-TookIn (Set old) (Set new) = TookInAt old.container.value.set.list.links old.pass new.pass
-TookIn (Split old) (Split new) = TookInAt old.container.value.set.links old.pass new.pass
+TookIn (Queue old) (Queue new) = TookInAt old.container.value.queue.links.domain old.pass new.pass
+TookIn (Set old) (Set new) = TookInAt old.container.value.set.list.links.domain old.pass new.pass
+TookIn (Split old) (Split new) = TookInAt old.container.value.set.links.domain old.pass new.pass
 TookIn _ _ = ⊥
 
 -- what was handed over was taken in, and nothing is left, or some rows, which is so only where other agents made steps meanwhile
@@ -58,6 +58,6 @@ GivesPassUp _ _ _ = ⊥
 
 -- the container came to rest, and these are the counts of its rows
 abbrev pub TellsCounts : Seat → RowCounts → Type 0
-TellsCounts (Queue s) counts = TellsRows s.container.value.queue.links s.places.value counts
-TellsCounts (Set s) counts = TellsRows s.container.value.set.list.links s.places.value counts
-TellsCounts (Split s) counts = TellsRows s.container.value.set.links s.places.value counts
+TellsCounts (Queue s) counts = TellsRows s.container.value.queue.links.domain s.places.value counts
+TellsCounts (Set s) counts = TellsRows s.container.value.set.list.links.domain s.places.value counts
+TellsCounts (Split s) counts = TellsRows s.container.value.set.links.domain s.places.value counts

@@ -12,10 +12,13 @@ mod pass;
 mod place;
 mod pointer;
 mod queue;
+mod queue_domain;
 mod seat;
 mod seating;
 mod set_calls;
+mod set_domain;
 mod split;
+mod split_domain;
 
 pub use answer::Answer;
 pub use make::{are_free, hand_out, shape_of, split_shape_of};

@@ -10,6 +10,7 @@ ghost use Rattle.mooringakee_c_passes.specs.{Making.{IsNewQueueSeat}, declared.s
 use crate::ending::Places;
 use crate::on_domain::ReclaimingQueue;
 use crate::queue::QueuePlace;
+use crate::queue_domain::QueueDomain;
 use crate::seat::Seat;
 use crate::seating::{HasSeats, new_domain, seat_all};
 use orc_domain::OrcPass;
@@ -42,6 +43,6 @@ pub fn queue_seats(alloc: Global, shape: &Shape, turns: u64) -> Result<Vec<Box<S
         begin: FifoNote::Begin,
     };
     let (domain, passes, places) = new_domain(alloc, shape, seed)?;
-    let queue = Queue::new(domain);
+    let queue = Queue::new(QueueDomain { domain });
     seat_all(alloc, ReclaimingQueue { queue }, places, passes, turns)
 }

@@ -12,6 +12,7 @@ use crate::on_domain::ReclaimingSet;
 use crate::place::AgentPlaceOn;
 use crate::seat::Seat;
 use crate::seating::{HasSeats, new_domain, seat_all};
+use crate::set_domain::SetDomain;
 use orc_chain_rule::Chain;
 use orc_domain::OrcPass;
 use orc_fault::NoMemory;
@@ -48,6 +49,6 @@ pub fn set_seats(alloc: Global, shape: &Shape, turns: u64) -> Result<Vec<Box<Sea
         × EachAt (λ agent b. IsNewSetSeat domain turns agent b.value) seats.items) }
 {
     let (domain, passes, places) = new_domain(alloc, shape, Seed::Empty)?;
-    let set = set_of_lists(domain, shape.roots());
+    let set = set_of_lists(SetDomain { domain }, shape.roots());
     seat_all(alloc, ReclaimingSet { set }, places, passes, turns)
 }

@@ -12,6 +12,7 @@ use crate::on_domain::ReclaimingSplit;
 use crate::seat::Seat;
 use crate::seating::{HasSeats, new_domain, seat_all};
 use crate::split::SplitSetPlace;
+use crate::split_domain::SplitDomain;
 use orc_domain::OrcPass;
 use orc_fault::NoMemory;
 use orc_heap::Seed;
@@ -44,6 +45,6 @@ pub fn split_seats(
         × EachAt (λ agent b. IsNewSplitSeat domain turns agent b.value) seats.items) }
 {
     let (domain, passes, places) = new_domain(alloc, shape, Seed::Empty)?;
-    let set = SplitSet::new(domain, buckets);
+    let set = SplitSet::new(SplitDomain { domain }, buckets);
     seat_all(alloc, ReclaimingSplit { set }, places, passes, turns)
 }

@@ -2,6 +2,9 @@
 
 ghost use Rattle.std.specs.Prelude.{◌≡◌};
 
+use crate::queue_domain::QueueDomain;
+use crate::set_domain::SetDomain;
+use crate::split_domain::SplitDomain;
 use orc_chain_rule::Chain;
 use orc_domain::OrcDomain;
 use orc_fifo_rule::Fifo;
@@ -24,41 +27,41 @@ pub trait OnDomain<L> {
 /// proofs of what has it small.
 #[derive(Drop)]
 pub struct ReclaimingQueue {
-    pub(crate) queue: Queue<OrcDomain<Fifo>>,
+    pub(crate) queue: Queue<QueueDomain>,
 }
 
 /// The bucketed set over a domain whose rows are reclaimed.
 #[derive(Drop)]
 pub struct ReclaimingSet {
-    pub(crate) set: Set<OrcDomain<Chain>>,
+    pub(crate) set: Set<SetDomain>,
 }
 
 /// The split-ordered set over a domain whose rows are reclaimed.
 #[derive(Drop)]
 pub struct ReclaimingSplit {
-    pub(crate) set: SplitSet<OrcDomain<Split>>,
+    pub(crate) set: SplitSet<SplitDomain>,
 }
 
 impl OnDomain<OrcDomain<Fifo>> for ReclaimingQueue {
-    ghost domain_of = { λ c. c.queue.links };
+    ghost domain_of = { λ c. c.queue.links.domain };
 
     fn domain(&self) -> &OrcDomain<Fifo> {
-        self.queue.links()
+        &self.queue.links().domain
     }
 }
 
 impl OnDomain<OrcDomain<Chain>> for ReclaimingSet {
-    ghost domain_of = { λ c. c.set.list.links };
+    ghost domain_of = { λ c. c.set.list.links.domain };
 
     fn domain(&self) -> &OrcDomain<Chain> {
-        self.set.links()
+        &self.set.links().domain
     }
 }
 
 impl OnDomain<OrcDomain<Split>> for ReclaimingSplit {
-    ghost domain_of = { λ c. c.set.links };
+    ghost domain_of = { λ c. c.set.links.domain };
 
     fn domain(&self) -> &OrcDomain<Split> {
-        self.set.links()
+        &self.set.links().domain
     }
 }

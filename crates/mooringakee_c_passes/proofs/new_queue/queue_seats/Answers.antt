@@ -51,7 +51,7 @@ returns-clause-places c =
     (λ seats many each. (
       domain,
       made.bounds,
-      new_seats queue queue_is (λ q. q.queue.links) domain c.new-queue.ensures c.in_ok-domain.places c.args.turns (λ place. Queue place)
+      new_seats queue queue_is (λ q. q.queue.links.domain) domain (λ j. (c.new-queue.ensures j).domain) c.in_ok-domain.places c.args.turns (λ place. Queue place)
           (λ agent seat. IsNewQueueSeat domain c.args.turns agent seat) c.in_ok-domain.passes.items seats.items many made.usable made.agents
           (λ k p low. ap entries_of (made.seen k p low)) _ each (λ place s is. is) (λ agent place new. (new, zero)),
     ))

@@ -33,7 +33,7 @@ returns-clause-places c =
     (λ seats many each. (
       domain,
       made.bounds,
-      new_seats set set_is (λ s. s.set.list.links) domain c.set_of_lists-set.ensures c.in_ok-domain.places c.args.turns (λ place. Set place)
+      new_seats set set_is (λ s. s.set.list.links.domain) domain (λ j. (c.set_of_lists-set.ensures j).domain) c.in_ok-domain.places c.args.turns (λ place. Set place)
           (λ agent seat. IsNewSetSeat domain c.args.turns agent seat) c.in_ok-domain.passes.items seats.items many made.usable made.agents
           (λ k p low. ap entries_of (made.seen k p low)) _ each (λ place s is. is) (λ agent place new. new),
     ))

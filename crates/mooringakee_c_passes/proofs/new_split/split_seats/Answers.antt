@@ -30,7 +30,7 @@ returns-clause-places c =
     (λ seats many each. (
       domain,
       made.bounds,
-      new_seats split set_is (λ s. s.set.links) domain c.new-set.ensures c.in_ok-domain.places c.args.turns (λ place. Split place)
+      new_seats split set_is (λ s. s.set.links.domain) domain (λ j. (c.new-set.ensures j).domain) c.in_ok-domain.places c.args.turns (λ place. Split place)
           (λ agent seat. IsNewSplitSeat domain c.args.turns agent seat) c.in_ok-domain.passes.items seats.items many made.usable made.agents
           (λ k p low. ap entries_of (made.seen k p low)) _ each (λ place s is. is) (λ agent place new. new),
     ))

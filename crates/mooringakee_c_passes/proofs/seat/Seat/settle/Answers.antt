@@ -19,7 +19,7 @@ returns-in-Queue-clause-answer c =
     let can = subst (λ (s : Seat). IsSeat s) c.in-Queue.is c.requires in
     let belongs = c.settle.ensures.place.belongs in
     subst (λ (s : Seat). SettlesPass s c.settle.result (Queue new)) (sym c.in-Queue.is)
-    (settled queue own_of_fifo old new (λ q. q.queue.links) (legal_queue old.container.value.queue.links new.pass old.container.value.queue.made can.1 belongs) belongs
+    (settled queue own_of_fifo old new (λ q. q.queue.links.domain) (legal_queue old.container.value.queue.links.domain new.pass old.container.value.queue.made can.1 belongs) belongs
     c.settle.result c.settle.ensures.answer)
 
 pub returns-in-Set-clause-answer : goal.returns-in-Set-clause-answer
@@ -28,7 +28,7 @@ returns-in-Set-clause-answer c =
     let new = c.settle-in-Set.new.self in
     let belongs = c.settle-in-Set.ensures.place.belongs in
     subst (λ (s : Seat). SettlesPass s c.settle-in-Set.result (Set new)) (sym c.in-Set.is)
-    (settled set own_of_chain old new (λ s. s.set.list.links) (legal_set old.container.value.set.list.links new.pass belongs) belongs
+    (settled set own_of_chain old new (λ s. s.set.list.links.domain) (legal_set old.container.value.set.list.links.domain new.pass belongs) belongs
     c.settle-in-Set.result c.settle-in-Set.ensures.answer)
 
 pub returns-in-Split-clause-answer : goal.returns-in-Split-clause-answer
@@ -37,5 +37,5 @@ returns-in-Split-clause-answer c =
     let new = c.settle-in-Split.new.self in
     let belongs = c.settle-in-Split.ensures.place.belongs in
     subst (λ (s : Seat). SettlesPass s c.settle-in-Split.result (Split new)) (sym c.in-Split.is)
-    (settled split own_of_split old new (λ s. s.set.links) (legal_split old.container.value.set.links new.pass belongs) belongs
+    (settled split own_of_split old new (λ s. s.set.links.domain) (legal_split old.container.value.set.links.domain new.pass belongs) belongs
     c.settle-in-Split.result c.settle-in-Split.ensures.answer)
