@@ -41,6 +41,12 @@ pub(super) fn steps(state: &mut State, agent: u32, ops: &[Op]) -> Result<(), Not
     Ok(())
 }
 
+// Agents 0 and 1 enroll.
+pub(super) fn enroll_both(state: &mut State) -> Result<(), NotAllowed> {
+    steps(state, 0, &[Op::Enroll])?;
+    steps(state, 1, &[Op::Enroll])
+}
+
 // An agent's looks at the slots of these scan places.
 pub(super) fn look_at_slots(
     state: &mut State,

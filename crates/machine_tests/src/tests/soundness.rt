@@ -1,6 +1,8 @@
 //! Links, holds, tokens and backlogs of states that traces reach, with numbers counted by hand.
 
-use super::playing::{hold, let_go, link, look_at_slots, scan_and_free, start, steps, unlink};
+use super::playing::{
+    enroll_both, hold, let_go, link, look_at_slots, scan_and_free, start, steps, unlink,
+};
 use orc_core::{NotAllowed, Op, State};
 use orc_sound::*;
 use orc_words::Shape;
@@ -23,12 +25,18 @@ fn take_in(state: &mut State, slot: u32) -> Result<(), NotAllowed> {
     steps(state, 1, &[Op::Clear { slot }, Op::TakeIn { slot }])
 }
 
+// Agent 0 links this row, which agent 1 holds in this slot, and unlinks it.
+fn link_hold_and_unlink(state: &mut State, row: u32, slot: u32) -> Result<(), NotAllowed> {
+    link(state, row)?;
+    hold(state, row, slot)?;
+    unlink(state, row)
+}
+
 // A new state of two agents, both enrolled.
 fn enrolled(rt: &impl Abort, alloc: Global, rows: u32, roots: u32) -> Result<State, Fail> {
     let shape = Shape::new(rows, roots, 2, 8)?;
     let mut state = State::new(alloc, &shape)?;
-    steps(&mut state, 0, &[Op::Enroll])?;
-    steps(&mut state, 1, &[Op::Enroll])?;
+    enroll_both(&mut state)?;
     assert_eq!(rt; backlog_of(&state), 0);
     Ok(state)
 }
@@ -77,9 +85,7 @@ fn a_row_is_linked_retired_handed_over_and_freed(rt: HostRuntime) -> Result<(), 
 fn a_stopped_agent_keeps_seven_rows_of_a_bound_of_18(rt: HostRuntime) -> Result<(), Fail> {
     let mut state = enrolled(&rt, rt.alloc(), 8, 7)?;
     for row in 0..7 {
-        link(&mut state, row)?;
-        hold(&mut state, row, row + 1)?;
-        unlink(&mut state, row)?;
+        link_hold_and_unlink(&mut state, row, row + 1)?;
         hand_over(&mut state, row, 9 + row)?;
         assert_eq!(rt; backlog_of(&state), row + 1);
     }

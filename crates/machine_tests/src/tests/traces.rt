@@ -8,16 +8,10 @@ use std::test::Fail;
 
 mod examples;
 
-// Row 0 is linked from root 0 by agent 0: 9 steps.
-const LINKED: &str =
-    "shape 2 1 2 8\n0 enroll\n1 enroll\n0 look 0\n0 count 0\n0 take 0\n0 publish 1 0\n0 count 0\n0 cas r0 - 0\n0 inc 0\n";
-
-// Agent 1 holds it, and agent 0 unlinks and retires it: 7 steps.
-const RETIRED: &str =
-    "1 load r0\n1 publish 2 0\n1 load r0 2\n0 cas r0 0 -\n0 arm 0\n0 dec 0\n0 set 0 2\n";
-
-// Agent 0 lets it go and begins a scan: 5 steps.
-const SCANNED: &str = "0 clear 0\n0 takein 0\n0 clear 1\n0 takein 1\n0 start 0\n";
+// Row 0 is linked from root 0 by agent 0 (9 steps), held by agent 1, unlinked and retired by agent 0 (7 steps), which lets it
+// go and begins a scan (5 steps).
+const SCANNED: &str =
+    "shape 2 1 2 8\n0 enroll\n1 enroll\n0 look 0\n0 count 0\n0 take 0\n0 publish 1 0\n0 count 0\n0 cas r0 - 0\n0 inc 0\n1 load r0\n1 publish 2 0\n1 load r0 2\n0 cas r0 0 -\n0 arm 0\n0 dec 0\n0 set 0 2\n0 clear 0\n0 takein 0\n0 clear 1\n0 takein 1\n0 start 0\n";
 
 // Agent 1 ends a scan that found nothing, and frees the row: 4 steps.
 const FREED: &str = "1 end 0\n1 store 0 -\n1 unretire 0\n1 free 0\n";
@@ -82,16 +76,26 @@ fn push_slots(text: &mut String, agent: u32, from: u32, end: u32) -> Result<(), 
     Ok(())
 }
 
+// The scan finds row 0 held, and these lines follow: 32 steps and these.
+fn found_held(alloc: Global, after: &str) -> Result<String, AllocError> {
+    let mut text = String::from_str(alloc, SCANNED)?;
+    push_slots(&mut text, 0, 0, 11)?;
+    text.push_str(after)?;
+    Ok(text)
+}
+
+// Agent 1 scans all slots for row 0 and frees it: 21 steps.
+fn push_freed(text: &mut String) -> Result<(), AllocError> {
+    text.push_str("1 start 0\n")?;
+    push_slots(text, 1, 0, 16)?;
+    text.push_str(FREED)
+}
+
 #[test]
 fn a_row_is_handed_over_taken_in_and_freed(rt: HostRuntime) -> Result<(), Fail> {
     let alloc = rt.alloc();
-    let mut text = String::from_str(alloc, LINKED)?;
-    text.push_str(RETIRED)?;
-    text.push_str(SCANNED)?;
-    push_slots(&mut text, 0, 0, 11)?;
-    text.push_str("0 hand 10\n1 clear 2\n1 takein 2\n1 start 0\n")?;
-    push_slots(&mut text, 1, 0, 16)?;
-    text.push_str(FREED)?;
+    let mut text = found_held(alloc, "0 hand 10\n1 clear 2\n1 takein 2\n")?;
+    push_freed(&mut text)?;
     check(
         &rt,
         alloc,
@@ -109,20 +113,15 @@ fn a_row_is_handed_over_taken_in_and_freed(rt: HostRuntime) -> Result<(), Fail> 
 #[test]
 fn a_row_is_handed_over_after_the_clear(rt: HostRuntime) -> Result<(), Fail> {
     let alloc = rt.alloc();
-    let mut text = String::from_str(alloc, LINKED)?;
-    text.push_str(RETIRED)?;
-    text.push_str(SCANNED)?;
-    push_slots(&mut text, 0, 0, 11)?;
-    text.push_str("1 clear 2\n1 takein 2\n0 hand 10\n")?;
+    let mut text = found_held(alloc, "1 clear 2\n1 takein 2\n0 hand 10\n")?;
     check(
         &rt,
         alloc,
         text.as_str(),
         "steps 35 out 1 retired 1 handed 1 listed 0 linked 0\n",
     )?;
-    text.push_str("1 takein 2\n1 start 0\n")?;
-    push_slots(&mut text, 1, 0, 16)?;
-    text.push_str(FREED)?;
+    text.push_str("1 takein 2\n")?;
+    push_freed(&mut text)?;
     check(
         &rt,
         alloc,
@@ -151,28 +150,40 @@ fn a_hold_behind_the_scan_is_not_freed(rt: HostRuntime) -> Result<(), Fail> {
     )
 }
 
-// Agent 0 links and unlinks seven rows that agent 1 holds, and hands each over to it.
+// Agent 0 links and unlinks a row that agent 1 holds, and hands it over to it. Each piece of the lines stands before the number
+// of the row or of the slot.
 fn push_handed(text: &mut String, row: u32) -> Result<(), AllocError> {
-    let slot = u64::from(row) + 1;
-    writeln!(
-        text,
-        "0 look {row}\n0 count {row}\n0 take {row}\n0 publish 1 {row}"
-    )?;
-    writeln!(text, "0 count {row}\n0 cas r{row} - {row}\n0 inc {row}")?;
-    writeln!(
-        text,
-        "1 load r{row}\n1 publish {slot} {row}\n1 load r{row} {slot}"
-    )?;
-    writeln!(
-        text,
-        "0 cas r{row} {row} -\n0 arm {row}\n0 dec {row}\n0 set {row} 2"
-    )?;
-    writeln!(
-        text,
-        "0 clear 0\n0 takein 0\n0 clear 1\n0 takein 1\n0 start {row}"
-    )?;
+    let number = u64::from(row);
+    let slot = number + 1;
+    for (before, name) in [
+        ("0 look ", number),
+        ("\n0 count ", number),
+        ("\n0 take ", number),
+        ("\n0 publish 1 ", number),
+        ("\n0 count ", number),
+        ("\n0 cas r", number),
+        (" - ", number),
+        ("\n0 inc ", number),
+        ("\n1 load r", number),
+        ("\n1 publish ", slot),
+        (" ", number),
+        ("\n1 load r", number),
+        (" ", slot),
+        ("\n0 cas r", number),
+        (" ", number),
+        (" -\n0 arm ", number),
+        ("\n0 dec ", number),
+        ("\n0 set ", number),
+        (
+            " 2\n0 clear 0\n0 takein 0\n0 clear 1\n0 takein 1\n0 start ",
+            number,
+        ),
+    ] {
+        write!(text, "{before}{name}")?;
+    }
+    text.push_str("\n")?;
     push_slots(text, 0, 0, row.saturating_add(10))?;
-    let found = u64::from(row) + 9;
+    let found = number + 9;
     writeln!(text, "0 hand {found}")
 }
 

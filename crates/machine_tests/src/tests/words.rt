@@ -113,7 +113,7 @@ fn bounds_of_a_shape(rt: HostRuntime) {
 }
 
 #[test]
-fn packed_words_are_read_back(rt: HostRuntime) {
+fn a_link_is_read_back(rt: HostRuntime) {
     let link = RowLink {
         to: Some(65_534),
         mark: true,
@@ -121,6 +121,11 @@ fn packed_words_are_read_back(rt: HostRuntime) {
     assert_eq!(rt; pack_link(link), 131_071);
     assert_eq!(rt; read_link(131_071), Some(link));
     assert_eq!(rt; read_link(131_072), None);
+    assert_eq!(rt; named(4), Some(3));
+}
+
+#[test]
+fn a_counter_is_read_back(rt: HostRuntime) {
     let counter = Counter {
         count: -1,
         retired: true,
@@ -128,10 +133,13 @@ fn packed_words_are_read_back(rt: HostRuntime) {
     };
     assert_eq!(rt; pack_counter(counter), 46_137_343);
     assert_eq!(rt; read_counter(46_137_343), counter);
+}
+
+#[test]
+fn a_gate_is_read_back(rt: HostRuntime) {
     let gate = RowGate { life: 2, out: true };
     assert_eq!(rt; pack_gate(gate), 5);
     assert_eq!(rt; read_gate(5), gate);
-    assert_eq!(rt; named(4), Some(3));
 }
 
 #[test]
@@ -151,6 +159,12 @@ fn places_of_a_small_table(rt: HostRuntime) -> Result<(), Fail> {
         assert_eq!(rt; place_in_small(&shape, word), want);
     }
     different_words_have_different_places();
+    Ok(())
+}
+
+#[test]
+fn words_of_a_new_small_table(rt: HostRuntime) -> Result<(), Fail> {
+    let shape = Shape::new(2, 1, 2, 8)?;
     assert_eq!(rt; shape.words(), 44);
     let words = new_words(rt.alloc(), &shape)?;
     assert_eq!(rt; words.len(), 44);

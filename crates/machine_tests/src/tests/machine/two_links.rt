@@ -3,16 +3,12 @@
 use super::*;
 use crate::tests::playing::{check, link_to};
 
-// Both links of row 1 are to row 0, which root 0 links too. When row 1 is to be freed its links are taken out one after the
-// other, and its bit isn't cleared after the first.
-#[test]
-fn a_row_with_two_links(rt: HostRuntime) -> Result<(), Fail> {
-    let shape = Shape::with_links(2, 1, 1, 8, 2)?;
-    let mut state = State::new(rt.alloc(), &shape)?;
-    let _ = step(&mut state, 0, Op::Enroll)?;
-    link(&mut state, 0)?;
+// Row 0 is linked from root 0, and from both links of row 1.
+fn link_row_0_thrice(state: &mut State) -> Result<(), NotAllowed> {
+    let _ = step(state, 0, Op::Enroll)?;
+    link(state, 0)?;
     steps(
-        &mut state,
+        state,
         0,
         &[
             Op::GateLook { row: 1 },
@@ -34,16 +30,13 @@ fn a_row_with_two_links(rt: HostRuntime) -> Result<(), Fail> {
             },
             Op::Inc { row: 0 },
         ],
-    )?;
-    let two_out = Census {
-        out: 2,
-        linked: 1,
-        ..NONE_OUT
-    };
-    assert_eq!(rt; census(&state), two_out);
-    assert_eq!(rt; words_of_row_0(&state), (3, 54_525_955, 2));
+    )
+}
+
+// Row 1 is retired and scanned, and its first link is taken out.
+fn take_out_the_first(state: &mut State) -> Result<(), NotAllowed> {
     steps(
-        &mut state,
+        state,
         0,
         &[
             Op::SetRetired {
@@ -58,9 +51,9 @@ fn a_row_with_two_links(rt: HostRuntime) -> Result<(), Fail> {
             },
         ],
     )?;
-    look_at_slots(&mut state, 0, 0, 8)?;
+    look_at_slots(state, 0, 0, 8)?;
     steps(
-        &mut state,
+        state,
         0,
         &[
             Op::CounterLoad {
@@ -76,13 +69,13 @@ fn a_row_with_two_links(rt: HostRuntime) -> Result<(), Fail> {
             Op::Dec { row: 0 },
             Op::Clear { slot: 0 },
         ],
-    )?;
-    assert_eq!(rt;
-        step(&mut state, 0, Op::Unretire { row: 1 }).err(),
-        Some(NotAllowed)
-    );
+    )
+}
+
+// Its second link is taken out, and it is freed.
+fn take_out_the_second(state: &mut State) -> Result<(), NotAllowed> {
     steps(
-        &mut state,
+        state,
         0,
         &[
             Op::LinkStore {
@@ -96,7 +89,28 @@ fn a_row_with_two_links(rt: HostRuntime) -> Result<(), Fail> {
             Op::Unretire { row: 1 },
             Op::Free { row: 1 },
         ],
-    )?;
+    )
+}
+
+// When a row with two links is to be freed these are taken out one after the other, and its bit isn't cleared after the first.
+#[test]
+fn a_row_with_two_links(rt: HostRuntime) -> Result<(), Fail> {
+    let shape = Shape::with_links(2, 1, 1, 8, 2)?;
+    let mut state = State::new(rt.alloc(), &shape)?;
+    link_row_0_thrice(&mut state)?;
+    let two_out = Census {
+        out: 2,
+        linked: 1,
+        ..NONE_OUT
+    };
+    assert_eq!(rt; census(&state), two_out);
+    assert_eq!(rt; words_of_row_0(&state), (3, 54_525_955, 2));
+    take_out_the_first(&mut state)?;
+    assert_eq!(rt;
+        step(&mut state, 0, Op::Unretire { row: 1 }).err(),
+        Some(NotAllowed)
+    );
+    take_out_the_second(&mut state)?;
     let one_out = Census {
         out: 1,
         linked: 1,
