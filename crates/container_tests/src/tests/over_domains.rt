@@ -3,10 +3,9 @@
 
 mod domain_threads;
 mod gates;
+mod given_once;
 mod list_calls;
 mod meeting;
 mod queue_calls;
 mod set_calls;
-mod split_calls;
 mod watched;
-mod watched_runs;

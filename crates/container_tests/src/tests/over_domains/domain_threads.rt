@@ -11,12 +11,14 @@ use orc_heap::{Links, Seed};
 use orc_plain_domain::{PlainDomain, PlainPass};
 use orc_words::Shape;
 use std::alloc::Global;
-use std::test::Fail;
 use std::thread::{Threads, join_mut};
 
 type Domain = PlainDomain<OwnRoots>;
 
 type Pass = PlainPass<OwnRoots>;
+
+// Both values that an agent put on its stack, the upper one first.
+type Read = Result<(u64, u64), PushRefused>;
 
 // Makes a domain in which each agent has a root, which is null.
 fn with_roots(alloc: Global, shape: &Shape) -> Result<(Domain, Vec<Pass>), NoMemory>
@@ -40,12 +42,7 @@ fn next_pass(domain: &Domain, passes: &mut Vec<Pass>) -> Option<Pass>
 }
 
 // Lets an agent put two values on its stack, and read them there.
-fn through_own_stack(
-    domain: &Domain,
-    p: &mut Pass,
-    lower: u64,
-    upper: u64,
-) -> Result<(u64, u64), PushRefused>
+fn through_own_stack(domain: &Domain, p: &mut Pass, lower: u64, upper: u64) -> Read
     requires pass { IsPassOf domain.now p.old }
     requires ready { HasEmptyRoot (domain_numbers domain.now) (seat_of domain.now p.old) }
     ensures pass { IsPassOf domain.now p.new }
@@ -60,10 +57,7 @@ fn on_two_threads<R: Threads + Sync>(
     domain: &Domain,
     one: &mut Pass,
     two: &mut Pass,
-) -> (
-    Result<(u64, u64), PushRefused>,
-    Result<(u64, u64), PushRefused>,
-)
+) -> (Read, Read)
     requires pass { IsPassOf domain.now one.old × IsPassOf domain.now two.old }
     requires ready { HasEmptyRoot (domain_numbers domain.now) (seat_of domain.now one.old) × HasEmptyRoot (domain_numbers domain.now) (seat_of domain.now two.old) }
 {
@@ -74,20 +68,25 @@ fn on_two_threads<R: Threads + Sync>(
     )
 }
 
+// Which agents a new domain has, and what each read on its own stack.
+fn two_share_the_rows<R: Threads + Sync>(
+    rt: &R,
+    alloc: Global,
+) -> Option<((u32, u32), (Read, Read))> {
+    let Ok(shape) = Shape::new(4, 2, 2, 8) else {
+        return None;
+    };
+    let Ok((domain, mut passes)) = with_roots(alloc, &shape) else {
+        return None;
+    };
+    let mut second = next_pass(&domain, &mut passes)?;
+    let mut first = next_pass(&domain, &mut passes)?;
+    let agents = (domain.agent(&first), domain.agent(&second));
+    Some((agents, on_two_threads(rt, &domain, &mut first, &mut second)))
+}
+
 #[test]
-fn two_threads_share_the_rows(rt: HostRuntime) -> Result<(), Fail> {
-    let shape = Shape::new(4, 2, 2, 8)?;
-    let Ok((domain, mut passes)) = with_roots(rt.alloc(), &shape) else {
-        panic!(rt; "memory")
-    };
-    let Some(mut second) = next_pass(&domain, &mut passes) else {
-        panic!(rt; "two passes")
-    };
-    let Some(mut first) = next_pass(&domain, &mut passes) else {
-        panic!(rt; "two passes")
-    };
-    assert_eq!(rt; (domain.agent(&first), domain.agent(&second)), (0, 1));
-    let both = on_two_threads(&rt, &domain, &mut first, &mut second);
-    assert_eq!(rt; both, (Ok((2, 1)), Ok((4, 3))));
-    Ok(())
+fn two_threads_share_the_rows(rt: HostRuntime) {
+    let told = two_share_the_rows(&rt, rt.alloc());
+    assert_eq!(rt; told, Some(((0, 1), (Ok((2, 1)), Ok((4, 3))))));
 }

@@ -50,14 +50,9 @@ impl Counts {
 }
 
 // Counts the calls of a container as they begin.
-#[derive(Drop)]
-struct Counting<'a> {
-    begun: &'a Counts,
-}
-
-impl Watch for Counting<'_> {
+impl Watch for Counts {
     fn before(&self, agent: u32, _call: Call) {
-        let _earlier = self.begun.add(agent);
+        let _earlier = self.add(agent);
     }
 
     fn after(&self, _call: Call) {}
@@ -97,22 +92,34 @@ impl Gate for Judge<'_> {
     }
 }
 
-// How a gate was called: how often wrongly; for each agent, how often, and how many lines or takes it began; and how many takes were
-// replied to.
-#[derive(Clone, Copy, PartialEq, Eq, Drop)]
-pub(super) struct Judged {
-    pub(super) wrong: u64,
-    pub(super) calls: [u64; 4],
-    pub(super) works: [u64; 4],
-    pub(super) takes: usize,
+impl Judge<'_> {
+    // How many of the gate's calls were for this agent; none where it began another number of lines or takes.
+    fn calls_of(&self, agent: u32) -> Option<u64> {
+        let calls = self.calls.of(agent);
+        if calls == self.begun.works_of(agent) {
+            Some(calls)
+        } else {
+            None
+        }
+    }
+
+    // Whether each line of both posters was begun, and a take by both others, and no call was wrong.
+    fn was_called(&self) -> bool {
+        let posters = (self.calls_of(1), self.calls_of(2));
+        let takers = (self.calls_of(0), self.calls_of(3));
+        posters == (Some(4), Some(3))
+            && takers.0.is_some_and(|calls| calls >= 1)
+            && takers.1.is_some_and(|calls| calls >= 1)
+            && self.wrong.load(Ordering::SeqCst) == 0
+    }
 }
 
-// What a gate judges of a run by two posters and one taker.
-pub(super) fn judge_a_run<
+// Whether a gate is called so in a run by two posters and one taker, in which each line is begun and all five posts are taken.
+pub(super) fn judges_a_run<
     R: Threads + Wait + Sync,
     F: Domain<Rule = Fifo> + Sync + Drop,
     C: Domain<Rule = Chain> + Sync + Drop,
->(rt: &R, alloc: Global) -> Result<Judged, Unmade>
+>(rt: &R, alloc: Global) -> Result<bool, Unmade>
 where
     F::Pass: Send,
     C::Pass: Send,
@@ -122,33 +129,21 @@ where
         queue: Counts::new(),
         rush: Counts::new(),
     };
-    let watches = (
-        Counting {
-            begun: &begun.queue,
-        },
-        Counting { begun: &begun.rush },
-        Counting { begun: &begun.set },
-    );
     let gate = Judge {
         begun: &begun,
         calls: Counts::new(),
         wrong: AtomicU64::new(0),
     };
-    let ran = run_watched::<R, F, C, _, _, _>(rt, alloc, SEVEN_RECORDS, 2, 1, watches, &gate)?;
-    Ok(Judged {
-        wrong: gate.wrong.load(Ordering::SeqCst),
-        calls: [
-            gate.calls.of(0),
-            gate.calls.of(1),
-            gate.calls.of(2),
-            gate.calls.of(3),
-        ],
-        works: [
-            begun.works_of(0),
-            begun.works_of(1),
-            begun.works_of(2),
-            begun.works_of(3),
-        ],
-        takes: ran.replies.takes.len(),
-    })
+    let watches = (&begun.queue, &begun.rush, &begun.set);
+    let (_, replies) = run_watched::<R, F, C, _, _, _>(
+        rt,
+        alloc,
+        SEVEN_RECORDS,
+        2,
+        1,
+        watches,
+        &gate,
+    )?;
+    let takes = replies.takes.len();
+    Ok(takes == 5 && gate.was_called())
 }

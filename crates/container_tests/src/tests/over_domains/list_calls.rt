@@ -4,7 +4,6 @@ use orc_chain_rule::Chain;
 use orc_containers::{Domain, Unmade};
 use orc_fault::Again;
 use orc_history::ListRefused;
-use orc_plain_domain::PlainDomain;
 use orc_words::{HIGHEST_LIMIT, Shape};
 use std::alloc::Global;
 use uses::SetCase::{self, Contains, Insert, Remove};
@@ -55,22 +54,16 @@ const WITHOUT_TURNS: [(u64, SetCase); 1] = [(0, Insert(7, Err(ListRefused::Again
 
 // What is answered over a domain that gives each row once: which of the calls of the list is answered otherwise, which of those of
 // 257 buckets, and whether both agents see what both add.
-type GivenOnce = (
+pub(super) type GivenOnce = (
     Result<Option<usize>, Unmade>,
     Result<Option<usize>, Unmade>,
     Result<bool, Unmade>,
 );
 
-fn over_rows_given_once<L: Domain<Rule = Chain> + Drop>(alloc: Global) -> GivenOnce {
+pub(super) fn over_rows_given_once<L: Domain<Rule = Chain> + Drop>(alloc: Global) -> GivenOnce {
     (
         other_answer::<L>(alloc, 5, 1, &CASES),
         other_answer::<L>(alloc, 16, 257, &WITHOUT_TURNS),
         each_sees_the_others::<L>(alloc),
     )
-}
-
-#[test]
-fn both_see_what_both_add_and_calls_are_refused(rt: HostRuntime) {
-    let told = over_rows_given_once::<PlainDomain<Chain>>(rt.alloc());
-    assert_eq!(rt; told, (Ok(None), Ok(None), Ok(true)));
 }

@@ -2,7 +2,7 @@
 //! dequeues of a take.
 
 use super::watched::{Call, Watch, run_watched};
-use orc_board::{OpenGate, PostWord, TakeList, TakeReply, TakeWord};
+use orc_board::{OpenGate, PostWord, Replies, TakeReply, TakeWord};
 use orc_chain_rule::Chain;
 use orc_containers::{Domain, Unmade};
 use orc_fifo_rule::Fifo;
@@ -109,57 +109,43 @@ impl Watch for Unwatched {
     fn after(&self, _call: Call) {}
 }
 
-// How many agents' first calls met, how many desks there are, whether all posts were answered with a position, and the positions of
-// the takes.
-#[derive(Drop)]
-pub(super) struct Met {
-    met: u64,
-    desks: usize,
-    posted: bool,
-    takes: TakeList,
-}
-
-// What comes of the calls of three agents that are held until all have come.
-pub(super) fn met_at_once<
+// What comes of the calls of three agents that are held until all have come: whether all three met, at four desks, both posts were
+// answered with a position, and both takes were of another one.
+pub(super) fn meet_at_once<
     R: Threads + Wait + Sync,
     F: Domain<Rule = Fifo> + Sync + Drop,
     C: Domain<Rule = Chain> + Sync + Drop,
->(rt: &R, alloc: Global) -> Result<Met, Unmade>
+>(rt: &R, alloc: Global) -> Result<bool, Unmade>
 where
     F::Pass: Send,
     C::Pass: Send,
 {
     let file = b"post,0,bytes,x\npost,1,bytes,x\n";
-    let watches = (Meeting::new(false), Meeting::new(true), Unwatched);
-    let ran = run_watched::<R, F, C, _, _, _>(rt, alloc, file, 2, 1, watches, &OpenGate)?;
-    let met = ran.watch.met.load(Ordering::SeqCst);
-    let desks = ran.desks;
-    let replies = ran.replies;
+    let (meeting, rush, set) = (Meeting::new(false), Meeting::new(true), Unwatched);
+    let watches = (&meeting, &rush, &set);
+    let (desks, replies) = run_watched::<R, F, C, _, _, _>(
+        rt, alloc, file, 2, 1, watches, &OpenGate,
+    )?;
+    let met = meeting.met.load(Ordering::SeqCst);
+    Ok(met == 3 && desks == 4 && were_served(&replies))
+}
+
+// Whether all posts were answered with a position, and two takes, each of another one.
+fn were_served(replies: &Replies) -> bool {
     let mut posted = true;
     for reply in replies.posts.items() {
         posted &= matches!(reply.what, PostWord::Posted(_));
     }
-    Ok(Met {
-        met,
-        desks,
-        posted,
-        takes: replies.takes,
-    })
+    let takes = replies.takes.items();
+    posted && takes.len() == 2 && takes.first().map(|t| t.at) != takes.last().map(|t| t.at)
 }
 
-// Whether all three met, at four desks, both posts were answered with a position, and both takes were of another one.
-pub(super) fn all_met(met: &Met) -> bool {
-    let takes = met.takes.items();
-    let others = takes.len() == 2 && takes.first().map(|t| t.at) != takes.last().map(|t| t.at);
-    met.met == 3 && met.desks == 4 && met.posted && others
-}
-
-// What one taker answers, where a rush job comes between the two dequeues of its first take.
+// Whether one taker takes a post and then a rush job, where that comes between the two dequeues of its first take.
 pub(super) fn takes_around_a_rush_job<
     R: Threads + Wait + Sync,
     F: Domain<Rule = Fifo> + Sync + Drop,
     C: Domain<Rule = Chain> + Sync + Drop,
->(rt: &R, alloc: Global) -> Result<TakeList, Unmade>
+>(rt: &R, alloc: Global) -> Result<bool, Unmade>
 where
     F::Pass: Send,
     C::Pass: Send,
@@ -168,25 +154,23 @@ where
         found_empty: AtomicU64::new(0),
         rushed: AtomicU64::new(0),
     };
-    let watches = (
-        Between {
-            is_rush: false,
-            flags: &flags,
-        },
-        Between {
-            is_rush: true,
-            flags: &flags,
-        },
-        Unwatched,
-    );
+    let queue = Between {
+        is_rush: false,
+        flags: &flags,
+    };
+    let rush = Between {
+        is_rush: true,
+        flags: &flags,
+    };
+    let set = Unwatched;
+    let watches = (&queue, &rush, &set);
     let file = b"post,0,bytes,x\nrush,1,bytes,yy\n";
-    let ran = run_watched::<R, F, C, _, _, _>(rt, alloc, file, 1, 1, watches, &OpenGate)?;
-    let replies = ran.replies;
-    Ok(replies.takes)
+    let (_, replies) = run_watched::<R, F, C, _, _, _>(rt, alloc, file, 1, 1, watches, &OpenGate)?;
+    Ok(replies.takes.items() == AROUND.as_slice())
 }
 
-// They are of the post, and then of the rush job.
-pub(super) const AROUND: [TakeReply; 2] = [
+// The takes of the post, and then of the rush job.
+const AROUND: [TakeReply; 2] = [
     TakeReply {
         taker: 1,
         at: 0,

@@ -5,8 +5,7 @@ use orc_domain::OrcDomain;
 use orc_fault::Again;
 use orc_fifo_rule::Fifo;
 use orc_history::QueueRefused;
-use orc_plain_domain::PlainDomain;
-use orc_words::{HIGHEST_LIMIT, Shape, ShapeFault};
+use orc_words::{HIGHEST_LIMIT, Shape};
 use std::alloc::Global;
 use std::test::Fail;
 use std::thread::Threads;
@@ -48,13 +47,13 @@ where
 
 // What is answered over a domain that gives each row once: whether both agents take what both put, which of the calls is answered
 // otherwise, and why a queue isn't made.
-type GivenOnce = (
+pub(super) type GivenOnce = (
     Result<bool, Unmade>,
     Result<Option<usize>, Unmade>,
     Option<Unmade>,
 );
 
-fn over_rows_given_once<R: Threads + Sync, L: Domain<Rule = Fifo> + Sync + Drop>(
+pub(super) fn over_rows_given_once<R: Threads + Sync, L: Domain<Rule = Fifo> + Sync + Drop>(
     rt: &R,
     alloc: Global,
 ) -> GivenOnce
@@ -66,13 +65,6 @@ where
         other_reply::<L>(alloc),
         too_few::<R, L>(rt, alloc),
     )
-}
-
-#[test]
-fn both_take_what_both_put_and_calls_are_refused(rt: HostRuntime) {
-    let told = over_rows_given_once::<_, PlainDomain<Fifo>>(&rt, rt.alloc());
-    let one_row = Unmade::Shape(ShapeFault::Rows(1));
-    assert_eq!(rt; told, (Ok(true), Ok(None), Some(one_row)));
 }
 
 // What is answered over a domain that reclaims its rows, where these have one link and two: whether a lagging tail is helped on, and

@@ -1,6 +1,6 @@
 //! Queues and sets whose calls are watched, and runs over them.
 
-ghost use Rattle.std.specs.Prelude.{◌≤◌, IfOk, length};
+ghost use Rattle.std.specs.Prelude.{◌≡◌, ◌+◌, ◌<◌, ◌≤◌, ℕ, [], All, IfOk, length, slice_index_or};
 ghost use Rattle.orc_jobs.specs.GoodLines.{AreGood};
 
 use orc_board::{Gate, Replies};
@@ -16,7 +16,7 @@ use std::sync::Wait;
 use std::thread::Threads;
 
 // A call of a queue or of a set.
-#[derive(Clone, Copy, PartialEq, Eq, Drop)]
+#[derive(PartialEq, Drop)]
 pub(super) enum Call {
     Put,
     Take,
@@ -34,12 +34,12 @@ pub(super) trait Watch {
 
 // A queue or a set that passes each call on, and is watched.
 #[derive(Drop)]
-pub(super) struct Watched<C, W> {
-    pub(super) inner: C,
-    pub(super) watch: W,
+struct Watched<'a, C, W> {
+    inner: C,
+    watch: &'a W,
 }
 
-impl<Q: SharedQueue, W: Watch> SharedQueue for Watched<Q, W> {
+impl<Q: SharedQueue, W: Watch> SharedQueue for Watched<'_, Q, W> {
     type Pass = Q::Pass;
 
     type Step = Q::Step;
@@ -85,7 +85,7 @@ impl<Q: SharedQueue, W: Watch> SharedQueue for Watched<Q, W> {
     }
 }
 
-impl<Q: LearnQueue, W: Watch> LearnQueue for Watched<Q, W> {
+impl<Q: LearnQueue, W: Watch> LearnQueue for Watched<'_, Q, W> {
     ghost agents = { λ m. Q.agents m.inner };
 
     fn learn(&self, into: &mut Q::Pass, from: &mut Q::Pass) {
@@ -97,7 +97,7 @@ impl<Q: LearnQueue, W: Watch> LearnQueue for Watched<Q, W> {
     ghost crowd_below = { λ m agent h. Q.crowd_below m.inner agent h };
 }
 
-impl<S: SharedSet, W: Watch> SharedSet for Watched<S, W> {
+impl<S: SharedSet, W: Watch> SharedSet for Watched<'_, S, W> {
     type Pass = S::Pass;
 
     type Step = S::Step;
@@ -146,7 +146,7 @@ impl<S: SharedSet, W: Watch> SharedSet for Watched<S, W> {
     }
 }
 
-impl<S: LearnSet, W: Watch> LearnSet for Watched<S, W> {
+impl<S: LearnSet, W: Watch> LearnSet for Watched<'_, S, W> {
     ghost agents = { λ m. S.agents m.inner };
 
     fn learn(&self, into: &mut S::Pass, from: &mut S::Pass) {
@@ -169,22 +169,55 @@ fn lines_of(alloc: Global, text: &[u8]) -> Result<Lines, NoMemory>
     }
 }
 
-// What is left of a run: the watches of the queue and of the set, how many desks there are, and the replies.
-#[derive(Drop)]
-pub(super) struct Ran<W, V> {
-    pub(super) watch: W,
-    pub(super) set_watch: V,
-    pub(super) desks: usize,
-    pub(super) replies: Replies,
+// Runs this file at new desks of these containers. Answers how many desks there are, and the replies.
+fn run_over<R: Threads + Wait + Sync, Q: LearnQueue + Sync, S: LearnSet + Sync, G: Gate + Sync>(
+    rt: &R,
+    alloc: Global,
+    text: &[u8],
+    posters: u32,
+    takers: u32,
+    queue: &Q,
+    rush: &Q,
+    set: &S,
+    passes: (Vec<Q::Pass>, Vec<Q::Pass>, Vec<S::Pass>),
+    gate: &G,
+) -> Result<(usize, Replies), NoMemory>
+where
+    Q::Pass: Send,
+    S::Pass: Send,
+    requires short { length text.now ≤ MOST_BYTES }
+    requires posters { 1 ≤ posters }
+    requires queue_passes { All (λ p. Q.usable queue.now p) passes.0.items }
+    requires queue_fresh { All (λ p. Q.history queue.now (Q.journal p) ≡ []) passes.0.items }
+    requires queue_agents { (i : ℕ) (p : Q.Pass) → i < length passes.0.items → Q.agent_of queue.now (slice_index_or passes.0.items i p) ≡ i }
+    requires rush_passes { All (λ p. Q.usable rush.now p) passes.1.items }
+    requires rush_fresh { All (λ p. Q.history rush.now (Q.journal p) ≡ []) passes.1.items }
+    requires rush_agents { (i : ℕ) (p : Q.Pass) → i < length passes.1.items → Q.agent_of rush.now (slice_index_or passes.1.items i p) ≡ i }
+    requires set_passes { All (λ p. S.usable set.now p) passes.2.items }
+    requires set_fresh { All (λ p. S.history set.now (S.journal p) ≡ []) passes.2.items }
+    requires set_agents { (i : ℕ) (p : S.Pass) → i < length passes.2.items → S.agent_of set.now (slice_index_or passes.2.items i p) ≡ i }
+    requires count { length passes.0.items ≡ 1 + (posters + takers) }
+    requires same { (length passes.1.items ≡ length passes.0.items) × (length passes.2.items ≡ length passes.0.items) }
+    requires agents { (Q.agents queue.now ≡ 1 + (posters + takers)) × (Q.agents rush.now ≡ 1 + (posters + takers))
+        × (S.agents set.now ≡ 1 + (posters + takers)) }
+    requires first { (Q.first queue.now ≡ 0) × (Q.first rush.now ≡ 0) }
+{
+    let mut desks = fresh_desks(alloc, queue, rush, set, passes.0, passes.1, passes.2)?;
+    let lines = lines_of(alloc, text)?;
+    let replies = run_at_desks(
+        rt, alloc, &lines, posters, takers, queue, rush, set, &mut desks, gate,
+    )?;
+    Ok((desks.len(), replies))
 }
 
-// Runs this file by so many posters and takers over new queues and a new set, which are watched so, with this gate.
+// Runs this file by so many posters and takers over new queues and a new set, which are watched so, with this gate. Answers how many
+// desks there are, and the replies.
 pub(super) fn run_watched<
     R: Threads + Wait + Sync,
     F: Domain<Rule = Fifo> + Sync + Drop,
     C: Domain<Rule = Chain> + Sync + Drop,
-    W: Watch + Drop + Sync,
-    V: Watch + Drop + Sync,
+    W: Watch + Sync,
+    V: Watch + Sync,
     G: Gate + Sync,
 >(
     rt: &R,
@@ -192,9 +225,9 @@ pub(super) fn run_watched<
     text: &[u8],
     posters: u32,
     takers: u32,
-    watches: (W, W, V),
+    watches: (&W, &W, &V),
     gate: &G,
-) -> Result<Ran<W, V>, Unmade>
+) -> Result<(usize, Replies), Unmade>
 where
     F::Pass: Send,
     C::Pass: Send,
@@ -202,41 +235,24 @@ where
     requires posters { (1 ≤ posters) × (posters ≤ 8) × (takers ≤ 7) }
 {
     let agents = 1 + posters + takers;
-    let lines = lines_of(alloc, text)?;
     let (inner, queue_passes) = new_queue::<F>(alloc, 16, agents)?;
-    let (rush_inner, rush_passes) = new_queue::<F>(alloc, 16, agents)?;
-    let (set_inner, set_passes) = new_set::<C>(alloc, 16, agents, 16)?;
-    let (watch, rush_watch, set_watch) = watches;
-    let queue = Watched { inner, watch };
+    let queue = Watched {
+        inner,
+        watch: watches.0,
+    };
+    let (inner, rush_passes) = new_queue::<F>(alloc, 16, agents)?;
     let rush = Watched {
-        inner: rush_inner,
-        watch: rush_watch,
+        inner,
+        watch: watches.1,
     };
+    let (inner, set_passes) = new_set::<C>(alloc, 16, agents, 16)?;
     let set = Watched {
-        inner: set_inner,
-        watch: set_watch,
+        inner,
+        watch: watches.2,
     };
-    let mut desks = fresh_desks(
-        alloc,
-        &queue,
-        &rush,
-        &set,
-        queue_passes,
-        rush_passes,
-        set_passes,
+    let passes = (queue_passes, rush_passes, set_passes);
+    let ran = run_over(
+        rt, alloc, text, posters, takers, &queue, &rush, &set, passes, gate,
     )?;
-    let replies = run_at_desks(
-        rt, alloc, &lines, posters, takers, &queue, &rush, &set, &mut desks, gate,
-    )?;
-    let Watched { watch, .. } = queue;
-    let Watched {
-        watch: set_watch,
-        ..
-    } = set;
-    Ok(Ran {
-        watch,
-        set_watch,
-        desks: desks.len(),
-        replies,
-    })
+    Ok(ran)
 }

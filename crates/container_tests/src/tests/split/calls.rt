@@ -10,6 +10,32 @@ use orc_split_rule::Split;
 use orc_split_set::SplitSet;
 use std::alloc::Global;
 
+// A new set of at most 256 buckets, and the pass of its one agent.
+fn set_of_one<L: Domain<Rule = Split> + Drop>(alloc: Global) -> Option<(SplitSet<L>, L::Pass)>
+    ensures { IfSome result (λ made. IsUsable L.Links made.0.links made.1) }
+{
+    let Ok((set, mut passes)) = new_split_set::<L>(alloc, 2_048, 1, 256) else {
+        return None;
+    };
+    let p = next_pass(&set, &mut passes)?;
+    Some((set, p))
+}
+
+// A new set of at most four buckets, and the passes of its two agents.
+fn set_of_two<L: Domain<Rule = Split> + Drop>(
+    alloc: Global,
+) -> Option<(SplitSet<L>, L::Pass, L::Pass)>
+    ensures usable { IfSome result (λ made. IsUsable L.Links made.0.links made.1 × IsUsable L.Links made.0.links made.2) }
+    ensures roots { IfSome result (λ made. 2 < (L.numbers made.0.links).roots) }
+{
+    let Ok((set, mut passes)) = new_split_set::<L>(alloc, 64, 2, 4) else {
+        return None;
+    };
+    let two = next_pass(&set, &mut passes)?;
+    let one = next_pass(&set, &mut passes)?;
+    Some((set, one, two))
+}
+
 // Inserts nine even keys, in order. Answers how many were added.
 fn insert_evens<L: Links<Rule = Split>>(set: &SplitSet<L>, p: &mut L::Pass) -> u32
     requires usable { IsUsable L.Links set.now.links p.old }
@@ -36,7 +62,7 @@ fn present_below<L: Links<Rule = Split>>(set: &SplitSet<L>, p: &mut L::Pass, end
 
 /// What nine even keys and then 1 come to: how many even ones were added, the number of buckets, whether the odd one
 /// was added, the number of buckets then, and how many keys below 18 are present, and whether 3 is.
-#[derive(Clone, Copy, PartialEq, Eq, Drop)]
+#[derive(PartialEq, Drop)]
 pub struct Doubled {
     pub added: u32,
     pub buckets: Option<u32>,
@@ -79,10 +105,7 @@ pub const DOUBLED: Doubled = Doubled {
 
 /// Lets the one agent of a new set do so.
 pub fn one_doubles<L: Domain<Rule = Split> + Drop>(alloc: Global) -> Option<Doubled> {
-    let Ok((set, mut passes)) = new_split_set::<L>(alloc, 64, 1, 4) else {
-        return None;
-    };
-    let mut p = next_pass(&set, &mut passes)?;
+    let (set, mut p) = set_of_one::<L>(alloc)?;
     Some(double_once(&set, &mut p))
 }
 
@@ -112,11 +135,7 @@ fn double_after_a_stop<L: Links<Rule = Split>>(
 
 /// Lets the two agents of a new set do so.
 pub fn the_next_doubles<L: Domain<Rule = Split> + Drop>(alloc: Global) -> Option<(u32, u32)> {
-    let Ok((set, mut passes)) = new_split_set::<L>(alloc, 64, 2, 4) else {
-        return None;
-    };
-    let mut two = next_pass(&set, &mut passes)?;
-    let mut one = next_pass(&set, &mut passes)?;
+    let (set, mut one, mut two) = set_of_two::<L>(alloc)?;
     double_after_a_stop(&set, &mut one, &mut two)
 }
 
@@ -140,7 +159,7 @@ fn is_named<L: Links<Rule = Split>>(set: &SplitSet<L>, p: &mut L::Pass) -> Optio
 /// What two agents find of bucket 1, where one of them stops between the bucket's dummy and its root: whether it linked the
 /// dummy, whether it did so again, whether the root names it then, whether 1 is present to the other agent, and whether the
 /// root names the dummy then.
-#[derive(Clone, Copy, PartialEq, Eq, Drop)]
+#[derive(PartialEq, Drop)]
 pub struct Unnamed {
     pub linked: bool,
     pub again: bool,
@@ -188,11 +207,7 @@ pub const ANCHORED: Unnamed = Unnamed {
 
 /// Lets the two agents of a new set do so.
 pub fn the_next_anchors<L: Domain<Rule = Split> + Drop>(alloc: Global) -> Option<Unnamed> {
-    let Ok((set, mut passes)) = new_split_set::<L>(alloc, 64, 2, 4) else {
-        return None;
-    };
-    let mut two = next_pass(&set, &mut passes)?;
-    let mut one = next_pass(&set, &mut passes)?;
+    let (set, mut one, mut two) = set_of_two::<L>(alloc)?;
     Some(ask_after_a_stop(&set, &mut one, &mut two))
 }
 
@@ -275,18 +290,18 @@ fn ends_among_many<L: Links<Rule = Split>>(set: &SplitSet<L>, p: &mut L::Pass) -
 
 /// Lets the one agent of a new set do so.
 pub fn one_finds_ends<L: Domain<Rule = Split> + Drop>(alloc: Global) -> Option<u32> {
-    let Ok((set, mut passes)) = new_split_set::<L>(alloc, 2_048, 1, 256) else {
-        return None;
-    };
-    let mut p = next_pass(&set, &mut passes)?;
+    let (set, mut p) = set_of_one::<L>(alloc)?;
     ends_among_many(&set, &mut p)
 }
 
 /// The next pass, of the agent with the greatest number that is left.
-pub fn next_pass<S: SharedSet>(set: &S, passes: &mut Vec<S::Pass>) -> Option<S::Pass>
-    requires usable { All (λ p. S.usable set.now p) passes.old.items }
-    ensures usable { All (λ p. S.usable set.now p) passes.new.items }
-    ensures popped { IfSome result (λ p. S.usable set.now p) }
+pub fn next_pass<L: Links<Rule = Split>>(
+    set: &SplitSet<L>,
+    passes: &mut Vec<L::Pass>,
+) -> Option<L::Pass>
+    requires usable { All (λ p. IsUsable L.Links set.now.links p) passes.old.items }
+    ensures usable { All (λ p. IsUsable L.Links set.now.links p) passes.new.items }
+    ensures popped { IfSome result (λ p. IsUsable L.Links set.now.links p) }
 {
     passes.pop()
 }

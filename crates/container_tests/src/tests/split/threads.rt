@@ -46,7 +46,7 @@ impl Sums {
 }
 
 /// How many keys were added, how many were found right afterwards, how often the number of buckets fell, and that number then.
-#[derive(Clone, Copy, PartialEq, Eq, Drop)]
+#[derive(PartialEq, Drop)]
 pub struct Told {
     pub added: u64,
     pub found: u64,
@@ -95,8 +95,8 @@ fn insert_by_all<R: Threads + Sync, L: Links<Rule = Split>>(
 where
     L: Sync,
     L::Pass: Send,
-    requires usable { All (λ p. ⟦<SplitSet<L> as SharedSet>⟧.usable set.now p) passes.old }
-    ensures usable { All (λ p. ⟦<SplitSet<L> as SharedSet>⟧.usable set.now p) passes.new }
+    requires usable { All (λ p. IsUsable L.Links set.now.links p) passes.old }
+    ensures usable { All (λ p. IsUsable L.Links set.now.links p) passes.new }
     ensures many { length passes.new ≡ length passes.old }
 {
     let calls = move |agent: usize, p: &mut L::Pass|
@@ -116,7 +116,7 @@ fn double_by_all<R: Threads + Sync, L: Links<Rule = Split>>(
 where
     L: Sync,
     L::Pass: Send,
-    requires usable { All (λ p. ⟦<SplitSet<L> as SharedSet>⟧.usable set.now p) passes.old.items }
+    requires usable { All (λ p. IsUsable L.Links set.now.links p) passes.old.items }
 {
     insert_by_all(rt, set, passes.as_mut_slice(), sums);
     let mut p = next_pass(set, passes)?;
