@@ -20,7 +20,6 @@ use orc_history::QueueEntry;
 use orc_machine_board::{MachineBoard, MachineBoardPass};
 use orc_words::{RowLink, Shape, Word};
 use std::alloc::Global;
-use std::test::Fail;
 
 type Queue = MachineBoard<Fifo>;
 
@@ -376,21 +375,40 @@ fn with_dummy(alloc: Global) -> Option<(Queue, QueuePass, State)>
     Some((board, pass, state))
 }
 
-#[test]
-fn a_job_goes_through_two_rows(rt: HostRuntime) -> Result<(), Fail> {
-    let Some((board, mut pass, mut state)) = with_dummy(rt.alloc()) else {
-        panic!(rt; "memory")
-    };
-    if !put(&board, &mut pass, &mut state) {
-        panic!(rt; "put")
+// What is told of the job: what was taken, whether row 0 was retired and freed, the backlog before each and after that, and what the
+// gate of row 0 is then.
+type Told = (Option<u64>, (bool, bool), (u32, u32, u32), Option<u64>);
+
+// Puts the job, takes it, and frees the row that it leaves; none where it isn't put.
+fn go_through(board: &Queue, p: &mut QueuePass, state: &mut State) -> Option<Told>
+    requires played { IsPlayed board.now p.old state.old }
+    requires journal { (shows p.old).journal ≡ opened }
+{
+    if !put(board, p, state) {
+        return None;
     }
-    assert_eq!(rt; take(&board, &mut pass, &mut state), Some(6));
-    assert_eq!(rt; pass.backlog(), 0);
-    assert!(rt; retire(&board, &mut pass, &mut state));
-    assert_eq!(rt; pass.backlog(), 1);
-    assert!(rt; free(&board, &mut pass, &mut state));
-    let look = Op::GateLook { row: 0 };
-    assert_eq!(rt; make_one(&board, &mut pass, &mut state, look), Some(2));
-    assert_eq!(rt; pass.backlog(), 0);
-    Ok(())
+    let taken = take(board, p, state);
+    let before = p.backlog();
+    let retired = retire(board, p, state);
+    let waiting = p.backlog();
+    let freed = free(board, p, state);
+    let gate = make_one(board, p, state, Op::GateLook { row: 0 });
+    Some((
+        taken,
+        (retired, freed),
+        (before, waiting, p.backlog()),
+        gate,
+    ))
+}
+
+// Lets the agent of a new board do so.
+fn goes_through(alloc: Global) -> Option<Told> {
+    let (board, mut pass, mut state) = with_dummy(alloc)?;
+    go_through(&board, &mut pass, &mut state)
+}
+
+#[test]
+fn a_job_goes_through_two_rows(rt: HostRuntime) {
+    let told = goes_through(rt.alloc());
+    assert_eq!(rt; told, Some((Some(6), (true, true), (0, 1, 0), Some(2))));
 }

@@ -8,14 +8,16 @@ use orc_plain_domain::PlainDomain;
 use orc_plain_domain::twins::Twins;
 use std::alloc::Global;
 
+// Whether all links of two nodes came about, and how many rows were given, reused and linked at rest.
+fn links_and_counts(alloc: Global) -> Option<(bool, (u64, u64, u32))> {
+    let (linked, rest) = links_and_rests::<PlainDomain<Twins>>(alloc)?;
+    Some((linked, (rest.given(), rest.reused(), rest.linked())))
+}
+
 // At rest both rows are out still.
 #[test]
 fn rows_that_were_unlinked_stay_out(rt: HostRuntime) {
-    let Some((linked, rest)) = links_and_rests::<PlainDomain<Twins>>(rt.alloc()) else {
-        panic!(rt; "memory")
-    };
-    let counts = (rest.given(), rest.reused(), rest.linked());
-    assert_eq!(rt; (linked, counts), (true, (2, 0, 2)));
+    assert_eq!(rt; links_and_counts(rt.alloc()), Some((true, (2, 0, 2))));
 }
 
 // What is told over a domain that gives each row once.

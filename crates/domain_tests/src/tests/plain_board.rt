@@ -6,7 +6,7 @@ ghost use Rattle.orc_plain_board.specs.Views.{Belongs, board_bounds, shows};
 use orc_heap::{AnyFit, Seed};
 use orc_plain_board::{PlainBoard, PlainBoardPass};
 use orc_words::{RowLink, Shape, Word};
-use std::test::Fail;
+use std::alloc::Global;
 
 mod examples;
 
@@ -120,27 +120,42 @@ fn next_pass(board: &Board, passes: &mut Vec<Pass>) -> Option<Pass>
     passes.pop()
 }
 
+// What is told: what each look at root 0 found, before the work and after it, how many rows were taken, and the gate of row 1.
+type Told = ((u64, u64), (u64, u64), u32, u64);
+
+// Lets the first agent work while the other looks before and afterwards; and the first learns from the other and takes it in.
+fn make_each_call(board: &Board, first: &mut Pass, mut second: Pass) -> Told
+    requires first { Belongs board.now first.old × ((shows board.now first.old).fresh ≡ None) }
+    requires second { Belongs board.now second }
+    requires shape { (1 < (board_bounds board.now).rows) × (0 < (board_bounds board.now).roots) }
+    ensures first { Belongs board.now first.new }
+{
+    let before = look_at_root(board, &mut second);
+    let taken = work(board, first);
+    let after = look_at_root(board, &mut second);
+    board.learn(first, &mut second);
+    board.absorb(first, second);
+    (before, after, taken, board.gate_look(first, 1))
+}
+
+// Lets two agents of a new board of two rows do so. Answers what is told, both agents, and the fresh row of the first then.
+fn two_make_each_call(alloc: Global) -> Option<(Told, (u32, u32), Option<u32>)> {
+    let Ok(shape) = Shape::new(2, 1, 2, 8) else {
+        return None;
+    };
+    let Ok((board, mut passes)) = Board::make(alloc, &shape, Seed::Empty) else {
+        return None;
+    };
+    let second = next_pass(&board, &mut passes)?;
+    let mut first = next_pass(&board, &mut passes)?;
+    let agents = (first.agent(), second.agent());
+    let told = make_each_call(&board, &mut first, second);
+    Some((told, agents, first.fresh()))
+}
+
 // One agent takes both rows, links the first and gives the second up, as the other sees.
 #[test]
-fn one_agent_makes_each_call(rt: HostRuntime) -> Result<(), Fail> {
-    let shape = Shape::new(2, 1, 2, 8)?;
-    let Ok((board, mut passes)) = Board::make(rt.alloc(), &shape, Seed::Empty) else {
-        panic!(rt; "memory")
-    };
-    let (Some(mut second), Some(mut first)) = (
-        next_pass(&board, &mut passes),
-        next_pass(&board, &mut passes),
-    ) else {
-        panic!(rt; "two passes")
-    };
-    let before = look_at_root(&board, &mut second);
-    let taken = work(&board, &mut first);
-    let after = look_at_root(&board, &mut second);
-    board.learn(&mut first, &mut second);
-    let agents = (first.agent(), first.fresh(), second.agent());
-    board.absorb(&mut first, second);
-    let gate = board.gate_look(&mut first, 1);
-    assert_eq!(rt; (before, after), ((0, 0), (2, 2)));
-    assert_eq!(rt; (agents, taken, gate), ((0, None, 1), 2, 3));
-    Ok(())
+fn one_agent_makes_each_call(rt: HostRuntime) {
+    let told = two_make_each_call(rt.alloc());
+    assert_eq!(rt; told, Some((((0, 0), (2, 2), 2, 3), (0, 1), None)));
 }

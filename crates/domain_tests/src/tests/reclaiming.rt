@@ -14,18 +14,20 @@ use orc_domain::OrcDomain;
 use orc_heap::AnyFit;
 use orc_plain_domain::twins::Twins;
 use std::alloc::Global;
-use std::test::Fail;
 use std::thread::Threads;
+
+// Whether all links of two nodes came about, and how many rows were given, reused and linked at rest, which ends in its last words.
+fn links_and_closes(alloc: Global) -> Option<(bool, (u64, u64, u32))> {
+    let (linked, rest) = links_and_rests::<OrcDomain<Twins>>(alloc)?;
+    let counts = (rest.given(), rest.reused(), rest.linked());
+    let _words = rest.close();
+    Some((linked, counts))
+}
 
 // At rest both rows have been freed: the second one's two links were counted twice for the first, and both were taken out.
 #[test]
 fn both_links_of_a_freed_row_are_taken_out(rt: HostRuntime) {
-    let Some((linked, rest)) = links_and_rests::<OrcDomain<Twins>>(rt.alloc()) else {
-        panic!(rt; "memory")
-    };
-    let counts = (rest.given(), rest.reused(), rest.linked());
-    let _words = rest.close();
-    assert_eq!(rt; (linked, counts), (true, (2, 2, 0)));
+    assert_eq!(rt; links_and_closes(rt.alloc()), Some((true, (2, 2, 0))));
 }
 
 // What is told over a domain that reclaims its rows: of three nodes that were released; of rows that were reused, the first value, and
@@ -68,15 +70,27 @@ fn holds_meanwhile<L: Domain<Rule = AnyFit> + Drop>(
     Some((domain, one, seen))
 }
 
+// What is told, what the one saw, and how many rows it had in hand before it drained, and then.
+fn told_and_drained<R: Threads + Sync>(
+    rt: &R,
+    alloc: Global,
+) -> (Reclaimed, Option<(Option<(u64, u64, bool)>, u32, u32)>) {
+    let (told, held) = over_reclaimed_rows::<R, OrcDomain<AnyFit>>(rt, alloc);
+    let Some((domain, mut one, seen)) = held else {
+        return (told, None);
+    };
+    let waiting = domain.backlog(&one);
+    domain.drain(&mut one);
+    (told, Some((seen, waiting, domain.backlog(&one))))
+}
+
 // Both rows are given, and released unlinked. No third is had while they wait; at rest both have been freed, and none is out.
 // Two rows serve five nodes in turn, and each is seen with its own value. A hold moves on to another node, and the row that it gave up
 // was handed over beside its slot, and is taken in at the release; it stays where the link has a mark. The row that one holds stays its
 // node while the other uses the other row twice, and is handed over to it.
 #[test]
-fn rows_are_used_again_and_a_hold_moves_on_or_keeps_its_values(
-    rt: HostRuntime,
-) -> Result<(), Fail> {
-    let (told, held) = over_reclaimed_rows::<_, OrcDomain<AnyFit>>(&rt, rt.alloc());
+fn rows_are_used_again_and_a_hold_moves_on_or_keeps_its_values(rt: HostRuntime) {
+    let (told, drained) = told_and_drained(&rt, rt.alloc());
     let counts = RowCounts {
         given: 2,
         reused: 2,
@@ -91,12 +105,5 @@ fn rows_are_used_again_and_a_hold_moves_on_or_keeps_its_values(
     };
     assert!(rt; told.looks == Some(looks));
     assert_eq!(rt; told.beside, Some((true, true)));
-    let Some((domain, mut one, seen)) = held else {
-        panic!(rt; "two passes")
-    };
-    let waiting = domain.backlog(&one);
-    domain.drain(&mut one);
-    assert_eq!(rt; seen, Some((8, 8, true)));
-    assert_eq!(rt; (waiting, domain.backlog(&one)), (1, 0));
-    Ok(())
+    assert_eq!(rt; drained, Some((Some((8, 8, true)), 1, 0)));
 }
