@@ -170,6 +170,20 @@ fn may_move(shape: &Shape, agent: &Agent, slot: u32, row: u32) -> bool
         && !agent.slot(slot).holds_fresh(agent.fresh)
 }
 
+// A row with a pending decrement that slot 0 holds.
+fn may_decrement(shape: &Shape, agent: &Agent, row: u32) -> bool
+    ensures { result ≡ fits (bounds_of shape.now) 0 0 (Op.Dec row) agent.now }
+{
+    row < shape.rows() && agent.has_decrement(row) && agent.slot(0).holds(row)
+}
+
+// A row with a pending decrement that some slot holds.
+fn may_decrement_held(shape: &Shape, agent: &Agent, row: u32) -> bool
+    ensures { result ≡ fits (bounds_of shape.now) 0 0 (Op.DecHeld row) agent.now }
+{
+    row < shape.rows() && agent.has_decrement(row) && agent.holds(row)
+}
+
 // Each kind's own condition.
 fn fits(shape: &Shape, enrolled: u64, number: u32, op: &Op, agent: &Agent) -> bool
     ensures { result ≡ fits (bounds_of shape.now) enrolled number op.now agent.now }
@@ -203,9 +217,7 @@ fn fits(shape: &Shape, enrolled: u64, number: u32, op: &Op, agent: &Agent) -> bo
         Op::LinkCas { place, from, to } => may_swing(shape, agent, *place, *from, *to),
         Op::LinkStore { row, number, link } => may_store(shape, agent, *row, *number, *link),
         Op::Inc { row } => *row < shape.rows() && agent.has_increment(*row),
-        Op::Dec { row } => {
-            *row < shape.rows() && agent.has_decrement(*row) && agent.slot(0).holds(*row)
-        }
+        Op::Dec { row } => may_decrement(shape, agent, *row),
         Op::SetRetired { row, sequence } => {
             *row < shape.rows()
                 && *sequence < SEQUENCE_RANGE
@@ -230,9 +242,7 @@ fn fits(shape: &Shape, enrolled: u64, number: u32, op: &Op, agent: &Agent) -> bo
         Op::Free { row } => *row < shape.rows() && agent.has_bare_doom(*row),
         Op::MoveOn { slot, row } => may_move(shape, agent, *slot, *row),
         Op::HandoverLook { slot } => *slot < 8 && agent.slot(*slot).is_empty(),
-        Op::DecHeld { row } => {
-            *row < shape.rows() && agent.has_decrement(*row) && agent.holds(*row)
-        }
+        Op::DecHeld { row } => may_decrement_held(shape, agent, *row),
     }
 }
 
