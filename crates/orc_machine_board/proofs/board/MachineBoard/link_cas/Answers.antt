@@ -7,3 +7,6 @@ pub step-requires-clause-licensed : goal.step-requires-clause-licensed
 step-requires-clause-licensed g c =
     cas_licensed (g.D.Discipline.allows_plain (heap_numbers c.args.self.now.words.shape)) c.requires.belongs.keeps c.args.place c.args.from c.args.to c.args.note
     (record { may = c.requires.allowed; enrolled = refl; wanted = tt; plain = tt }) c.requires.licensed
+
+pub returns-clause-makes : goal.returns-clause-makes
+returns-clause-makes g c = c.step.ensures.makes
