@@ -3,7 +3,10 @@ use Rattle.std.proofs.Common.{Bool, List, None, Option, Some, [], ap, append_ass
 use Rattle.std.proofs.lemmas.Bool.{false≢true}
 use Rattle.std.specs.Borrow.{Bor}
 use Rattle.std.specs.Option.{option_eq}
-use Rattle.std.specs.Prelude.{Err, IfErr, Ok, Result}
+use Rattle.std.specs.Prelude.{Err, IfErr, Ok, Result, ◌||◌}
+use Rattle.orc_core.specs.Allowed.{may_change}
+use Rattle.orc_core.specs.RecordParts.{checked_below}
+use Rattle.orc_core.specs.declared.records.Agent.{Agent}
 use Rattle.orc_any_domain.specs.Aims.{MayAimAt, aim_at}
 use Rattle.orc_heap.proofs.Calls.{Puts-trans}
 use Rattle.orc_heap.proofs.Stays.{allowed-join, allowed-right}
@@ -31,6 +34,11 @@ use Rattle.orc_domain.specs.Searches.{Idles}
 
 pub not_equal : (o : Option ℕ) (r : ℕ) → false ≡ option_eq eqb o (Some r) → o ≢ Some r
 not_equal o r e same = false≢true (e ∙ (ap (λ u. option_eq eqb u (Some r)) same ∙ eq-eqb r r refl))
+
+-- a link may keep its target
+pub old_target : (d : Agent) (n r : ℕ) (from : Option ℕ) → true ≡ option_eq eqb from (Some r) → may_change d n from (Some r) ≡ true
+old_target d n r None e = cc
+old_target d n r (Some q) e = ap (λ t. t || checked_below d.checked r n) (sym e)
 
 pub if_err_map : {T E : Type 0} {P Q : E → Type 0} (r : Result T E) → ((e : E) → P e → Q e) → IfErr r P → IfErr r Q
 if_err_map (Ok x) f h = h

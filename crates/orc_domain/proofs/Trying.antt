@@ -1,13 +1,15 @@
 -- The three steps by which a row is tried.
 use Rattle.std.proofs.Common.{Bool, List, None, Some, [], ap, append_assoc, append-nil, arith, eq-eqb, false, inl, inr, length, refl, subst, sym, true, ℕ, ⊎_elim, ◌++◌, ◌<◌, ◌∙◌, ◌≡◌, ◌≢◌, ◌∷◌, ◌≤◌, ◌⊎◌}
-use Rattle.std.proofs.lemmas.Bool.{false≢true}
-use Rattle.std.specs.Prelude.{cond, if◌then◌else◌, map, slice_get, ◌%◌, ◌*◌, ◌/◌, ◌==◌}
+use Rattle.std.proofs.lemmas.Bool.{false≢true, lt-ltb}
+use Rattle.std.specs.Prelude.{Option, cond, if◌then◌else◌, is_none, map, nat_lt, slice_get, ◌%◌, ◌&&◌, ◌*◌, ◌/◌, ◌==◌}
+use Rattle.orc_core.specs.Allowed.{may}
 use Rattle.orc_core.specs.Counts.{is_out}
 use Rattle.orc_core.specs.Machine.{Machine, new_machine, word_in}
-use Rattle.orc_core.specs.RecordParts.{number_of}
+use Rattle.orc_core.specs.RecordParts.{checked_below, number_of, saw}
 use Rattle.orc_core.specs.declared.ops.CounterUse.TheVariants.{Check}
 use Rattle.orc_core.specs.declared.ops.Op.TheVariants.{CounterLoad, GateLook, GateTake}
 use Rattle.orc_core.specs.declared.records.Agent.{Agent}
+use Rattle.orc_core.specs.declared.records.Reading.{Reading}
 use Rattle.orc_any_domain.proofs.Counting.{nodes_stay}
 use Rattle.orc_heap.proofs.Calls.{Puts-trans}
 use Rattle.orc_heap.specs.Heap.{new_node}
@@ -15,7 +17,7 @@ use Rattle.orc_heap.specs.Journals.{event_by, run_heap}
 use Rattle.orc_heap.specs.OwnEvents.{Puts}
 use Rattle.orc_heap.specs.declared.discipline.Discipline as discipline
 use Rattle.orc_heap.specs.declared.events.Act.TheVariants.{Give}
-use Rattle.orc_machine_board.specs.Kinds.{asks}
+use Rattle.orc_machine_board.specs.Kinds.{MayDo, asks}
 use Rattle.orc_machine_board.specs.Laws.Steps.{in_range}
 use Rattle.orc_machine_board.specs.Licences.{ids_of}
 use Rattle.orc_machine_board.specs.Rules.{bounds_in, heap_numbers, run_of, step_of}
@@ -23,13 +25,13 @@ use Rattle.orc_machine_board.specs.declared.machine.MachineShape.{MachineShape}
 use Rattle.orc_projection.specs.Projection.{events_of, is_taken}
 use Rattle.orc_domain.proofs.LeftParts.{same_by}
 use Rattle.orc_domain.proofs.Searching.{found_at, found_now, found_or_same, idle_trans, idles}
-use Rattle.orc_domain.proofs.Seats.{slots_keep, step_events}
+use Rattle.orc_domain.proofs.Seats.{calm_forced, slots_keep, step_events}
 use Rattle.orc_domain.proofs.Stages.{Stage, Steps, before_lawful, before_record, leaves_by, leaves_then, seat}
 use Rattle.orc_machine_rest.specs.OwnSteps.{LeavesNothing}
 use Rattle.orc_domain.proofs.Taking.{Takes, takes}
 use Rattle.orc_domain.specs.Causes.{IsTaken}
 use Rattle.orc_domain.specs.Searches.{Fails, Gets, Idles}
-use Rattle.orc_domain.specs.Seats.{slot_by}
+use Rattle.orc_domain.specs.Seats.{IsBetweenCalls, IsCalm, slot_by}
 use Rattle.orc_sound.specs.Journals.{IsLawfulJournal}
 use Rattle.orc_sound.specs.declared.steps.Step.{Step}
 use Rattle.orc_words.specs.Bounds.{Bounds}
@@ -54,6 +56,29 @@ taken_by_count b m r n c e free is high = inr (record { free = ap (λ w. w % 2 =
 
 looked_number : (n r : ℕ) → (n % 2 == 1) ≡ false → 2 * number_of (cond (n % 2 == 0) (Some (record { row = r; number = n / 2 })) None) ≡ n
 looked_number n r h = grind arith
+
+even : (n : ℕ) → (n % 2 == 1) ≡ false → (n % 2 == 0) ≡ true
+even n h = grind arith
+
+-- this number was read of the row
+abbrev reading : ℕ → ℕ → Reading
+reading r x = record { row = r; number = x }
+
+-- a calm agent without a fresh row may take one whose life and sequence it read below the limit
+take_may : (b : Bounds) (a r x y : ℕ) (d : Agent) → a < b.agents → IsCalm d → r < b.rows → d.fresh ≡ None → d.looked ≡ Some (reading r x) → x < b.limit
+    → d.checked ≡ Some (reading r y) → y < b.limit → may b 0 a (GateTake r) d ≡ true
+take_may b a r x y d h calm low none looked young checked few =
+    let agent = lt-ltb a b.agents h in
+    let on = calm.enrolled in
+    let first = calm_forced d (GateTake r) calm in
+    let row = lt-ltb r b.rows low in
+    let same : (r == r) ≡ true = eq-eqb r r refl in
+    let free : is_none d.fresh ≡ true = ap (λ (o : Option ℕ). is_none o) none in
+    let seen : saw d.looked r ≡ true = ap (λ (o : Option Reading). saw o r) looked ∙ same in
+    let life : nat_lt (number_of d.looked) b.limit ≡ true = ap (λ (o : Option Reading). nat_lt (number_of o) b.limit) looked ∙ lt-ltb x b.limit young in
+    let below = lt-ltb y b.limit few in
+    let sequence : checked_below d.checked r b.limit ≡ true = ap (λ (o : Option Reading). checked_below o r b.limit) checked ∙ (λ i. same i && below i) in
+    λ i. ((agent i && on i) && first i) && ((((row i && free i) && seen i) && life i) && sequence i)
 
 was_none : (t : Bool) (n : ℕ) → n ≡ cond t 1 0 → n ≢ 1 → t ≡ false
 was_none true n e ne = absurd (ne e)
@@ -99,6 +124,20 @@ module _ {D N : Type 0} {d : discipline.Ghosts D N} {k : MachineShape N} {s t : 
     count_idle = idle_trans b s.view t.view u.view look_idle (idles (asks (CounterLoad r Check)) t u c a.made tt refl
         (same_by t.view.record_is _ u.view.record_is a.made.record_is
         (record { enrolled = refl; slots = refl; fresh = refl; due = refl; inc = refl; dec = refl; doom = refl; scan = refl })))
+
+    -- neither the life nor the sequence was read at the limit: the row may be taken
+    pub take_can : IsBetweenCalls s.view.record_is → s.view.record_is.fresh ≡ None → n / 2 < b.limit → sequence_of c < b.limit → MayDo b u.view (GateTake r)
+    take_can ready none young few =
+        let same = count_idle.same in
+        let looked : u.view.record_is.looked ≡ Some (reading r (n / 2)) =
+        ap (λ (e : Agent). e.looked) a.made.record_is
+        ∙ (ap (λ (e : Agent). e.looked) l.made.record_is
+        ∙ (ap (λ z. cond (z % 2 == 0) (Some (reading r (z / 2))) None) (sym l.made.answer) ∙ ap (λ z. cond z (Some (reading r (n / 2))) None) (even n a.free))) in
+        let checked : u.view.record_is.checked ≡ Some (reading r (sequence_of c)) =
+        ap (λ (e : Agent). e.checked) a.made.record_is ∙ ap (λ z. Some (reading r (sequence_of z))) (sym a.made.answer) in
+        take_may b u.view.agent r (n / 2) (sequence_of c) u.view.record_is u.number
+        (record { enrolled = same.enrolled ∙ ready.enrolled; due = same.due ∙ ready.due; inc = same.inc ∙ ready.inc; dec = same.dec ∙ ready.dec }) l.low
+        (same.fresh ∙ none) looked young checked few
 
     -- where the counter is read
     before2 : t.view.journal ++ a.made.met ≡ j1 ++ x1 ∷ a.made.met

@@ -1,4 +1,7 @@
-use Rattle.std.proofs.Common.{Some, ap, subst, sym, ◌∙◌, ◌≢◌}
+use Rattle.std.proofs.Common.{Some, ap, eqb, subst, sym, true, ◌∙◌, ◌≡◌, ◌≢◌}
+use Rattle.std.specs.Option.{option_eq}
+use Rattle.orc_core.specs.Allowed.{may_change}
+use Rattle.orc_heap.specs.declared.holds.Want.{Want}
 use Rattle.orc_any_domain.specs.Names.{row_link}
 use Rattle.orc_heap.specs.Calls.{RefusesSwing}
 use Rattle.orc_heap.specs.Seats.{HoldsWant}
@@ -7,9 +10,10 @@ use Rattle.orc_domain.proofs.Linking.{link_other}
 use Rattle.orc_domain.proofs.Searching.{idle_none}
 use Rattle.orc_domain.proofs.Ending.{stage_of}
 use Rattle.orc_domain.proofs.Stages.{seat}
-use Rattle.orc_domain.proofs.Swinging.{if_err_map, not_equal}
+use Rattle.orc_domain.proofs.Swinging.{if_err_map, not_equal, old_target}
 use Rattle.orc_domain.specs.Passes.{domain_bounds}
 use Rattle.orc_domain.specs.Seats.{seat_by}
+use Rattle.orc_words.specs.Bounds.{link_limit}
 use Rattle.orc_words.specs.declared.packed.RowLink.{RowLink}
 use Rattle.orc_domain.proofs.domain.OrcDomain.prepare.Goals as goal
 
@@ -29,3 +33,12 @@ returns-clause-spent g c =
     let other = link_other s c.args.from.now c.in-Node.h.now links.0 held ne in
     if_err_map c.check.result (λ e worn. subst (λ w. RefusesSwing (seat s).slots c.args.from.now w e
     (seat_by (domain_bounds c.args.self.now) (shows c.check.new.p)).seen) (sym c.in-Node.is) (other, worn)) c.check.ensures.spent
+
+pub returns-then-eq-clause-low : goal.returns-then-eq-clause-low
+returns-then-eq-clause-low g c =
+    let d = (shows c.args.p.now).record_is in
+    let n = link_limit (domain_bounds c.args.self.now) in
+    let from = (row_link c.args.from.now).to in
+    let old : may_change d n from (Some c.in-Node.h.now.row) ≡ true = old_target d n c.in-Node.h.now.row from
+    (c.if-eq.ensures ∙ ap (λ (l : RowLink). option_eq eqb l.to (Some c.row.result)) c.row_link.ensures ∙ ap (λ r. option_eq eqb from (Some r)) c.row.ensures) in
+    subst (λ (w : Want). may_change d n from (row_link w).to ≡ true) (sym c.in-Node.is) old

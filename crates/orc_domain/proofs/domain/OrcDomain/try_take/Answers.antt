@@ -1,8 +1,9 @@
-use Rattle.std.proofs.Common.{arith, eqb-true, inl, inr, ◌/◌, ◌≤◌, ◌%◌}
+use Rattle.std.proofs.Common.{ap, arith, eqb-true, inl, inr, ◌/◌, ◌<◌, ◌≤◌, ◌∙◌, ◌%◌}
 use Rattle.std.proofs.lemmas.Bool.{eq-eqb, eqb-false, ne_eqb}
 use Rattle.orc_domain.proofs.Ending.{stage_of}
-use Rattle.orc_domain.proofs.Trying.{LooksAt, ReadsCounter, count_fails, look_fails, take_fails, take_gets}
+use Rattle.orc_domain.proofs.Trying.{LooksAt, ReadsCounter, count_fails, look_fails, take_can, take_fails, take_gets}
 use Rattle.orc_domain.specs.Passes.{domain_bounds}
+use Rattle.orc_words.specs.Bounds.{Bounds}
 use Rattle.orc_words.specs.Packed.{sequence_of}
 use Rattle.orc_domain.proofs.domain.OrcDomain.try_take.Given.{Over}
 use Rattle.orc_domain.proofs.domain.OrcDomain.try_take.Goals.{After-counter_load-counter, After-gate_look-gate}
@@ -35,6 +36,16 @@ returns-then-counter-limit-clause-lost g c f =
     let same = c.limit-limit.ensures in
     let high : (domain_bounds c.args.self.now).limit ≤ sequence_of c.counter_load-counter.result = grind arith in
     count_fails (looks g at.After-gate_look-gate) (reads g at.After-counter_load-counter) high
+
+pub gate_take-taken-requires-clause-allowed : goal.gate_take-taken-requires-clause-allowed
+gate_take-taken-requires-clause-allowed g c =
+    let at = goal.at.gate_take-taken-requires-clause-allowed g c in
+    let life = c.if-gate-limit.false in
+    let sequence = c.if-counter-limit.false in
+    let same = c.limit-limit.ensures ∙ ap (λ (b : Bounds). b.limit) c.shape.ensures in
+    let young : c.gate_look-gate.result / 2 < (domain_bounds c.args.self.now).limit = omega (arith, life, same) in
+    let few : sequence_of c.counter_load-counter.result < (domain_bounds c.args.self.now).limit = omega (arith, sequence, same) in
+    take_can (looks g at.After-gate_look-gate) (reads g at.After-counter_load-counter) c.requires.ready c.requires.no_other young few
 
 pub returns-clause-lost : goal.returns-clause-lost
 returns-clause-lost g c f =
