@@ -58,7 +58,8 @@ pub fn read_all<S: Source>(
         let Ok(count) = source.read(&mut chunk[..wanted]) else {
             return Err(ReadAllError::Failed);
         };
-        if count == 0 {
+        let at_end = count == 0;
+        if at_end {
             return Ok(all);
         }
         all.extend_from_slice(&chunk[..count])?;
