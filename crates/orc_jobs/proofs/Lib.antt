@@ -10,3 +10,4 @@ pub mod JobValues
 pub mod CauseOrLine
 pub mod GeneratedLines
 pub mod GeneratedText
+pub mod FirstCauses
