@@ -14,7 +14,8 @@ use Rattle.orc_jobs.specs.Line.{job_line}
 use Rattle.orc_board.specs.declared.replies.PostWord.{PostWord}
 use Rattle.orc_board.specs.declared.replies.TakeReply.{TakeReply}
 use Rattle.orc_board.specs.Stretches.{View, of_queue, of_set, Stretch, Share, Did, just, nothing, refusal, Replied}
-use Rattle.orc_board.specs.Table.{IsJob, IsNoJob, IsSkip, AreSkips, Closes, TakenRow, TakeEnds, TookLast, taken_of, Next, Opened, Dropped, JobPart, JobRow, DropPart, DropRow, PostRow, IsWordOf, IsPlacedAt, claim_answer, in_its}
+use Rattle.orc_history.specs.QueueHistory.{entry_of_dequeue}
+use Rattle.orc_board.specs.Table.{IsJob, IsNoJob, IsSkip, AreSkips, Closes, EndsWith, TakenRow, TakeEnds, took_of, TookLast, taken_of, Next, Opened, Dropped, JobPart, JobRow, DropPart, DropRow, PostRow, IsWordOf, IsPlacedAt, claim_answer, in_its}
 use Rattle.orc_board.proofs.Shares.{Stretch-trans, Stretch-refl, Did-just, Did-nothing}
 use Rattle.orc_board.proofs.CallStretches.{ends_later}
 use Rattle.orc_board.proofs.ListFacts.{AllByRecursion-append}
@@ -194,6 +195,46 @@ some_last qs lines agent qa rush job at got r i j k p e is took at_is line_is ru
       took = ends_later (qs r.rush) agent (Took agent r.line r.at) (p.skipped r.rush) (i r.rush) (j r.rush) (k r.rush) (p.stretch r.rush) last.took;
       rush_first = λ h. ends_later (qs true) agent (Empty agent) (p.skipped true) (i true) (j true) (k true) (p.stretch true) (last.rush_first h);
     }
+
+-- what a dequeue answered, of this agent
+asked_now : {A : Type 0} (q : View A QueueEntry QueueRefused) (agent other : ℕ) (told got : Option (ℕ × ℕ)) (j k : List A) → other ≡ agent → got ≡ told
+    → Stretch of_queue q other (took_of other got) j k → EndsWith q other (entry_of_dequeue other got) j k
+    → Stretch of_queue q agent (took_of agent told) j k × EndsWith q agent (entry_of_dequeue agent told) j k
+asked_now q agent other told got j k e is took last = (
+  subst (λ (x : ℕ). Stretch of_queue q x (took_of x told) j k) e (subst (λ (o : Option (ℕ × ℕ)). Stretch of_queue q other (took_of other o) j k) is took),
+  subst (λ (x : ℕ). EndsWith q x (entry_of_dequeue x told) j k) e (subst (λ (o : Option (ℕ × ℕ)). EndsWith q other (entry_of_dequeue other o) j k) is last),
+)
+
+module _ {A : Type 0} (qs : Bool → View A QueueEntry QueueRefused) (agent other : ℕ) (hurried : Option (ℕ × ℕ)) (j k : Bool → List A)
+    (same : other ≡ agent) (took : Stretch of_queue (qs true) other (took_of other hurried) (j true) (k true))
+    (last : EndsWith (qs true) other (entry_of_dequeue other hurried) (j true) (k true)) where
+  -- the rush queue gave a job, and the queue wasn't asked
+  pub next_of_rush : (job at : ℕ) → hurried ≡ Some (job, at) → k false ≡ j false → Next qs agent (Some (true, job, at)) j k
+  next_of_rush job at is still =
+      let asked = asked_now (qs true) agent other (Some (job, at)) hurried (j true) (k true) same is took last in
+      record {
+        stretches = elim [
+          | false ↦ subst (λ (z : List A). Stretch of_queue (qs false) agent [] (j false) z) (sym still) (Stretch-refl of_queue (qs false) agent (j false))
+          | true ↦ asked.0
+        ];
+        last = record { took = asked.1; rush_first = λ no. cc };
+      }
+
+  module _ (found : Option (ℕ × ℕ)) (empty : hurried ≡ None) (took_too : Stretch of_queue (qs false) agent (took_of agent found) (j false) (k false))
+      (last_too : EndsWith (qs false) agent (entry_of_dequeue agent found) (j false) (k false)) where
+    -- the rush queue was empty, and the queue gave a job
+    pub next_of_queue : (job at : ℕ) → found ≡ Some (job, at) → Next qs agent (Some (false, job, at)) j k
+    next_of_queue job at is =
+        let asked = asked_now (qs true) agent other None hurried (j true) (k true) same empty took last in
+        let given = asked_now (qs false) agent agent (Some (job, at)) found (j false) (k false) refl is took_too last_too in
+        record { stretches = elim [ false ↦ given.0 | true ↦ asked.0 ]; last = record { took = given.1; rush_first = λ no. asked.1 } }
+
+    -- both queues were empty
+    pub next_of_none : found ≡ None → Next qs agent None j k
+    next_of_none is =
+        let asked = asked_now (qs true) agent other None hurried (j true) (k true) same empty took last in
+        let given = asked_now (qs false) agent agent None found (j false) (k false) refl is took_too last_too in
+        record { stretches = elim [ false ↦ given.0 | true ↦ asked.0 ]; last = elim [ false ↦ given.1 | true ↦ asked.1 ] }
 
 -- a job that was put
 pub placed_part : (agent i id at : ℕ) (rush : Bool) (w : PostWord) → IsPlacedAt rush at w

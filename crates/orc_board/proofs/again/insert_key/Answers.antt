@@ -1,4 +1,4 @@
-use Rattle.std.proofs.Common.{[], ◌∷◌}
+use Rattle.std.proofs.Common.{◌∙◌, [], ◌∷◌}
 use Rattle.orc_history.specs.declared.set.SetEntry.TheVariants.{Added}
 use Rattle.orc_history.specs.declared.set.ListRefused.TheVariants.{NoNode, Spent}
 use Rattle.orc_board.specs.Stretches.{of_set}
@@ -25,3 +25,12 @@ returns-in-Err-Spent-clause-refused g c =
 pub loop-preserved : goal.loop-preserved
 loop-preserved g c =
     set_asks g.S.SharedSet c.args.set.now _ _ _ c.loop.invariant c.insert.ensures.later c.in-Err-Again.ensures.none c.insert.ensures.usable c.insert.ensures.agent
+
+pub returns-in-Ok-clause-agent : goal.returns-in-Ok-clause-agent
+returns-in-Ok-clause-agent g c = c.insert.ensures.agent ∙ c.loop.invariant.agent
+
+pub returns-in-Err-NoNode-clause-agent : goal.returns-in-Err-NoNode-clause-agent
+returns-in-Err-NoNode-clause-agent g c = c.insert.ensures.agent ∙ c.loop.invariant.agent
+
+pub returns-in-Err-Spent-clause-agent : goal.returns-in-Err-Spent-clause-agent
+returns-in-Err-Spent-clause-agent g c = c.insert.ensures.agent ∙ c.loop.invariant.agent

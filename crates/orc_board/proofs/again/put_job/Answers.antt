@@ -1,4 +1,4 @@
-use Rattle.std.proofs.Common.{[], ◌∷◌}
+use Rattle.std.proofs.Common.{◌∙◌, [], ◌∷◌}
 use Rattle.orc_history.specs.declared.queue.QueueEntry.TheVariants.{Put}
 use Rattle.orc_history.specs.declared.queue.QueueRefused.TheVariants.{NoNode, Positions}
 use Rattle.orc_board.specs.Stretches.{of_queue}
@@ -26,3 +26,12 @@ pub loop-preserved : goal.loop-preserved
 loop-preserved g c =
     queue_asks g.Q.SharedQueue c.args.queue.now _ _ _ c.loop.invariant c.enqueue.ensures.later c.in-Err-Again.ensures.none c.enqueue.ensures.usable
     c.enqueue.ensures.agent
+
+pub returns-in-Ok-clause-agent : goal.returns-in-Ok-clause-agent
+returns-in-Ok-clause-agent g c = c.enqueue.ensures.agent ∙ c.loop.invariant.agent
+
+pub returns-in-Err-NoNode-clause-agent : goal.returns-in-Err-NoNode-clause-agent
+returns-in-Err-NoNode-clause-agent g c = c.enqueue.ensures.agent ∙ c.loop.invariant.agent
+
+pub returns-in-Err-Positions-clause-agent : goal.returns-in-Err-Positions-clause-agent
+returns-in-Err-Positions-clause-agent g c = c.enqueue.ensures.agent ∙ c.loop.invariant.agent

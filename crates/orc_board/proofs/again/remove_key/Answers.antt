@@ -1,4 +1,4 @@
-use Rattle.std.proofs.Common.{[], ◌∷◌}
+use Rattle.std.proofs.Common.{◌∙◌, [], ◌∷◌}
 use Rattle.orc_history.specs.declared.set.SetEntry.TheVariants.{Removed}
 use Rattle.orc_board.specs.Stretches.{of_set}
 use Rattle.orc_board.proofs.Asking.{asks_first, set_asks, set_made}
@@ -14,3 +14,6 @@ loop-preserved g c =
 pub returns-in-Ok-clause-removed : goal.returns-in-Ok-clause-removed
 returns-in-Ok-clause-removed g c =
     set_made g.S.SharedSet c.args.set.now _ _ _ c.loop.invariant c.remove.ensures.later (λ a. Removed a c.args.key c.in-Ok.yes ∷ []) c.in-Ok.ensures.removed
+
+pub returns-in-Ok-clause-agent : goal.returns-in-Ok-clause-agent
+returns-in-Ok-clause-agent g c = c.remove.ensures.agent ∙ c.loop.invariant.agent

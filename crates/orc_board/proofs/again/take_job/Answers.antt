@@ -1,4 +1,4 @@
-use Rattle.std.proofs.Common.{Some, None}
+use Rattle.std.proofs.Common.{◌∙◌, Some, None}
 use Rattle.orc_board.specs.Stretches.{queue_view, of_queue}
 use Rattle.orc_board.proofs.Asking.{asks_first, queue_asks}
 use Rattle.orc_board.proofs.CallStretches.{dequeue_call, dequeue_last}
@@ -31,3 +31,9 @@ pub loop-preserved : goal.loop-preserved
 loop-preserved g c =
     queue_asks g.Q.SharedQueue c.args.queue.now _ _ _ c.loop.invariant c.dequeue.ensures.later c.in-Err.ensures.none c.dequeue.ensures.usable
     c.dequeue.ensures.agent
+
+pub returns-in-Ok-Some-clause-agent : goal.returns-in-Ok-Some-clause-agent
+returns-in-Ok-Some-clause-agent g c = c.dequeue.ensures.agent ∙ c.loop.invariant.agent
+
+pub returns-in-Ok-None-clause-agent : goal.returns-in-Ok-None-clause-agent
+returns-in-Ok-None-clause-agent g c = c.dequeue.ensures.agent ∙ c.loop.invariant.agent
