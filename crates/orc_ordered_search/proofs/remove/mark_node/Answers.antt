@@ -48,3 +48,9 @@ returns-clause-marked g c =
     c.in-Ok.done refl (c.link_to.ensures.link s.slots) (c.link_to-2.ensures.link s.slots)
     (c.note-note.ensures ∙ ap (λ (x : ℕ). noted (Removed x c.args.key true)) c.agent-agent.ensures) c.requires.follows
     (λ i e. g.met.L.Links.fresh_is d c.args.p.now i c.requires.pass e) c.in-Ok.ensures.swung
+
+pub returns-clause-pass : goal.returns-clause-pass
+returns-clause-pass g c = c.in-Ok.ensures.pass
+
+pub returns-clause-later : goal.returns-clause-later
+returns-clause-later g c = c.in-Ok.ensures.later

@@ -42,3 +42,9 @@ returns-clause-tried g c =
     (λ i h. g.met.L.Links.fresh_is d c.args.p.now i c.requires.pass h) e.swung e.none e.spent
     (worn_part g.L.Links.agent_of s.agent _ _ (g.L.Links.worn d s.agent) e.later
     c.swing-tried.result e.worn)
+
+pub returns-clause-pass : goal.returns-clause-pass
+returns-clause-pass g c = c.swing-tried.ensures.pass
+
+pub returns-clause-later : goal.returns-clause-later
+returns-clause-later g c = c.swing-tried.ensures.later

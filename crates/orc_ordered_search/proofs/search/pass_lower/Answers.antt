@@ -176,3 +176,24 @@ returns-clause-stepped g c = λ start s room w.
     steps_up (reading_by _ g.K.Rank.manner) g.K.Rank.number g.K.Rank.counted start (g.K.Rank.number c.args.wanted) (g.K.Rank.number c.args.rank + 1) (g.K.Rank.number c.loop-p.rank + 1) s c.step.result (g.L.Links.seat _
     c.step.new.p)
     (c.step.ensures.stepped start s room (i.walks start s room w)) (omega (arith, i.up))
+
+pub step_by-requires-clause-pass : goal.step_by-requires-clause-pass
+step_by-requires-clause-pass g c = c.look_on.ensures.pass
+
+pub returns-in-Stays-clause-pass : goal.returns-in-Stays-clause-pass
+returns-in-Stays-clause-pass g c = c.step_by.ensures.pass
+
+pub returns-in-Stays-clause-later : goal.returns-in-Stays-clause-later
+returns-in-Stays-clause-later g c = goes_on _ _ _ (goes_on _ _ _ c.loop-p.invariant.later c.look_on.ensures.later) c.step_by.ensures.later
+
+pub release-requires-clause-pass : goal.release-requires-clause-pass
+release-requires-clause-pass g c = c.look_on.ensures.pass
+
+pub returns-in-Moved-clause-pass : goal.returns-in-Moved-clause-pass
+returns-in-Moved-clause-pass g c = c.release.ensures.pass
+
+pub step-requires-clause-pass : goal.step-requires-clause-pass
+step-requires-clause-pass g c = c.loop-p.invariant.pass
+
+pub returns-clause-pass : goal.returns-clause-pass
+returns-clause-pass g c = c.step.ensures.pass

@@ -1,5 +1,6 @@
 -- By what the first look found.
 use Rattle.std.proofs.Common.{None, sym, ◌∙◌}
+use Rattle.orc_heap.proofs.Pieces.{goes_on}
 use Rattle.orc_heap.specs.Seats.{Seat}
 use Rattle.orc_heap.specs.declared.events.Place.{Place}
 use Rattle.orc_ordered_search.specs.Searches.{HasRoom, Passed}
@@ -51,3 +52,21 @@ returns-in-Moved-clause-stepped g c = λ place s room b.
     (looks_from _ place c.spare_slot-slot.result _ t _ (c.place_of.ensures.place t.slots ∙ begin_place (reading_by _ g.K.Rank.manner) place a.root (g.K.Rank.number a.wanted) a.left s t c.requires.root.1 b.begins) e.looked)
     (g.met.L.Links.allowed _ _ e.pass) c.let_go.ensures.let_go (λ i h. g.met.L.Links.fresh_is d c.look.new.p i e.pass h)
     (g.met.L.Links.allowed _ _ c.let_go.ensures.pass)
+
+pub go_on-requires-clause-pass : goal.go_on-requires-clause-pass
+go_on-requires-clause-pass g c = c.in-Stable.ensures.pass
+
+pub let_go-requires-clause-pass : goal.let_go-requires-clause-pass
+let_go-requires-clause-pass g c = c.in-Moved.ensures.pass
+
+pub returns-in-Stable-clause-pass : goal.returns-in-Stable-clause-pass
+returns-in-Stable-clause-pass g c = c.go_on.ensures.pass
+
+pub returns-in-Stable-clause-later : goal.returns-in-Stable-clause-later
+returns-in-Stable-clause-later g c = goes_on _ _ _ c.in-Stable.ensures.later c.go_on.ensures.later
+
+pub returns-in-Moved-clause-pass : goal.returns-in-Moved-clause-pass
+returns-in-Moved-clause-pass g c = c.let_go.ensures.pass
+
+pub returns-in-Moved-clause-later : goal.returns-in-Moved-clause-later
+returns-in-Moved-clause-later g c = goes_on _ _ _ c.in-Moved.ensures.later c.let_go.ensures.later
