@@ -1,8 +1,14 @@
 -- No turn, no node, or how the turns ended.
-use Rattle.std.proofs.Common.{subst, sym, ℕ}
+use Rattle.std.proofs.Common.{Err, Result, subst, sym, ℕ, ◌≡◌}
+use Rattle.orc_history.specs.declared.queue.QueueRefused.{QueueRefused}
+use Rattle.orc_history.specs.declared.queue.QueueRefused.TheVariants.{Again, NoNode}
 use Rattle.orc_queue.specs.Answers.{PutTired}
 use Rattle.orc_queue.proofs.Answering.{put_full, put_lacking, put_made, put_none, put_tired}
 use Rattle.orc_queue.proofs.put.put_job.Goals as goal
+
+-- turns that ran out lack no node
+again_lacks : ◌≡◌ {A = Result ℕ QueueRefused} (Err Again) (Err NoNode) → ⊥
+again_lacks is = cc
 
 pub returns-then-turns-eq0-clause-answered : goal.returns-then-turns-eq0-clause-answered
 returns-then-turns-eq0-clause-answered g c =
@@ -25,3 +31,6 @@ returns-in-Full-clause-answered g c =
 pub returns-in-Over-clause-answered : goal.returns-in-Over-clause-answered
 returns-in-Over-clause-answered g c =
     put_tired c.args.turns c.requires.idle c.in-Ok.ensures.given c.if-turns-eq0.false c.release.ensures.released c.in-Over.ensures.put
+
+pub returns-in-Over-clause-lacking : goal.returns-in-Over-clause-lacking
+returns-in-Over-clause-lacking g c = λ is. absurd (again_lacks is)
