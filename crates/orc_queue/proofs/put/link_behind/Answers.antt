@@ -1,5 +1,6 @@
 -- The tail is swung on once the node is linked.
 use Rattle.std.proofs.Common.{rules, subst, sym}
+use Rattle.orc_heap.proofs.Pieces.{goes_on}
 use Rattle.orc_heap.specs.Slots.{Holds, Slots, id_in}
 use Rattle.orc_queue.specs.Turns.{Helps}
 use Rattle.orc_queue.proofs.Linking.{link_helped}
@@ -32,3 +33,9 @@ returns-in-Put-clause-linked g c =
     let t = g.L.Links.seat _ c.help_tail.new.p in
     let helped = subst (λ (z : Slots). Helps (id_in z c.args.tail.now) (id_in u.slots c.args.node.now) u t) l.puts.piece.slots e.helped in
     link_helped _ _ _ _ _ _ _ _ _ (g.met.L.Links.allowed _ _ e.pass) l helped
+
+pub returns-in-Put-clause-pass : goal.returns-in-Put-clause-pass
+returns-in-Put-clause-pass g c = c.help_tail.ensures.pass
+
+pub returns-in-Put-clause-later : goal.returns-in-Put-clause-later
+returns-in-Put-clause-later g c = goes_on _ _ _ c.in-Put.ensures.later c.help_tail.ensures.later

@@ -1,5 +1,6 @@
 -- The tail's second value is the position; the node has the values of the Put, and is linked or not.
 use Rattle.std.proofs.Common.{Some, [], arith, refl, subst, ℕ, ◌∷◌}
+use Rattle.orc_heap.proofs.Pieces.{goes_on}
 use Rattle.orc_heap.proofs.ByAnswer.{Swings-fresh, Swings-missed, Swings-moved}
 use Rattle.orc_heap.proofs.Pieces.{missed_fresh}
 use Rattle.orc_heap.specs.Calls.{Misses, event_of}
@@ -70,3 +71,15 @@ returns-then-change-clause-linked g c =
     let moved = subst (λ (i : ℕ). Puts b (event_of b (Move (Next i) null to) (Some (Entry (Put agent c.args.job c.value-at.result))) ∷ []) t)
     (tail_same f c.args.tail.now) (Swings-moved e.swung c.if-change.true) in
     link_made f t agent (g.met.L.Links.allowed _ _ e.pass) c.agent-agent.ensures e.swung.slots (Swings-fresh e.swung c.if-change.true) moved
+
+pub returns-then-change-clause-pass : goal.returns-then-change-clause-pass
+returns-then-change-clause-pass g c = c.change.ensures.pass
+
+pub returns-then-change-clause-later : goal.returns-then-change-clause-later
+returns-then-change-clause-later g c = goes_on _ _ _ c.value-at.ensures.later (goes_on _ _ _ c.fill.ensures.later c.change.ensures.later)
+
+pub returns-else-change-clause-pass : goal.returns-else-change-clause-pass
+returns-else-change-clause-pass g c = c.change.ensures.pass
+
+pub returns-else-change-clause-later : goal.returns-else-change-clause-later
+returns-else-change-clause-later g c = goes_on _ _ _ c.value-at.ensures.later (goes_on _ _ _ c.fill.ensures.later c.change.ensures.later)

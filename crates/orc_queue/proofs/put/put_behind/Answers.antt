@@ -1,5 +1,6 @@
 -- By what the look of the tail's link found.
 use Rattle.std.proofs.Common.{rules, subst}
+use Rattle.orc_heap.proofs.Pieces.{goes_on}
 use Rattle.orc_heap.specs.Slots.{Slots, id_in}
 use Rattle.orc_queue.specs.Turns.{LinksBehind, SwingsLast}
 use Rattle.orc_queue.proofs.Behind.{behind_found, behind_moved, behind_null, node_seen}
@@ -59,3 +60,24 @@ returns-in-Node-clause-put g c =
 
 pub returns-in-Differs-clause-put : goal.returns-in-Differs-clause-put
 returns-in-Differs-clause-put g c = behind_moved c.args.job _ c.args.node.now c.in-Differs.ensures.looked c.requires.named c.requires.node
+
+pub release-requires-clause-pass : goal.release-requires-clause-pass
+release-requires-clause-pass g c = c.help_tail.ensures.pass
+
+pub returns-in-Nothing-clause-pass : goal.returns-in-Nothing-clause-pass
+returns-in-Nothing-clause-pass g c = c.link_behind.ensures.pass
+
+pub returns-in-Nothing-clause-later : goal.returns-in-Nothing-clause-later
+returns-in-Nothing-clause-later g c = goes_on _ _ _ c.in-Nothing.ensures.later c.link_behind.ensures.later
+
+pub returns-in-Node-clause-pass : goal.returns-in-Node-clause-pass
+returns-in-Node-clause-pass g c = c.release.ensures.pass
+
+pub returns-in-Node-clause-later : goal.returns-in-Node-clause-later
+returns-in-Node-clause-later g c = goes_on _ _ _ c.in-Node.ensures.later (goes_on _ _ _ c.help_tail.ensures.later c.release.ensures.later)
+
+pub returns-in-Differs-clause-pass : goal.returns-in-Differs-clause-pass
+returns-in-Differs-clause-pass g c = c.in-Differs.ensures.pass
+
+pub returns-in-Differs-clause-later : goal.returns-in-Differs-clause-later
+returns-in-Differs-clause-later g c = c.in-Differs.ensures.later

@@ -1,5 +1,6 @@
 -- No turn, no node, or how the turns ended.
 use Rattle.std.proofs.Common.{Err, Result, subst, sym, ℕ, ◌≡◌}
+use Rattle.orc_heap.proofs.Pieces.{goes_on}
 use Rattle.orc_history.specs.declared.queue.QueueRefused.{QueueRefused}
 use Rattle.orc_history.specs.declared.queue.QueueRefused.TheVariants.{Again, NoNode}
 use Rattle.orc_queue.specs.Answers.{PutTired}
@@ -34,3 +35,33 @@ returns-in-Over-clause-answered g c =
 
 pub returns-in-Over-clause-lacking : goal.returns-in-Over-clause-lacking
 returns-in-Over-clause-lacking g c = λ is. absurd (again_lacks is)
+
+pub put_turns-turn-requires-clause-pass : goal.put_turns-turn-requires-clause-pass
+put_turns-turn-requires-clause-pass g c = c.in-Ok.ensures.pass
+
+pub release-requires-clause-pass : goal.release-requires-clause-pass
+release-requires-clause-pass g c = c.put_turns-turn.ensures.pass
+
+pub returns-in-Err-clause-pass : goal.returns-in-Err-clause-pass
+returns-in-Err-clause-pass g c = c.in-Err.ensures.pass
+
+pub returns-in-Err-clause-later : goal.returns-in-Err-clause-later
+returns-in-Err-clause-later g c = c.in-Err.ensures.later
+
+pub returns-in-Put-clause-pass : goal.returns-in-Put-clause-pass
+returns-in-Put-clause-pass g c = c.release.ensures.pass
+
+pub returns-in-Put-clause-later : goal.returns-in-Put-clause-later
+returns-in-Put-clause-later g c = goes_on _ _ _ c.in-Ok.ensures.later (goes_on _ _ _ c.put_turns-turn.ensures.later c.release.ensures.later)
+
+pub returns-in-Full-clause-pass : goal.returns-in-Full-clause-pass
+returns-in-Full-clause-pass g c = c.release.ensures.pass
+
+pub returns-in-Full-clause-later : goal.returns-in-Full-clause-later
+returns-in-Full-clause-later g c = goes_on _ _ _ c.in-Ok.ensures.later (goes_on _ _ _ c.put_turns-turn.ensures.later c.release.ensures.later)
+
+pub returns-in-Over-clause-pass : goal.returns-in-Over-clause-pass
+returns-in-Over-clause-pass g c = c.release.ensures.pass
+
+pub returns-in-Over-clause-later : goal.returns-in-Over-clause-later
+returns-in-Over-clause-later g c = goes_on _ _ _ c.in-Ok.ensures.later (goes_on _ _ _ c.put_turns-turn.ensures.later c.release.ensures.later)

@@ -1,5 +1,6 @@
 -- A turn: what the look of the tail found, and what came of it.
 use Rattle.std.proofs.Common.{arith}
+use Rattle.orc_heap.proofs.Pieces.{goes_on}
 use Rattle.orc_heap.specs.Slots.{id_in}
 use Rattle.orc_queue.proofs.Behind.{behind_piece}
 use Rattle.orc_queue.proofs.Holding.{found_free, found_kept, pass_known}
@@ -30,3 +31,21 @@ returns-in-Some-clause-put g c =
 
 pub returns-in-None-clause-put : goal.returns-in-None-clause-put
 returns-in-None-clause-put g c = turn_moved c.args.job c.args.node.now c.in-None.ensures.looked c.requires.node
+
+pub put_behind-turn-requires-clause-pass : goal.put_behind-turn-requires-clause-pass
+put_behind-turn-requires-clause-pass g c = c.in-Some.ensures.pass
+
+pub release-requires-clause-pass : goal.release-requires-clause-pass
+release-requires-clause-pass g c = c.put_behind-turn.ensures.pass
+
+pub returns-in-Some-clause-pass : goal.returns-in-Some-clause-pass
+returns-in-Some-clause-pass g c = c.release.ensures.pass
+
+pub returns-in-Some-clause-later : goal.returns-in-Some-clause-later
+returns-in-Some-clause-later g c = goes_on _ _ _ c.in-Some.ensures.later (goes_on _ _ _ c.put_behind-turn.ensures.later c.release.ensures.later)
+
+pub returns-in-None-clause-pass : goal.returns-in-None-clause-pass
+returns-in-None-clause-pass g c = c.in-None.ensures.pass
+
+pub returns-in-None-clause-later : goal.returns-in-None-clause-later
+returns-in-None-clause-later g c = c.in-None.ensures.later

@@ -1,5 +1,6 @@
 -- The look of the tail, the link, and the release.
 use Rattle.std.proofs.Common.{ap, arith, inl, inr, refl, ℕ, ◌∙◌}
+use Rattle.orc_heap.proofs.Pieces.{goes_on}
 use Rattle.orc_heap.specs.Slots.{id_in}
 use Rattle.orc_heap.proofs.Calls.{Puts-trans}
 use Rattle.orc_heap.proofs.Pieces.{puts_released}
@@ -73,3 +74,21 @@ returns-in-Some-clause-missed g c = λ other.
 
 pub returns-in-None-clause-missed : goal.returns-in-None-clause-missed
 returns-in-None-clause-missed g c = λ other. moved_full c.in-None.ensures.looked
+
+pub link_node-turn-requires-clause-pass : goal.link_node-turn-requires-clause-pass
+link_node-turn-requires-clause-pass g c = c.in-Some.ensures.pass
+
+pub release-requires-clause-pass : goal.release-requires-clause-pass
+release-requires-clause-pass g c = c.link_node-turn.ensures.pass
+
+pub returns-in-Some-clause-pass : goal.returns-in-Some-clause-pass
+returns-in-Some-clause-pass g c = c.release.ensures.pass
+
+pub returns-in-Some-clause-later : goal.returns-in-Some-clause-later
+returns-in-Some-clause-later g c = goes_on _ _ _ c.in-Some.ensures.later (goes_on _ _ _ c.link_node-turn.ensures.later c.release.ensures.later)
+
+pub returns-in-None-clause-pass : goal.returns-in-None-clause-pass
+returns-in-None-clause-pass g c = c.in-None.ensures.pass
+
+pub returns-in-None-clause-later : goal.returns-in-None-clause-later
+returns-in-None-clause-later g c = c.in-None.ensures.later

@@ -1,5 +1,6 @@
 -- The node, the turn, and the release.
 use Rattle.std.proofs.Common.{[], ap, inl, inr, refl, ℕ, ◌∷◌}
+use Rattle.orc_heap.proofs.Pieces.{goes_on}
 use Rattle.orc_history.specs.declared.queue.QueueEntry.TheVariants.{Put}
 use Rattle.orc_queue.proofs.Answering.{no_entries, put_stops, stops_lacking}
 use Rattle.orc_queue.proofs.Holding.{pass_known}
@@ -33,3 +34,27 @@ returns-in_default-clause-missed g c = λ is.
     let e = c.link_at_tail-turn.ensures in
     inr (full_over _ _ _ _ _ _ e.stopped.piece.own c.in-Ok.ensures.given.puts e.stopped.piece.puts c.release.ensures.released.puts known
     (g.met.L.Links.allowed _ _ c.in-Ok.ensures.pass) refl (λ alone. e.missed c.in_default.not-Put))
+
+pub link_at_tail-turn-requires-clause-pass : goal.link_at_tail-turn-requires-clause-pass
+link_at_tail-turn-requires-clause-pass g c = c.in-Ok.ensures.pass
+
+pub release-requires-clause-pass : goal.release-requires-clause-pass
+release-requires-clause-pass g c = c.link_at_tail-turn.ensures.pass
+
+pub returns-in-Err-clause-pass : goal.returns-in-Err-clause-pass
+returns-in-Err-clause-pass g c = c.in-Err.ensures.pass
+
+pub returns-in-Err-clause-later : goal.returns-in-Err-clause-later
+returns-in-Err-clause-later g c = c.in-Err.ensures.later
+
+pub returns-in-Put-clause-pass : goal.returns-in-Put-clause-pass
+returns-in-Put-clause-pass g c = c.release.ensures.pass
+
+pub returns-in-Put-clause-later : goal.returns-in-Put-clause-later
+returns-in-Put-clause-later g c = goes_on _ _ _ c.in-Ok.ensures.later (goes_on _ _ _ c.link_at_tail-turn.ensures.later c.release.ensures.later)
+
+pub returns-in_default-clause-pass : goal.returns-in_default-clause-pass
+returns-in_default-clause-pass g c = c.release.ensures.pass
+
+pub returns-in_default-clause-later : goal.returns-in_default-clause-later
+returns-in_default-clause-later g c = goes_on _ _ _ c.in-Ok.ensures.later (goes_on _ _ _ c.link_at_tail-turn.ensures.later c.release.ensures.later)

@@ -1,5 +1,6 @@
 -- By what the look of the head's link found.
 use Rattle.std.proofs.Common.{subst, sym, ℕ}
+use Rattle.orc_heap.proofs.Pieces.{goes_on}
 use Rattle.orc_heap.specs.Heap.{null}
 use Rattle.orc_heap.specs.declared.events.Place.TheVariants.{Next}
 use Rattle.orc_fifo_rule.proofs.Coming.{empty_allowed}
@@ -74,3 +75,33 @@ returns-in-Node-clause-took g c =
 
 pub returns-in-Differs-clause-took : goal.returns-in-Differs-clause-took
 returns-in-Differs-clause-took g c = behind_differs _ c.in-Differs.ensures.looked c.requires.named.linked
+
+pub same-requires-clause-pass : goal.same-requires-clause-pass
+same-requires-clause-pass g c = c.in-Nothing.ensures.pass
+
+pub release-requires-clause-pass : goal.release-requires-clause-pass
+release-requires-clause-pass g c = c.take_next-turn.ensures.pass
+
+pub returns-then-same-clause-pass : goal.returns-then-same-clause-pass
+returns-then-same-clause-pass g c = c.same.ensures.pass
+
+pub returns-then-same-clause-later : goal.returns-then-same-clause-later
+returns-then-same-clause-later g c = goes_on _ _ _ c.in-Nothing.ensures.later c.same.ensures.later
+
+pub returns-else-same-clause-pass : goal.returns-else-same-clause-pass
+returns-else-same-clause-pass g c = c.same.ensures.pass
+
+pub returns-else-same-clause-later : goal.returns-else-same-clause-later
+returns-else-same-clause-later g c = goes_on _ _ _ c.in-Nothing.ensures.later c.same.ensures.later
+
+pub returns-in-Node-clause-pass : goal.returns-in-Node-clause-pass
+returns-in-Node-clause-pass g c = c.release.ensures.pass
+
+pub returns-in-Node-clause-later : goal.returns-in-Node-clause-later
+returns-in-Node-clause-later g c = goes_on _ _ _ c.in-Node.ensures.later (goes_on _ _ _ c.take_next-turn.ensures.later c.release.ensures.later)
+
+pub returns-in-Differs-clause-pass : goal.returns-in-Differs-clause-pass
+returns-in-Differs-clause-pass g c = c.in-Differs.ensures.pass
+
+pub returns-in-Differs-clause-later : goal.returns-in-Differs-clause-later
+returns-in-Differs-clause-later g c = c.in-Differs.ensures.later

@@ -1,5 +1,6 @@
 -- The tail names the head and is helped on; or it has left the head, and the successor's job is taken, or not.
 use Rattle.std.proofs.Common.{rules, ap, arith, refl, subst, sym, ℕ, ◌∙◌}
+use Rattle.orc_heap.proofs.Pieces.{goes_on}
 use Rattle.orc_heap.proofs.ByAnswer.{Tests-found, Tests-missed}
 use Rattle.orc_heap.proofs.Pieces.{linked_not_fresh}
 use Rattle.orc_heap.specs.Allowed.{HasLink, IsLinkedNode}
@@ -116,3 +117,32 @@ returns-else-change-clause-took g c =
     past_taken n (id_in s.slots c.args.head.now) (id_in s.slots c.args.next.now) s a t _ (Tests-missed test.tested c.if-same.false).puts
     (g.met.L.Links.allowed _ _ test.pass) test.tested.slots test.tested.fresh refl refl refl (omega arith) TakeOver
     (subst (λ (z : Slots). TakesFrom n (id_in z c.args.head.now) a TakeOver t) test.tested.slots lost)
+
+pub help_tail-requires-clause-pass : goal.help_tail-requires-clause-pass
+help_tail-requires-clause-pass g c = c.same.ensures.pass
+
+pub value-job-requires-clause-pass : goal.value-job-requires-clause-pass
+value-job-requires-clause-pass g c = c.same.ensures.pass
+
+pub value-at-requires-clause-pass : goal.value-at-requires-clause-pass
+value-at-requires-clause-pass g c = c.value-job.ensures.pass
+
+pub returns-then-same-clause-pass : goal.returns-then-same-clause-pass
+returns-then-same-clause-pass g c = c.help_tail.ensures.pass
+
+pub returns-then-same-clause-later : goal.returns-then-same-clause-later
+returns-then-same-clause-later g c = goes_on _ _ _ c.same.ensures.later c.help_tail.ensures.later
+
+pub returns-then-change-clause-pass : goal.returns-then-change-clause-pass
+returns-then-change-clause-pass g c = c.change.ensures.pass
+
+pub returns-then-change-clause-later : goal.returns-then-change-clause-later
+returns-then-change-clause-later g c =
+    goes_on _ _ _ c.same.ensures.later (goes_on _ _ _ c.value-job.ensures.later (goes_on _ _ _ c.value-at.ensures.later c.change.ensures.later))
+
+pub returns-else-change-clause-pass : goal.returns-else-change-clause-pass
+returns-else-change-clause-pass g c = c.change.ensures.pass
+
+pub returns-else-change-clause-later : goal.returns-else-change-clause-later
+returns-else-change-clause-later g c =
+    goes_on _ _ _ c.same.ensures.later (goes_on _ _ _ c.value-job.ensures.later (goes_on _ _ _ c.value-at.ensures.later c.change.ensures.later))

@@ -1,5 +1,6 @@
 -- A turn: what the look of the head found, and what came of it.
 use Rattle.std.proofs.Common.{arith}
+use Rattle.orc_heap.proofs.Pieces.{goes_on}
 use Rattle.orc_heap.specs.Slots.{id_in}
 use Rattle.orc_queue.proofs.Holding.{found_free, found_kept}
 use Rattle.orc_queue.proofs.TakeTurns.{behind_kept, turn_differs, turn_found}
@@ -23,3 +24,21 @@ returns-in-Some-clause-took g c =
 
 pub returns-in-None-clause-took : goal.returns-in-None-clause-took
 returns-in-None-clause-took g c = turn_differs c.in-None.ensures.looked
+
+pub take_behind-turn-requires-clause-pass : goal.take_behind-turn-requires-clause-pass
+take_behind-turn-requires-clause-pass g c = c.in-Some.ensures.pass
+
+pub release-requires-clause-pass : goal.release-requires-clause-pass
+release-requires-clause-pass g c = c.take_behind-turn.ensures.pass
+
+pub returns-in-Some-clause-pass : goal.returns-in-Some-clause-pass
+returns-in-Some-clause-pass g c = c.release.ensures.pass
+
+pub returns-in-Some-clause-later : goal.returns-in-Some-clause-later
+returns-in-Some-clause-later g c = goes_on _ _ _ c.in-Some.ensures.later (goes_on _ _ _ c.take_behind-turn.ensures.later c.release.ensures.later)
+
+pub returns-in-None-clause-pass : goal.returns-in-None-clause-pass
+returns-in-None-clause-pass g c = c.in-None.ensures.pass
+
+pub returns-in-None-clause-later : goal.returns-in-None-clause-later
+returns-in-None-clause-later g c = c.in-None.ensures.later
