@@ -6,3 +6,6 @@ pub returns-clause-licence : goal.returns-clause-licence
 returns-clause-licence g c =
     let e = c.contains.ensures in
     again_licence _ _ _ _ _ _ _ e.later (λ from to. ⊥) (λ spent from to. ⊥) c.contains.result e.again
+
+pub returns-clause-asked : goal.returns-clause-asked
+returns-clause-asked g c = c.contains.ensures.asked
