@@ -25,3 +25,9 @@ keep-requires g c =
         subst (λ z. g.M.Machine.has_room k op z s.found) s.met.mine room,
       );
     }
+
+pub make_step-n-requires-clause-licensed : goal.make_step-n-requires-clause-licensed
+make_step-n-requires-clause-licensed g c = c.requires.licensed
+
+pub returns-clause-step : goal.returns-clause-step
+returns-clause-step g c = c.make_step-n.ensures.step
