@@ -1,5 +1,6 @@
 -- Where the turn's search begins, and what it found.
 use Rattle.std.proofs.Common.{arith, length, refl, ◌*◌, ◌+◌, ◌≤◌}
+use Rattle.orc_heap.proofs.Pieces.{goes_on}
 use Rattle.orc_ordered_search.specs.Entries.{entry_by}
 use Rattle.orc_ordered_search.proofs.Making.{found_over}
 use Rattle.orc_split_set.specs.Beginnings.{seat_before}
@@ -96,3 +97,18 @@ returns-in-From-clause-taken g c = λ removes yes has many r.
 
 pub returns-in-Moved-clause-taken : goal.returns-in-Moved-clause-taken
 returns-in-Moved-clause-taken g c = λ removes yes. cc
+
+pub call_from-requires-clause-pass : goal.call_from-requires-clause-pass
+call_from-requires-clause-pass g c = c.in-From.ensures.pass
+
+pub returns-in-Moved-clause-pass : goal.returns-in-Moved-clause-pass
+returns-in-Moved-clause-pass g c = c.in-Moved.ensures.pass
+
+pub returns-in-Moved-clause-later : goal.returns-in-Moved-clause-later
+returns-in-Moved-clause-later g c = c.in-Moved.ensures.later
+
+pub returns-in-From-clause-pass : goal.returns-in-From-clause-pass
+returns-in-From-clause-pass g c = c.call_from.ensures.pass
+
+pub returns-in-From-clause-later : goal.returns-in-From-clause-later
+returns-in-From-clause-later g c = goes_on _ _ _ c.in-From.ensures.later c.call_from.ensures.later

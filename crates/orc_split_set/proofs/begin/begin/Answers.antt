@@ -1,5 +1,6 @@
 -- The read of the size, and then the roots.
 use Rattle.std.proofs.Common.{arith, subst, sym, ◌∙◌}
+use Rattle.orc_heap.proofs.Pieces.{goes_on}
 use Rattle.orc_heap.specs.Slots.{Slots}
 use Rattle.orc_ordered_search.specs.Searches.{HasRoom}
 use Rattle.orc_split_set.proofs.Beginning.{begins_key}
@@ -52,3 +53,18 @@ returns-in-Some-clause-tries g c = λ k low.
 
 pub returns-in-None-clause-tries : goal.returns-in-None-clause-tries
 returns-in-None-clause-tries g c = λ k low. omega (arith, c.in-None.ensures.tries)
+
+pub begin_near-requires-clause-pass : goal.begin_near-requires-clause-pass
+begin_near-requires-clause-pass g c = c.in-Some.ensures.pass
+
+pub returns-in-Some-clause-pass : goal.returns-in-Some-clause-pass
+returns-in-Some-clause-pass g c = c.begin_near.ensures.pass
+
+pub returns-in-Some-clause-later : goal.returns-in-Some-clause-later
+returns-in-Some-clause-later g c = goes_on _ _ _ c.in-Some.ensures.later c.begin_near.ensures.later
+
+pub returns-in-None-clause-pass : goal.returns-in-None-clause-pass
+returns-in-None-clause-pass g c = c.in-None.ensures.pass
+
+pub returns-in-None-clause-later : goal.returns-in-None-clause-later
+returns-in-None-clause-later g c = c.in-None.ensures.later

@@ -84,3 +84,21 @@ returns-in-Stable-default-None-clause-tries g c =
 pub returns-in-Moved-clause-tries : goal.returns-in-Moved-clause-tries
 returns-in-Moved-clause-tries g c =
     look_made _ 2 _ _ _ c.in-Moved.ensures.looked
+
+pub returns-in-Stable-default-Some-clause-pass : goal.returns-in-Stable-default-Some-clause-pass
+returns-in-Stable-default-Some-clause-pass g c = c.in-Stable-default-Some.ensures.pass
+
+pub returns-in-Stable-default-Some-clause-later : goal.returns-in-Stable-default-Some-clause-later
+returns-in-Stable-default-Some-clause-later g c = c.in-Stable-default-Some.ensures.later
+
+pub returns-in-Stable-default-None-clause-pass : goal.returns-in-Stable-default-None-clause-pass
+returns-in-Stable-default-None-clause-pass g c = c.in-Stable-default-None.ensures.pass
+
+pub returns-in-Stable-default-None-clause-later : goal.returns-in-Stable-default-None-clause-later
+returns-in-Stable-default-None-clause-later g c = c.in-Stable-default-None.ensures.later
+
+pub returns-in-Moved-clause-pass : goal.returns-in-Moved-clause-pass
+returns-in-Moved-clause-pass g c = c.in-Moved.ensures.pass
+
+pub returns-in-Moved-clause-later : goal.returns-in-Moved-clause-later
+returns-in-Moved-clause-later g c = c.in-Moved.ensures.later

@@ -231,3 +231,43 @@ returns-in-Err-clause-tries g c = λ start passed s room fresh f.
     (g.met.L.Links.allowed _ _ c.in-Err.ensures.pass) in
     few_wider 4 1 1 0 4 s v (omega arith) (omega arith) (few_still 4 1 0 s u v (goes_on _ _ _ (puts_grow s t _ q) (puts_grow t u _ none))
     (c.let_all_go.ensures.gone s.slots hand).puts (few_still 4 1 0 s t u (puts_grow s t _ q) none few))
+
+pub add_node-requires-clause-pass : goal.add_node-requires-clause-pass
+add_node-requires-clause-pass g c = c.in-Ok.ensures.pass
+
+pub anchor_and_go-requires-clause-pass : goal.anchor_and_go-requires-clause-pass
+anchor_and_go-requires-clause-pass g c = c.in-Ok-true.ensures.pass
+
+pub release-requires-clause-pass : goal.release-requires-clause-pass
+release-requires-clause-pass g c = c.in-Ok-false.ensures.pass
+
+pub release-requires-in-Err-add_node-clause-pass : goal.release-requires-in-Err-add_node-clause-pass
+release-requires-in-Err-add_node-clause-pass g c = c.in-Err-add_node.ensures.pass
+
+pub let_all_go-requires-clause-pass : goal.let_all_go-requires-clause-pass
+let_all_go-requires-clause-pass g c = c.in-Err.ensures.pass
+
+pub returns-in-Ok-true-clause-pass : goal.returns-in-Ok-true-clause-pass
+returns-in-Ok-true-clause-pass g c = c.anchor_and_go.ensures.pass
+
+pub returns-in-Ok-true-clause-later : goal.returns-in-Ok-true-clause-later
+returns-in-Ok-true-clause-later g c = goes_on _ _ _ c.in-Ok.ensures.later (goes_on _ _ _ c.in-Ok-true.ensures.later c.anchor_and_go.ensures.later)
+
+pub returns-in-Ok-false-clause-pass : goal.returns-in-Ok-false-clause-pass
+returns-in-Ok-false-clause-pass g c = c.release.ensures.pass
+
+pub returns-in-Ok-false-clause-later : goal.returns-in-Ok-false-clause-later
+returns-in-Ok-false-clause-later g c = goes_on _ _ _ c.in-Ok.ensures.later (goes_on _ _ _ c.in-Ok-false.ensures.later c.release.ensures.later)
+
+pub returns-in-Err-add_node-clause-pass : goal.returns-in-Err-add_node-clause-pass
+returns-in-Err-add_node-clause-pass g c = c.release-in-Err-add_node.ensures.pass
+
+pub returns-in-Err-add_node-clause-later : goal.returns-in-Err-add_node-clause-later
+returns-in-Err-add_node-clause-later g c =
+    goes_on _ _ _ c.in-Ok.ensures.later (goes_on _ _ _ c.in-Err-add_node.ensures.later c.release-in-Err-add_node.ensures.later)
+
+pub returns-in-Err-clause-pass : goal.returns-in-Err-clause-pass
+returns-in-Err-clause-pass g c = c.let_all_go.ensures.pass
+
+pub returns-in-Err-clause-later : goal.returns-in-Err-clause-later
+returns-in-Err-clause-later g c = goes_on _ _ _ c.in-Err.ensures.later c.let_all_go.ensures.later

@@ -1,5 +1,6 @@
 -- The read of the size, and then the bucket's root.
 use Rattle.std.proofs.Common.{arith, subst, sym, ◌%◌, ◌*◌, ◌+◌, ◌<◌, ◌∙◌, ℕ}
+use Rattle.orc_heap.proofs.Pieces.{goes_on}
 use Rattle.orc_split_rule.specs.SplitDiscipline.{greatest}
 use Rattle.orc_heap.specs.Seats.{heap_of}
 use Rattle.orc_split_set.specs.Looks.{HasStart, LoadsFew, root_loads}
@@ -96,3 +97,18 @@ returns-in-None-clause-tries g c = λ k low.
     let e = c.in-None.ensures in
     few_short (6 + 2 * k) 2 6 s t e.read.quiet.puts.agent
     (seen_on g.L.Links g.met.L.Links.steps_add g.met.L.Links.seen_is c.args.links.now c.args.p.now c.read_size.new.p c.requires.pass e.pass e.later) e.tries (omega arith)
+
+pub root_bucket-requires-clause-pass : goal.root_bucket-requires-clause-pass
+root_bucket-requires-clause-pass g c = c.in-Some.ensures.pass
+
+pub returns-in-Some-clause-pass : goal.returns-in-Some-clause-pass
+returns-in-Some-clause-pass g c = c.root_bucket.ensures.pass
+
+pub returns-in-Some-clause-later : goal.returns-in-Some-clause-later
+returns-in-Some-clause-later g c = goes_on _ _ _ c.in-Some.ensures.later c.root_bucket.ensures.later
+
+pub returns-in-None-clause-pass : goal.returns-in-None-clause-pass
+returns-in-None-clause-pass g c = c.in-None.ensures.pass
+
+pub returns-in-None-clause-later : goal.returns-in-None-clause-later
+returns-in-None-clause-later g c = c.in-None.ensures.later

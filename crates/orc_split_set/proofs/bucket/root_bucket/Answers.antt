@@ -1,5 +1,6 @@
 -- By what the look of the bucket's root found.
 use Rattle.std.proofs.Common.{arith, refl, ◌*◌, ◌+◌, ◌≤◌}
+use Rattle.orc_heap.proofs.Pieces.{goes_on}
 use Rattle.orc_ordered_search.proofs.Held.{release_goes}
 use Rattle.orc_split_set.specs.Looks.{root_loads}
 use Rattle.orc_split_set.proofs.Crowding.{own_not_moved, own_sooner}
@@ -126,3 +127,27 @@ returns-in-Moved-clause-tries g c = λ k low.
     let t = g.L.Links.seat c.args.links.now c.look.new.p in
     let looks = c.in-Moved.ensures.looked in
     few_short (4 + 2 * k) 2 6 s t (look_agent c.args.bucket _ _ _ looks) (look_grows c.args.bucket _ _ _ looks) (look_made _ 2 _ _ _ looks) (omega arith)
+
+pub release-requires-clause-pass : goal.release-requires-clause-pass
+release-requires-clause-pass g c = c.in-Stable-default-Some.ensures.pass
+
+pub root_near-requires-clause-pass : goal.root_near-requires-clause-pass
+root_near-requires-clause-pass g c = c.in-Stable-default-None.ensures.pass
+
+pub returns-in-Stable-default-Some-clause-pass : goal.returns-in-Stable-default-Some-clause-pass
+returns-in-Stable-default-Some-clause-pass g c = c.release.ensures.pass
+
+pub returns-in-Stable-default-Some-clause-later : goal.returns-in-Stable-default-Some-clause-later
+returns-in-Stable-default-Some-clause-later g c = goes_on _ _ _ c.in-Stable-default-Some.ensures.later c.release.ensures.later
+
+pub returns-in-Stable-default-None-clause-pass : goal.returns-in-Stable-default-None-clause-pass
+returns-in-Stable-default-None-clause-pass g c = c.root_near.ensures.pass
+
+pub returns-in-Stable-default-None-clause-later : goal.returns-in-Stable-default-None-clause-later
+returns-in-Stable-default-None-clause-later g c = goes_on _ _ _ c.in-Stable-default-None.ensures.later c.root_near.ensures.later
+
+pub returns-in-Moved-clause-pass : goal.returns-in-Moved-clause-pass
+returns-in-Moved-clause-pass g c = c.in-Moved.ensures.pass
+
+pub returns-in-Moved-clause-later : goal.returns-in-Moved-clause-later
+returns-in-Moved-clause-later g c = c.in-Moved.ensures.later

@@ -112,3 +112,30 @@ returns-in-Present-clause-tries g c =
     (present_few (split_reading _) start (dummy_place c.args.bucket) x.passed x.left x.first x.node x.next s t f) (omega arith)) in
     few_wider 4 1 1 1 4 t0 v (omega arith) (omega arith) (few_still 4 1 1 t0 u v (goes_on _ _ _ sooner next) (c.let_all_go.ensures.gone s.slots hand).puts
     (few_ended 4 0 1 t0 t u sooner e.anchored.tried.puts.agent next e.tries few))
+
+pub add_dummy-requires-clause-pass : goal.add_dummy-requires-clause-pass
+add_dummy-requires-clause-pass g c = c.in-Absent.ensures.pass
+
+pub anchor-anchored-requires-clause-pass : goal.anchor-anchored-requires-clause-pass
+anchor-anchored-requires-clause-pass g c = c.in-Present.ensures.pass
+
+pub let_all_go-requires-clause-pass : goal.let_all_go-requires-clause-pass
+let_all_go-requires-clause-pass g c = c.anchor-anchored.ensures.pass
+
+pub returns-in-Over-clause-pass : goal.returns-in-Over-clause-pass
+returns-in-Over-clause-pass g c = c.in-Over.ensures.pass
+
+pub returns-in-Over-clause-later : goal.returns-in-Over-clause-later
+returns-in-Over-clause-later g c = c.in-Over.ensures.later
+
+pub returns-in-Absent-clause-pass : goal.returns-in-Absent-clause-pass
+returns-in-Absent-clause-pass g c = c.add_dummy.ensures.pass
+
+pub returns-in-Absent-clause-later : goal.returns-in-Absent-clause-later
+returns-in-Absent-clause-later g c = goes_on _ _ _ c.in-Absent.ensures.later c.add_dummy.ensures.later
+
+pub returns-in-Present-clause-pass : goal.returns-in-Present-clause-pass
+returns-in-Present-clause-pass g c = c.let_all_go.ensures.pass
+
+pub returns-in-Present-clause-later : goal.returns-in-Present-clause-later
+returns-in-Present-clause-later g c = goes_on _ _ _ c.in-Present.ensures.later (goes_on _ _ _ c.anchor-anchored.ensures.later c.let_all_go.ensures.later)

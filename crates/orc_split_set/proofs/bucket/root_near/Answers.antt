@@ -1,5 +1,6 @@
 -- Where the search for the dummy begins, and what it found.
 use Rattle.std.proofs.Common.{arith, refl, subst, sym, ◌*◌, ◌+◌, ◌∙◌}
+use Rattle.orc_heap.proofs.Pieces.{goes_on}
 use Rattle.orc_heap.specs.Slots.{Slots}
 use Rattle.orc_ordered_search.specs.Searches.{HasRoom}
 use Rattle.orc_ordered_search.proofs.Inserting.{idle_room}
@@ -64,3 +65,18 @@ returns-in-From-clause-tries g c = λ k low.
     let on = seen_on g.L.Links g.met.L.Links.steps_add g.met.L.Links.seen_is c.args.links.now in
     few_begun 4 (2 * k) (4 + 2 * k) 4 s t u e.agent (on c.args.p.now c.begin_near.new.p c.requires.pass e.pass e.later)
     (on c.begin_near.new.p c.root_from.new.p e.pass f.pass f.later) (e.tries k (omega (arith, c.size_within.ensures.within, low))) f.tries (omega arith)
+
+pub root_from-requires-clause-pass : goal.root_from-requires-clause-pass
+root_from-requires-clause-pass g c = c.in-From.ensures.pass
+
+pub returns-in-Moved-clause-pass : goal.returns-in-Moved-clause-pass
+returns-in-Moved-clause-pass g c = c.in-Moved.ensures.pass
+
+pub returns-in-Moved-clause-later : goal.returns-in-Moved-clause-later
+returns-in-Moved-clause-later g c = c.in-Moved.ensures.later
+
+pub returns-in-From-clause-pass : goal.returns-in-From-clause-pass
+returns-in-From-clause-pass g c = c.root_from.ensures.pass
+
+pub returns-in-From-clause-later : goal.returns-in-From-clause-later
+returns-in-From-clause-later g c = goes_on _ _ _ c.in-From.ensures.later c.root_from.ensures.later

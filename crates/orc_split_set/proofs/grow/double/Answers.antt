@@ -1,5 +1,6 @@
 -- With a new size node, or without one, or where there would be too many buckets.
 use Rattle.std.proofs.Common.{Option, Some, [], ap, append-nil, arith, refl, subst, sym, ℕ, ◌*◌, ◌∙◌, ◌≡◌}
+use Rattle.orc_heap.proofs.Pieces.{goes_on}
 use Rattle.orc_heap.proofs.Hands.{holds_of}
 use Rattle.orc_heap.specs.Calls.{Gives}
 use Rattle.orc_heap.specs.Heap.{link_to}
@@ -133,3 +134,21 @@ returns-in-Ok-clause-tries g c =
 pub returns-in-Err-clause-tries : goal.returns-in-Err-clause-tries
 returns-in-Err-clause-tries g c =
     made_most 4 _ _ [] c.in-Err.ensures.none.puts (omega arith)
+
+pub swing-swung-requires-clause-pass : goal.swing-swung-requires-clause-pass
+swing-swung-requires-clause-pass g c = c.in-Ok.ensures.pass
+
+pub release-requires-clause-pass : goal.release-requires-clause-pass
+release-requires-clause-pass g c = c.swing-swung.ensures.pass
+
+pub returns-in-Ok-clause-pass : goal.returns-in-Ok-clause-pass
+returns-in-Ok-clause-pass g c = c.release.ensures.pass
+
+pub returns-in-Ok-clause-later : goal.returns-in-Ok-clause-later
+returns-in-Ok-clause-later g c = goes_on _ _ _ c.in-Ok.ensures.later (goes_on _ _ _ c.swing-swung.ensures.later c.release.ensures.later)
+
+pub returns-in-Err-clause-pass : goal.returns-in-Err-clause-pass
+returns-in-Err-clause-pass g c = c.in-Err.ensures.pass
+
+pub returns-in-Err-clause-later : goal.returns-in-Err-clause-later
+returns-in-Err-clause-later g c = c.in-Err.ensures.later

@@ -1,5 +1,6 @@
 -- The read of the old size, a try to double it, and the old node's release.
 use Rattle.std.proofs.Common.{Option, Some, [], ap, arith, subst, sym, ℕ, ◌∙◌, ◌≡◌}
+use Rattle.orc_heap.proofs.Pieces.{goes_on}
 use Rattle.orc_heap.proofs.Hands.{holds_of}
 use Rattle.orc_heap.specs.Heap.{shown}
 use Rattle.orc_heap.specs.Journals.{run_heap}
@@ -85,3 +86,15 @@ returns-clause-tries g c =
       c.double-doubled.ensures.tries,
       made_most 0 _ _ [] c.let_go.ensures.let_go.puts (omega arith),
     )
+
+pub double-doubled-requires-clause-pass : goal.double-doubled-requires-clause-pass
+double-doubled-requires-clause-pass g c = c.value-size.ensures.pass
+
+pub let_go-requires-clause-pass : goal.let_go-requires-clause-pass
+let_go-requires-clause-pass g c = c.double-doubled.ensures.pass
+
+pub returns-clause-pass : goal.returns-clause-pass
+returns-clause-pass g c = c.let_go.ensures.pass
+
+pub returns-clause-later : goal.returns-clause-later
+returns-clause-later g c = goes_on _ _ _ c.value-size.ensures.later (goes_on _ _ _ c.double-doubled.ensures.later c.let_go.ensures.later)

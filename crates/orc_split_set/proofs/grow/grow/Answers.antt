@@ -1,5 +1,6 @@
 -- By what the look of the size's root found.
 use Rattle.std.proofs.Common.{None, Option, Some, [], ap, arith, subst, sym, ℕ, ◌∙◌, ◌≡◌, ◌≤◌}
+use Rattle.orc_heap.proofs.Pieces.{goes_on}
 use Rattle.orc_heap.proofs.Hands.{hand_held, holds_of}
 use Rattle.orc_heap.specs.Calls.{Looks}
 use Rattle.orc_heap.specs.Slots.{IsFree, Slots, id_in}
@@ -132,3 +133,27 @@ returns-in-Stable-default-None-clause-tries g c =
 pub returns-in-Moved-clause-tries : goal.returns-in-Moved-clause-tries
 returns-in-Moved-clause-tries g c =
     omega (arith, look_made _ 2 _ _ _ c.in-Moved.ensures.looked)
+
+pub double_held-requires-clause-pass : goal.double_held-requires-clause-pass
+double_held-requires-clause-pass g c = c.in-Stable-default-Some.ensures.pass
+
+pub double-requires-clause-pass : goal.double-requires-clause-pass
+double-requires-clause-pass g c = c.in-Stable-default-None.ensures.pass
+
+pub returns-in-Stable-default-Some-clause-pass : goal.returns-in-Stable-default-Some-clause-pass
+returns-in-Stable-default-Some-clause-pass g c = c.double_held.ensures.pass
+
+pub returns-in-Stable-default-Some-clause-later : goal.returns-in-Stable-default-Some-clause-later
+returns-in-Stable-default-Some-clause-later g c = goes_on _ _ _ c.in-Stable-default-Some.ensures.later c.double_held.ensures.later
+
+pub returns-in-Stable-default-None-clause-pass : goal.returns-in-Stable-default-None-clause-pass
+returns-in-Stable-default-None-clause-pass g c = c.double.ensures.pass
+
+pub returns-in-Stable-default-None-clause-later : goal.returns-in-Stable-default-None-clause-later
+returns-in-Stable-default-None-clause-later g c = goes_on _ _ _ c.in-Stable-default-None.ensures.later c.double.ensures.later
+
+pub returns-in-Moved-clause-pass : goal.returns-in-Moved-clause-pass
+returns-in-Moved-clause-pass g c = c.in-Moved.ensures.pass
+
+pub returns-in-Moved-clause-later : goal.returns-in-Moved-clause-later
+returns-in-Moved-clause-later g c = c.in-Moved.ensures.later

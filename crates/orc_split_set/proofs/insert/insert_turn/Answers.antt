@@ -1,8 +1,10 @@
 -- Where the turn's search begins, and what it found.
-use Rattle.std.proofs.Common.{arith, refl, subst, ◌*◌, ◌+◌}
+use Rattle.std.proofs.Common.{arith, refl, subst, ◌*◌, ◌+◌, ◌≡◌}
+use Rattle.orc_heap.proofs.Pieces.{goes_on}
 use Rattle.orc_history.specs.declared.set.SetEntry.TheVariants.{Added}
 use Rattle.orc_ordered_search.specs.Inserts.{Inserts}
 use Rattle.orc_ordered_search.specs.declared.turn.InsertTurn.{InsertTurn}
+use Rattle.orc_ordered_search.specs.declared.turn.InsertTurn.TheVariants.{NoNode, Over}
 use Rattle.orc_ordered_search.proofs.Inserting.{has_room, keeps_on}
 use Rattle.orc_ordered_search.proofs.Making.{found_over}
 use Rattle.orc_heap.specs.Moves.{gives_in}
@@ -19,6 +21,10 @@ use Rattle.orc_split_set.proofs.Ordered.{split_ordering}
 use Rattle.orc_split_set.proofs.Passes.{seen_on}
 use Rattle.orc_split_set.proofs.FewEvents.{few_begun_giving, few_short}
 use Rattle.orc_split_set.proofs.insert.insert_turn.Goals as goal
+
+-- a turn that is over lacks no node
+over_lacks : Over ≡ NoNode → ⊥
+over_lacks is = cc
 
 pub begin-requires-clause-room : goal.begin-requires-clause-room
 begin-requires-clause-room g c =
@@ -110,6 +116,12 @@ returns-in-From-clause-absent g c = λ is.
     (seat_before s t) turn c.insert_from.result.1 u) is (e.inserted b.start slots (seat_before s t) room kept b.begins) in
     absent_next (split_ordering n) (key_place c.args.key) s (seat_before s t) u b.own b.quiet.puts ends.0 ends.1.made.puts (e.absent b.start slots (seat_before s t) room kept b.begins is)
 
+pub returns-in-Moved-clause-absent : goal.returns-in-Moved-clause-absent
+returns-in-Moved-clause-absent g c = λ is. absurd (over_lacks is)
+
+pub returns-in-Moved-clause-lacking : goal.returns-in-Moved-clause-lacking
+returns-in-Moved-clause-lacking g c = λ is. absurd (over_lacks is)
+
 pub returns-in-Moved-clause-tries : goal.returns-in-Moved-clause-tries
 returns-in-Moved-clause-tries g c = λ k low.
     let s = g.L.Links.seat c.args.links.now c.args.p.now in
@@ -128,3 +140,18 @@ returns-in-From-clause-tries g c = λ k low.
     let on = seen_on g.L.Links g.met.L.Links.steps_add g.met.L.Links.seen_is c.args.links.now in
     few_begun_giving (2 + 2 * k) (6 + 2 * k) s t u e.agent (on c.args.p.now c.begin.new.p c.requires.pass e.pass e.later)
     (on c.begin.new.p c.insert_from.new.p e.pass f.pass f.later) (e.tries k low) f.tries (omega arith)
+
+pub insert_from-requires-clause-pass : goal.insert_from-requires-clause-pass
+insert_from-requires-clause-pass g c = c.in-From.ensures.pass
+
+pub returns-in-Moved-clause-pass : goal.returns-in-Moved-clause-pass
+returns-in-Moved-clause-pass g c = c.in-Moved.ensures.pass
+
+pub returns-in-Moved-clause-later : goal.returns-in-Moved-clause-later
+returns-in-Moved-clause-later g c = c.in-Moved.ensures.later
+
+pub returns-in-From-clause-pass : goal.returns-in-From-clause-pass
+returns-in-From-clause-pass g c = c.insert_from.ensures.pass
+
+pub returns-in-From-clause-later : goal.returns-in-From-clause-later
+returns-in-From-clause-later g c = goes_on _ _ _ c.in-From.ensures.later c.insert_from.ensures.later

@@ -1,5 +1,6 @@
 -- By what the look of the size's root found.
 use Rattle.std.proofs.Common.{[], ap, arith, subst, ◌≤◌, ℕ}
+use Rattle.orc_heap.proofs.Pieces.{goes_on}
 use Rattle.orc_heap.specs.declared.events.Place.TheVariants.{Root}
 use Rattle.orc_ordered_search.proofs.Ranking.{looks_from}
 use Rattle.orc_split_set.proofs.RootLooks.{look_moved}
@@ -69,3 +70,28 @@ returns-in-Stable-default-None-clause-tries g c =
     let looks = looks_none c.args.most 2 x.field-0 x.field-1 _ _ x.field-1-is x.ensures.looked in
     let (null, slots, puts) = looks.tells in
     made_most 2 _ _ _ puts (omega arith)
+
+pub value-size-requires-clause-pass : goal.value-size-requires-clause-pass
+value-size-requires-clause-pass g c = c.in-Stable-default-Some.ensures.pass
+
+pub release-requires-clause-pass : goal.release-requires-clause-pass
+release-requires-clause-pass g c = c.value-size.ensures.pass
+
+pub returns-in-Stable-default-Some-clause-pass : goal.returns-in-Stable-default-Some-clause-pass
+returns-in-Stable-default-Some-clause-pass g c = c.release.ensures.pass
+
+pub returns-in-Stable-default-Some-clause-later : goal.returns-in-Stable-default-Some-clause-later
+returns-in-Stable-default-Some-clause-later g c =
+    goes_on _ _ _ c.in-Stable-default-Some.ensures.later (goes_on _ _ _ c.value-size.ensures.later c.release.ensures.later)
+
+pub returns-in-Stable-default-None-clause-pass : goal.returns-in-Stable-default-None-clause-pass
+returns-in-Stable-default-None-clause-pass g c = c.in-Stable-default-None.ensures.pass
+
+pub returns-in-Stable-default-None-clause-later : goal.returns-in-Stable-default-None-clause-later
+returns-in-Stable-default-None-clause-later g c = c.in-Stable-default-None.ensures.later
+
+pub returns-in-Moved-clause-pass : goal.returns-in-Moved-clause-pass
+returns-in-Moved-clause-pass g c = c.in-Moved.ensures.pass
+
+pub returns-in-Moved-clause-later : goal.returns-in-Moved-clause-later
+returns-in-Moved-clause-later g c = c.in-Moved.ensures.later

@@ -165,3 +165,43 @@ returns-in-Present-clause-stopped g c =
     let hand = present_hand (split_ordering _) (Root 0) (dummy_place c.args.bucket) x.passed x.left x.first s _ x.node x.next f in
     found_stops _ c.args.bucket (Root 0) x.passed x.left x.first x.node x.next s _ _ f (c.let_all_go-in-Present.ensures.gone s.slots hand) c.requires.idle.fresh
     (g.met.L.Links.allowed _ _ c.let_all_go-in-Present.ensures.pass)
+
+pub give-requires-clause-pass : goal.give-requires-clause-pass
+give-requires-clause-pass g c = c.in-Absent.ensures.pass
+
+pub add_node-done-requires-clause-pass : goal.add_node-done-requires-clause-pass
+add_node-done-requires-clause-pass g c = c.in-Ok.ensures.pass
+
+pub release-requires-clause-pass : goal.release-requires-clause-pass
+release-requires-clause-pass g c = c.add_node-done.ensures.pass
+
+pub let_all_go-requires-clause-pass : goal.let_all_go-requires-clause-pass
+let_all_go-requires-clause-pass g c = c.in-Err.ensures.pass
+
+pub let_all_go-requires-in-Present-clause-pass : goal.let_all_go-requires-in-Present-clause-pass
+let_all_go-requires-in-Present-clause-pass g c = c.in-Present.ensures.pass
+
+pub returns-in-Over-clause-pass : goal.returns-in-Over-clause-pass
+returns-in-Over-clause-pass g c = c.in-Over.ensures.pass
+
+pub returns-in-Over-clause-later : goal.returns-in-Over-clause-later
+returns-in-Over-clause-later g c = c.in-Over.ensures.later
+
+pub returns-in-Ok-clause-pass : goal.returns-in-Ok-clause-pass
+returns-in-Ok-clause-pass g c = c.release.ensures.pass
+
+pub returns-in-Ok-clause-later : goal.returns-in-Ok-clause-later
+returns-in-Ok-clause-later g c =
+    goes_on _ _ _ c.in-Absent.ensures.later (goes_on _ _ _ c.in-Ok.ensures.later (goes_on _ _ _ c.add_node-done.ensures.later c.release.ensures.later))
+
+pub returns-in-Err-clause-pass : goal.returns-in-Err-clause-pass
+returns-in-Err-clause-pass g c = c.let_all_go.ensures.pass
+
+pub returns-in-Err-clause-later : goal.returns-in-Err-clause-later
+returns-in-Err-clause-later g c = goes_on _ _ _ c.in-Absent.ensures.later (goes_on _ _ _ c.in-Err.ensures.later c.let_all_go.ensures.later)
+
+pub returns-in-Present-clause-pass : goal.returns-in-Present-clause-pass
+returns-in-Present-clause-pass g c = c.let_all_go-in-Present.ensures.pass
+
+pub returns-in-Present-clause-later : goal.returns-in-Present-clause-later
+returns-in-Present-clause-later g c = goes_on _ _ _ c.in-Present.ensures.later c.let_all_go-in-Present.ensures.later
