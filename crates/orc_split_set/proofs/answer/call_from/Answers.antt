@@ -1,5 +1,6 @@
 -- By what the search found.
 use Rattle.std.proofs.Common.{refl}
+use Rattle.orc_heap.proofs.Pieces.{goes_on}
 use Rattle.orc_split_set.proofs.Crowding.{seen_grows}
 use Rattle.orc_split_set.proofs.Looking.{found_few, taken_few, taken_steps}
 use Rattle.orc_ordered_search.specs.Entries.{entry_by}
@@ -55,3 +56,12 @@ returns-clause-taken g c = λ removes yes start s room b nodes to path ends.
     let took = e.taken start s (x.found start s room b) removes yes in
     taken_few (g.L.Links.numbers d) start c.args.key s t u (g.met.L.Links.allowed d c.search_for-found.new.p x.pass) grows nodes to path ends
     took.passed took.left took.first took.node took.next took.finds (taken_steps _ _ _ _ _ _ _ _ t u took.takes)
+
+pub answer_found-requires-clause-pass : goal.answer_found-requires-clause-pass
+answer_found-requires-clause-pass g c = c.search_for-found.ensures.pass
+
+pub returns-clause-pass : goal.returns-clause-pass
+returns-clause-pass g c = c.answer_found.ensures.pass
+
+pub returns-clause-later : goal.returns-clause-later
+returns-clause-later g c = goes_on _ _ _ c.search_for-found.ensures.later c.answer_found.ensures.later

@@ -1,5 +1,6 @@
 -- The swing of the bucket's root, and the dummy's release.
 use Rattle.std.proofs.Common.{[], append-nil, arith, refl, subst, sym}
+use Rattle.orc_heap.proofs.Pieces.{goes_on}
 use Rattle.orc_heap.specs.Slots.{Holds, Slots}
 use Rattle.orc_ordered_search.proofs.Held.{release_goes}
 use Rattle.orc_split_set.proofs.Telling.{told_wider}
@@ -28,3 +29,12 @@ returns-clause-told g c =
 pub returns-clause-tries : goal.returns-clause-tries
 returns-clause-tries g c =
     omega (arith, c.anchor-anchored.ensures.tries, made_most 0 _ _ [] c.release.ensures.released.puts (omega arith))
+
+pub release-requires-clause-pass : goal.release-requires-clause-pass
+release-requires-clause-pass g c = c.anchor-anchored.ensures.pass
+
+pub returns-clause-pass : goal.returns-clause-pass
+returns-clause-pass g c = c.release.ensures.pass
+
+pub returns-clause-later : goal.returns-clause-later
+returns-clause-later g c = goes_on _ _ _ c.anchor-anchored.ensures.later c.release.ensures.later

@@ -1,5 +1,6 @@
 -- By what the search found.
 use Rattle.std.proofs.Common.{refl, subst}
+use Rattle.orc_heap.proofs.Pieces.{goes_on}
 use Rattle.orc_heap.proofs.Parting.{part_of_later}
 use Rattle.orc_heap.specs.Seats.{Seat}
 use Rattle.orc_heap.specs.Slots.{Slots}
@@ -105,3 +106,12 @@ returns-clause-tries g c =
     few_given s (g.L.Links.seat d c.args.p.now) u b.begins.seen b.begins.agent
     (inserts_agent (split_reading (g.L.Links.numbers d)) c.args.key 1 (λ yes. Added s.agent c.args.key yes) slots c.args.node c.insert_found.result.1 s u
     c.insert_found.result.0 (f.inserted a)) (f.few a)
+
+pub insert_found-requires-clause-pass : goal.insert_found-requires-clause-pass
+insert_found-requires-clause-pass g c = c.search_for-found.ensures.pass
+
+pub returns-clause-pass : goal.returns-clause-pass
+returns-clause-pass g c = c.insert_found.ensures.pass
+
+pub returns-clause-later : goal.returns-clause-later
+returns-clause-later g c = goes_on _ _ _ c.search_for-found.ensures.later c.insert_found.ensures.later

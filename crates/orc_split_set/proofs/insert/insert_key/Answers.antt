@@ -4,6 +4,7 @@ use Rattle.orc_history.specs.declared.set.SetEntry.TheVariants.{Added}
 use Rattle.orc_ordered_search.specs.Inserts.{InsertsTurns}
 use Rattle.orc_ordered_search.specs.declared.turn.InsertTurn.{InsertTurn}
 use Rattle.orc_ordered_search.proofs.Inserting.{ends_held, ends_of, idle_room, turns_answer}
+use Rattle.orc_heap.proofs.Pieces.{goes_on}
 use Rattle.orc_heap.proofs.Parting.{part_goes_on}
 use Rattle.orc_split_set.specs.SplitSearches.{split_reading}
 use Rattle.orc_ordered_search.proofs.Absent.{absent_still}
@@ -86,3 +87,12 @@ returns-clause-tries g c = λ k low.
     let e = c.insert_turns-turn.ensures in
     few_still_giving (6 + 2 * k) c.args.turns s t u
     (seen_on g.L.Links g.met.L.Links.steps_add g.met.L.Links.seen_is c.args.links.now c.args.p.now c.insert_turns-turn.new.p c.requires.pass e.pass e.later) c.let_go.ensures.let_go.puts (e.tries k low)
+
+pub let_go-requires-clause-pass : goal.let_go-requires-clause-pass
+let_go-requires-clause-pass g c = c.insert_turns-turn.ensures.pass
+
+pub returns-clause-pass : goal.returns-clause-pass
+returns-clause-pass g c = c.let_go.ensures.pass
+
+pub returns-clause-later : goal.returns-clause-later
+returns-clause-later g c = goes_on _ _ _ c.insert_turns-turn.ensures.later c.let_go.ensures.later
