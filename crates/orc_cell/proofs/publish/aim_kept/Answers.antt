@@ -98,3 +98,23 @@ returns-in-Err-clause-tries g c =
       c.aim_half-aimed.ensures.tries,
       made c.release.ensures.released.puts,
     )
+
+pub value-value-requires-clause-pass : goal.value-value-requires-clause-pass
+value-value-requires-clause-pass g c = c.hold_half-part.ensures.pass
+
+pub release-requires-clause-pass : goal.release-requires-clause-pass
+release-requires-clause-pass g c = c.aim_half-aimed.ensures.pass
+
+pub returns-in-Ok-clause-pass : goal.returns-in-Ok-clause-pass
+returns-in-Ok-clause-pass g c = c.release.ensures.pass
+
+pub returns-in-Ok-clause-later : goal.returns-in-Ok-clause-later
+returns-in-Ok-clause-later g c =
+    goes_on _ _ _ c.hold_half-part.ensures.later (goes_on _ _ _ c.value-value.ensures.later (goes_on _ _ _ c.aim_half-aimed.ensures.later c.release.ensures.later))
+
+pub returns-in-Err-clause-pass : goal.returns-in-Err-clause-pass
+returns-in-Err-clause-pass g c = c.release.ensures.pass
+
+pub returns-in-Err-clause-later : goal.returns-in-Err-clause-later
+returns-in-Err-clause-later g c =
+    goes_on _ _ _ c.hold_half-part.ensures.later (goes_on _ _ _ c.value-value.ensures.later (goes_on _ _ _ c.aim_half-aimed.ensures.later c.release.ensures.later))

@@ -1,5 +1,6 @@
 -- Both parts are read, and then confirmed.
 use Rattle.std.proofs.Common.{[], subst, sym, ◌∙◌}
+use Rattle.orc_heap.proofs.Pieces.{goes_on}
 use Rattle.orc_heap.specs.Seats.{heap_of}
 use Rattle.orc_heap.specs.Slots.{Holds, IsFree, Slots, id_in}
 use Rattle.orc_heap.specs.Heap.{link_to}
@@ -94,3 +95,15 @@ returns-else-confirm-clause-read g c =
     let at = goal.at.returns-else-confirm-clause-read g c in
     left_pair _ _ _ _ _ _ _ _ c.if-confirm.false (so_far g at.After-read_part-right) (said g at.After-confirm)
     (g.met.L.Links.allowed _ _ c.read_part-right.ensures.pass) (g.met.L.Links.allowed _ _ c.confirm.ensures.pass)
+
+pub returns-then-confirm-clause-pass : goal.returns-then-confirm-clause-pass
+returns-then-confirm-clause-pass g c = c.confirm.ensures.pass
+
+pub returns-then-confirm-clause-later : goal.returns-then-confirm-clause-later
+returns-then-confirm-clause-later g c = goes_on _ _ _ c.read_part-left.ensures.later (goes_on _ _ _ c.read_part-right.ensures.later c.confirm.ensures.later)
+
+pub returns-else-confirm-clause-pass : goal.returns-else-confirm-clause-pass
+returns-else-confirm-clause-pass g c = c.confirm.ensures.pass
+
+pub returns-else-confirm-clause-later : goal.returns-else-confirm-clause-later
+returns-else-confirm-clause-later g c = goes_on _ _ _ c.read_part-left.ensures.later (goes_on _ _ _ c.read_part-right.ensures.later c.confirm.ensures.later)

@@ -1,5 +1,6 @@
 -- What the look of root 0 found, and what came of it.
 use Rattle.std.proofs.Common.{arith, refl, subst, sym}
+use Rattle.orc_heap.proofs.Pieces.{goes_on}
 use Rattle.orc_heap.proofs.ByAnswer.{Looks-held, Looks-null}
 use Rattle.orc_heap.proofs.Pieces.{slot_free, slot_holds, slot_id}
 use Rattle.orc_heap.specs.Heap.{null}
@@ -112,3 +113,34 @@ returns-else-confirm-clause-tries g c = omega (arith, looked_few c.in-Stable-def
 
 pub returns-in-Moved-clause-tries : goal.returns-in-Moved-clause-tries
 returns-in-Moved-clause-tries g c = omega (arith, looked_few c.in-Moved.ensures.looked)
+
+pub release-requires-clause-pass : goal.release-requires-clause-pass
+release-requires-clause-pass g c = c.read_pair-parts.ensures.pass
+
+pub confirm-requires-clause-pass : goal.confirm-requires-clause-pass
+confirm-requires-clause-pass g c = c.in-Stable-default-None.ensures.pass
+
+pub returns-in-Stable-default-Some-clause-pass : goal.returns-in-Stable-default-Some-clause-pass
+returns-in-Stable-default-Some-clause-pass g c = c.release.ensures.pass
+
+pub returns-in-Stable-default-Some-clause-later : goal.returns-in-Stable-default-Some-clause-later
+returns-in-Stable-default-Some-clause-later g c =
+    goes_on _ _ _ c.in-Stable-default-Some.ensures.later (goes_on _ _ _ c.read_pair-parts.ensures.later c.release.ensures.later)
+
+pub returns-then-confirm-clause-pass : goal.returns-then-confirm-clause-pass
+returns-then-confirm-clause-pass g c = c.confirm.ensures.pass
+
+pub returns-then-confirm-clause-later : goal.returns-then-confirm-clause-later
+returns-then-confirm-clause-later g c = goes_on _ _ _ c.in-Stable-default-None.ensures.later c.confirm.ensures.later
+
+pub returns-else-confirm-clause-pass : goal.returns-else-confirm-clause-pass
+returns-else-confirm-clause-pass g c = c.confirm.ensures.pass
+
+pub returns-else-confirm-clause-later : goal.returns-else-confirm-clause-later
+returns-else-confirm-clause-later g c = goes_on _ _ _ c.in-Stable-default-None.ensures.later c.confirm.ensures.later
+
+pub returns-in-Moved-clause-pass : goal.returns-in-Moved-clause-pass
+returns-in-Moved-clause-pass g c = c.in-Moved.ensures.pass
+
+pub returns-in-Moved-clause-later : goal.returns-in-Moved-clause-later
+returns-in-Moved-clause-later g c = c.in-Moved.ensures.later

@@ -1,5 +1,6 @@
 -- The left part is made ready, and let go at the end.
 use Rattle.std.proofs.Common.{ap, arith, inl, inr, subst, sym, ℕ, ◌*◌, ◌+◌, ◌∙◌, ◌≢◌}
+use Rattle.orc_heap.proofs.Pieces.{goes_on}
 use Rattle.orc_cell.specs.Publishes.{SideHeld, given_of, nodes_for}
 use Rattle.orc_cell.proofs.Answering.{answers_join, caused_call, pair_lacking, ready_agent, ready_fresh, ready_held, ready_null, ready_published, ready_slot, ready_answered}
 use Rattle.orc_cell.proofs.Counting.{made}
@@ -70,3 +71,15 @@ returns-in-Err-clause-tries g c = omega (arith, made c.in-Err.ensures.none.puts)
 pub returns-clause-tries : goal.returns-clause-tries
 returns-clause-tries g c =
     rw (← c.in-Ok.ensures.given) (omega (arith, c.in-Ok.ensures.tries, c.publish_right-answer.ensures.tries, c.let_go.ensures.tries))
+
+pub returns-in-Err-clause-pass : goal.returns-in-Err-clause-pass
+returns-in-Err-clause-pass g c = c.in-Err.ensures.pass
+
+pub returns-in-Err-clause-later : goal.returns-in-Err-clause-later
+returns-in-Err-clause-later g c = c.in-Err.ensures.later
+
+pub returns-clause-pass : goal.returns-clause-pass
+returns-clause-pass g c = c.let_go.ensures.pass
+
+pub returns-clause-later : goal.returns-clause-later
+returns-clause-later g c = goes_on _ _ _ c.in-Ok.ensures.later (goes_on _ _ _ c.publish_right-answer.ensures.later c.let_go.ensures.later)

@@ -1,5 +1,6 @@
 -- The pair is given, published and let go.
 use Rattle.std.proofs.Common.{arith, inl, inr, refl, subst, sym}
+use Rattle.orc_heap.proofs.Pieces.{goes_on}
 use Rattle.orc_heap.specs.Slots.{Holds, Slots}
 use Rattle.orc_fault.specs.declared.NoNode.{NoNode}
 use Rattle.orc_cell.specs.Publishes.{given_of}
@@ -84,3 +85,30 @@ returns-in-Over-clause-tries g c =
 pub returns-in-Spent-clause-tries : goal.returns-in-Spent-clause-tries
 returns-in-Spent-clause-tries g c =
     omega (arith, made c.in-Ok.ensures.given.puts, c.publish_given-turn.ensures.tries, made c.release.ensures.released.puts)
+
+pub release-requires-clause-pass : goal.release-requires-clause-pass
+release-requires-clause-pass g c = c.publish_given-turn.ensures.pass
+
+pub returns-in-Err-clause-pass : goal.returns-in-Err-clause-pass
+returns-in-Err-clause-pass g c = c.in-Err.ensures.pass
+
+pub returns-in-Err-clause-later : goal.returns-in-Err-clause-later
+returns-in-Err-clause-later g c = c.in-Err.ensures.later
+
+pub returns-in-Published-clause-pass : goal.returns-in-Published-clause-pass
+returns-in-Published-clause-pass g c = c.release.ensures.pass
+
+pub returns-in-Published-clause-later : goal.returns-in-Published-clause-later
+returns-in-Published-clause-later g c = goes_on _ _ _ c.in-Ok.ensures.later (goes_on _ _ _ c.publish_given-turn.ensures.later c.release.ensures.later)
+
+pub returns-in-Over-clause-pass : goal.returns-in-Over-clause-pass
+returns-in-Over-clause-pass g c = c.release.ensures.pass
+
+pub returns-in-Over-clause-later : goal.returns-in-Over-clause-later
+returns-in-Over-clause-later g c = goes_on _ _ _ c.in-Ok.ensures.later (goes_on _ _ _ c.publish_given-turn.ensures.later c.release.ensures.later)
+
+pub returns-in-Spent-clause-pass : goal.returns-in-Spent-clause-pass
+returns-in-Spent-clause-pass g c = c.release.ensures.pass
+
+pub returns-in-Spent-clause-later : goal.returns-in-Spent-clause-later
+returns-in-Spent-clause-later g c = goes_on _ _ _ c.in-Ok.ensures.later (goes_on _ _ _ c.publish_given-turn.ensures.later c.release.ensures.later)

@@ -1,5 +1,6 @@
 -- No turn, or the test of root 0, and then the parts.
 use Rattle.std.proofs.Common.{[], ap, arith, false, inl, inr, slice_get, sym, ℕ, ◌*◌, ◌+◌, ◌∙◌, ◌≡◌}
+use Rattle.orc_heap.proofs.Pieces.{goes_on}
 use Rattle.orc_heap.specs.Slots.{Slots}
 use Rattle.orc_cell.specs.Publishes.{nodes_for, part_count}
 use Rattle.orc_cell.proofs.Answering.{answers_after, answers_none, caused_in_part}
@@ -69,3 +70,12 @@ pub returns-clause-tries : goal.returns-clause-tries
 returns-clause-tries g c =
     let few = publish_few c.args.left c.args.right c.args.turns c.requires.given (omega (arith, c.if-turns-eq0.false)) in
     omega (arith, c.is_null-empty.ensures.tries, c.publish_both.ensures.tries, few)
+
+pub publish_both-requires-clause-pass : goal.publish_both-requires-clause-pass
+publish_both-requires-clause-pass g c = c.is_null-empty.ensures.pass
+
+pub returns-clause-pass : goal.returns-clause-pass
+returns-clause-pass g c = c.publish_both.ensures.pass
+
+pub returns-clause-later : goal.returns-clause-later
+returns-clause-later g c = goes_on _ _ _ c.is_null-empty.ensures.later c.publish_both.ensures.later
