@@ -1,8 +1,8 @@
 //! The one command, with its options.
 
 ghost use Rattle.std.specs.Prelude.{◌≡◌, ◌∷◌, [], codes, map, false, IfOk};
-ghost use Rattle.clap.specs.Words.{app_of, rule_of};
-ghost use Rattle.orc_options.specs.{Options.{IsCommand, choice_rule, number_rule}, Ranges.{range_of}};
+ghost use Rattle.clap.specs.Words.{app_of, rule_of, with_rule};
+ghost use Rattle.orc_options.specs.{Options.{IsCommand, choice_rule, number_rule}, Ranges.{buckets, lines, posters, range_of, rows, seed, stages, takers}};
 
 use crate::ranges::{BUCKETS, LINES, NumberRange, POSTERS, ROWS, SEED, STAGES, TAKERS};
 use clap::builder::ValueParser;
@@ -66,9 +66,30 @@ pub(crate) fn command<'a>(alloc: Global) -> Result<Command<'a>, AllocError>
     let command = command.arg(choice_option(alloc, "mode", "run", mode_words()))?;
     let command = command.arg(choice_option(alloc, "rest", "no", answer_words()))?;
     let command = command.arg(choice_option(alloc, "set", "list", set_words()))?;
+    let command = with_team_options(alloc, command)?;
+    with_work_options(alloc, command)
+}
+
+// The command with the options that say how many take part.
+fn with_team_options<'a>(alloc: Global, command: Command<'a>) -> Result<Command<'a>, AllocError>
+    ensures { IfOk result (λ c. app_of c ≡ with_rule (with_rule (with_rule (app_of command.entry)
+        (number_rule (codes "posters") posters))
+        (number_rule (codes "takers") takers))
+        (number_rule (codes "stages") stages)) }
+{
     let command = command.arg(number_option(alloc, "posters", POSTERS))?;
     let command = command.arg(number_option(alloc, "takers", TAKERS))?;
-    let command = command.arg(number_option(alloc, "stages", STAGES))?;
+    command.arg(number_option(alloc, "stages", STAGES))
+}
+
+// The command with the options that say what is worked on.
+fn with_work_options<'a>(alloc: Global, command: Command<'a>) -> Result<Command<'a>, AllocError>
+    ensures { IfOk result (λ c. app_of c ≡ with_rule (with_rule (with_rule (with_rule (app_of command.entry)
+        (number_rule (codes "rows") rows))
+        (number_rule (codes "buckets") buckets))
+        (number_rule (codes "seed") seed))
+        (number_rule (codes "lines") lines)) }
+{
     let command = command.arg(number_option(alloc, "rows", ROWS))?;
     let command = command.arg(number_option(alloc, "buckets", BUCKETS))?;
     let command = command.arg(number_option(alloc, "seed", SEED))?;
