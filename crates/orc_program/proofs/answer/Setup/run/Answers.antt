@@ -1,4 +1,4 @@
-use Rattle.std.proofs.Common.{IfOk, subst, sym, ℕ, ◌≤◌}
+use Rattle.std.proofs.Common.{IfOk, arith, subst, sym, ℕ, ◌≤◌}
 use Rattle.orc_options.specs.declared.settings.SetKind.{SetKind}
 use Rattle.orc_options.specs.declared.settings.SetKind.TheVariants as kind
 use Rattle.orc_run.specs.Runs.{WorkedThrough}
@@ -11,6 +11,13 @@ use Rattle.orc_program.proofs.answer.Setup.run.Goals as goal
 in_range : (which : SetKind) (buckets : ℕ) → 1 ≤ buckets → buckets ≤ 256 → IsInRange (choice_of which buckets)
 in_range kind.List buckets some few = (some, few)
 in_range kind.Split buckets some few = tt
+
+pub invariant_of-task : goal.invariant_of-task
+invariant_of-task g c = record {
+  some_posters = (c.requires.ranges.some_posters, c.requires.ranges.few_posters);
+  few_takers = c.requires.ranges.few_takers;
+  some_rows = (omega (arith, c.requires.ranges.some_rows), c.requires.ranges.few_rows);
+}
 
 pub run_lines-requires-clause-set : goal.run_lines-requires-clause-set
 run_lines-requires-clause-set g c = λ lives outlive.
