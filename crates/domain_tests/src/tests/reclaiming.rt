@@ -10,8 +10,8 @@ use super::rests::{
     two_rows_and_a_node,
 };
 use orc_any_domain::{Domain, RowCounts};
-use orc_domain::OrcDomain;
-use orc_heap::AnyFit;
+use orc_domain::{OrcDomain, OrcPass};
+use orc_heap::{AnyFit, Links};
 use orc_plain_domain::twins::Twins;
 use std::alloc::Global;
 use std::thread::Threads;
@@ -70,18 +70,25 @@ fn holds_meanwhile<L: Domain<Rule = AnyFit> + Drop>(
     Some((domain, one, seen))
 }
 
-// What is told, what the one saw, and how many rows it had in hand before it drained, and then.
+// What is told, and what came of the one.
 fn told_and_drained<R: Threads + Sync>(
     rt: &R,
     alloc: Global,
 ) -> (Reclaimed, Option<(Option<(u64, u64, bool)>, u32, u32)>) {
     let (told, held) = over_reclaimed_rows::<R, OrcDomain<AnyFit>>(rt, alloc);
-    let Some((domain, mut one, seen)) = held else {
-        return (told, None);
-    };
+    (told, drained(held))
+}
+
+// What the one saw, and how many rows it had in hand before it drained, and then.
+fn drained(
+    held: Option<(OrcDomain<AnyFit>, OrcPass<AnyFit>, Option<(u64, u64, bool)>)>,
+) -> Option<(Option<(u64, u64, bool)>, u32, u32)>
+    requires idle { IfSome held (λ held. IsIdlePass ⟦<OrcDomain<AnyFit> as Links>⟧ held.0 held.1) }
+{
+    let (domain, mut one, seen) = held?;
     let waiting = domain.backlog(&one);
     domain.drain(&mut one);
-    (told, Some((seen, waiting, domain.backlog(&one))))
+    Some((seen, waiting, domain.backlog(&one)))
 }
 
 // Both rows are given, and released unlinked. No third is had while they wait; at rest both have been freed, and none is out.
