@@ -1,5 +1,6 @@
 -- Replies that can be reported have lines, and positions below their number.
-use Rattle.std.proofs.Common.{◌≡◌, Bool, ℕ, zero, suc, ◌+◌, ◌≤◌, ◌<◌, List, [], ◌∷◌, length, map, refl, ap, sym, ◌∙◌, subst, arith}
+use Rattle.std.proofs.Common.{◌≡◌, ◌++◌, append_assoc, codes, decimal, Bool, true, false, ℕ, zero, suc, ◌+◌, ◌≤◌, ◌<◌, List, [], ◌∷◌, length, map, refl, ap, sym, ◌∙◌, subst, arith}
+use mathlib.Core.Bool.{beq}
 use Rattle.std.specs.List.{range_with_len, AllByRecursion}
 use Rattle.std.specs.List.Sorted.{IsPermutation}
 use Rattle.std.proofs.lemmas.List.{length-map}
@@ -8,10 +9,11 @@ use Rattle.std.proofs.lemmas.Option.{slice_get_within}
 use Rattle.orc_jobs.specs.declared.line.Line.{Line}
 use Rattle.orc_board.specs.declared.replies.PostReply.{PostReply}
 use Rattle.orc_board.specs.declared.replies.TakeReply.{TakeReply}
+use Rattle.orc_board.specs.declared.replies.TakeWord.{TakeWord}
 use Rattle.orc_board.specs.Reportable.{AreReportableOf, IsClaim, claim_of, is_side, posted_of, takes_with}
 use Rattle.orc_board.proofs.ListFacts.{AllByRecursion-filter, AllByRecursion-map}
 use Rattle.orc_report.proofs.PositionOrder.{every_at, all_of, AllByRecursion-by_key}
-use Rattle.orc_report.specs.Report.{by_position}
+use Rattle.orc_report.specs.Report.{by_position, side_word, take_line, take_word}
 
 numbers_below : (n k m : ℕ) → n + k ≤ m → AllByRecursion (λ x. x < m) (range_with_len n k)
 numbers_below n zero m h = tt
@@ -49,8 +51,25 @@ pub lines_below : (lines : List Line) (takes : List TakeReply) → AllByRecursio
 lines_below lines takes claimed =
     AllByRecursion-map (IsClaim lines) (λ (r : TakeReply). r.line < length lines) (λ r c. slice_get_within lines r.line _ c.job.is) takes claimed
 
+-- whether two bits are equal tells whether a take is of a queue
+pub side_equal : (side rush : Bool) → beq side rush ≡ is_side rush side
+side_equal true true = refl
+side_equal true false = refl
+side_equal false true = refl
+side_equal false false = refl
+
 pub board_lines : (rush : Bool) (lines : List Line) (takes : List TakeReply) → AllByRecursion (λ (r : TakeReply). r.line < length lines) takes
     → AllByRecursion (λ (r : TakeReply). r.line < length lines) (by_position (takes_with rush takes))
 board_lines rush lines takes all =
     AllByRecursion-by_key (λ (r : TakeReply). r.line < length lines) (λ (r : TakeReply). r.at) (length (takes_with rush takes)) (takes_with rush takes)
     (AllByRecursion-filter (λ (r : TakeReply). r.line < length lines) (λ (r : TakeReply). is_side rush r.rush) takes all)
+
+pieces : (h a s b c d t : List ℕ) → h ++ (a ++ (s ++ (b ++ (s ++ (c ++ (s ++ (d ++ t))))))) ≡ h ++ a ++ s ++ b ++ s ++ c ++ s ++ d ++ t
+pieces h a s b c d t = simp append_assoc
+
+-- the line of a taker's reply, piece by piece
+pub take_pieces : (old : List ℕ) (r : TakeReply) (side : List ℕ) (what : TakeWord) → side ≡ side_word r.rush → r.what ≡ what
+    → old ++ (codes "taker " ++ (decimal r.taker ++ (codes " " ++ (side ++ (codes " " ++ (decimal r.at ++ (codes " " ++ (take_word what ++ codes "\n"))))))))
+    ≡ old ++ take_line r
+take_pieces old r side what s w =
+    rw (s, w) (ap (λ t. old ++ t) (pieces (codes "taker ") (decimal r.taker) (codes " ") (side_word r.rush) (decimal r.at) (take_word what) (codes "\n")))

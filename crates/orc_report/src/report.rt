@@ -4,7 +4,7 @@ ghost use Rattle.std.specs.Option.{option_copied};
 ghost use Rattle.std.specs.List.{flat_map, AllByRecursion};
 ghost use Rattle.std.specs.String.{string_bytes};
 ghost use Rattle.orc_jobs.specs.{Line.{line_id}, GoodLines.{AreGood}};
-ghost use Rattle.orc_board.specs.Reportable.{AreReportable, takes_with as of_queue};
+ghost use Rattle.orc_board.specs.Reportable.{AreReportable, takes_with as of_queue, is_side};
 ghost use Rattle.orc_report.specs.{
   Report.{by_position, board_line, board_row, take_line, report_of, rest_line, rest_lines, has_rush as tells_rush, if_rush, is_rush as rushes, queue_lines, side_word},
 };
@@ -121,11 +121,18 @@ fn takes_with(alloc: Global, rush: bool, takes: &[TakeReply]) -> Result<Vec<Take
 {
     let mut given = Vec::new(alloc);
     for reply in takes {
-        if reply.rush == rush {
+        if is_of(rush, reply) {
             given.push(*reply)?;
         }
     }
     Ok(given)
+}
+
+// Whether a take is with rush, or without.
+fn is_of(rush: bool, reply: &TakeReply) -> bool
+    ensures { result ≡ is_side rush reply.now.rush }
+{
+    reply.rush == rush
 }
 
 // These take replies, that of position 0 first.
