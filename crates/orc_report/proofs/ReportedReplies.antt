@@ -8,12 +8,13 @@ use Rattle.std.proofs.lemmas.List.Sorted.{IsPermutation-map, IsPermutation-trans
 use Rattle.std.proofs.lemmas.Option.{slice_get_within}
 use Rattle.orc_jobs.specs.declared.line.Line.{Line}
 use Rattle.orc_board.specs.declared.replies.PostReply.{PostReply}
+use Rattle.orc_board.specs.declared.replies.PostWord.{PostWord}
 use Rattle.orc_board.specs.declared.replies.TakeReply.{TakeReply}
 use Rattle.orc_board.specs.declared.replies.TakeWord.{TakeWord}
 use Rattle.orc_board.specs.Reportable.{AreReportableOf, IsClaim, claim_of, is_side, posted_of, takes_with}
 use Rattle.orc_board.proofs.ListFacts.{AllByRecursion-filter, AllByRecursion-map}
 use Rattle.orc_report.proofs.PositionOrder.{every_at, all_of, AllByRecursion-by_key}
-use Rattle.orc_report.specs.Report.{by_position, side_word, take_line, take_word}
+use Rattle.orc_report.specs.Report.{by_position, post_line, post_word, side_word, take_line, take_word}
 
 numbers_below : (n k m : ℕ) → n + k ≤ m → AllByRecursion (λ x. x < m) (range_with_len n k)
 numbers_below n zero m h = tt
@@ -67,9 +68,25 @@ board_lines rush lines takes all =
 pieces : (h a s b c d t : List ℕ) → h ++ (a ++ (s ++ (b ++ (s ++ (c ++ (s ++ (d ++ t))))))) ≡ h ++ a ++ s ++ b ++ s ++ c ++ s ++ d ++ t
 pieces h a s b c d t = simp append_assoc
 
+five : (a b c d e f g : List ℕ) → a ++ (b ++ (c ++ (d ++ (e ++ (f ++ g))))) ≡ a ++ b ++ c ++ d ++ e ++ f ++ g
+five a b c d e f g = simp append_assoc
+
+three : (a b c d : List ℕ) → a ++ b ++ c ++ d ≡ a ++ (b ++ (c ++ d))
+three a b c d = simp append_assoc
+
 -- the line of a taker's reply, piece by piece
 pub take_pieces : (old : List ℕ) (r : TakeReply) (side : List ℕ) (what : TakeWord) → side ≡ side_word r.rush → r.what ≡ what
     → old ++ (codes "taker " ++ (decimal r.taker ++ (codes " " ++ (side ++ (codes " " ++ (decimal r.at ++ (codes " " ++ (take_word what ++ codes "\n"))))))))
     ≡ old ++ take_line r
 take_pieces old r side what s w =
     rw (s, w) (ap (λ t. old ++ t) (pieces (codes "taker ") (decimal r.taker) (codes " ") (side_word r.rush) (decimal r.at) (take_word what) (codes "\n")))
+
+-- the line of a poster's reply, piece by piece, of which end is the last
+pub post_pieces : (old put end : List ℕ) (r : PostReply) (what : PostWord) → r.what ≡ what → post_word put what ++ codes "\n" ≡ end
+    → old ++ (codes "poster " ++ (decimal r.poster ++ (codes " line " ++ (decimal r.line ++ (codes " " ++ end))))) ≡ old ++ post_line put r
+post_pieces old put end r what w e =
+    rw (w, ← e) (ap (λ t. old ++ t) (five (codes "poster ") (decimal r.poster) (codes " line ") (decimal r.line) (codes " ") (post_word put what) (codes "\n")))
+
+-- the end of the line of a post that has a position
+pub posted_end : (put : List ℕ) (at : ℕ) → put ++ codes " " ++ decimal at ++ codes "\n" ≡ put ++ (codes " " ++ (decimal at ++ codes "\n"))
+posted_end put at = three put (codes " ") (decimal at) (codes "\n")
