@@ -14,7 +14,7 @@ use Rattle.orc_board.specs.declared.replies.TakeWord.{TakeWord}
 use Rattle.orc_board.specs.Reportable.{AreReportableOf, IsClaim, claim_of, is_side, posted_of, takes_with}
 use Rattle.orc_board.proofs.ListFacts.{AllByRecursion-filter, AllByRecursion-map}
 use Rattle.orc_report.proofs.PositionOrder.{every_at, all_of, AllByRecursion-by_key}
-use Rattle.orc_report.specs.Report.{by_position, post_line, post_word, side_word, take_line, take_word}
+use Rattle.orc_report.specs.Report.{board_row, by_position, post_line, post_word, rest_line, side_word, take_line, take_word}
 
 numbers_below : (n k m : ℕ) → n + k ≤ m → AllByRecursion (λ x. x < m) (range_with_len n k)
 numbers_below n zero m h = tt
@@ -65,11 +65,15 @@ board_lines rush lines takes all =
     AllByRecursion-by_key (λ (r : TakeReply). r.line < length lines) (λ (r : TakeReply). r.at) (length (takes_with rush takes)) (takes_with rush takes)
     (AllByRecursion-filter (λ (r : TakeReply). r.line < length lines) (λ (r : TakeReply). is_side rush r.rush) takes all)
 
+-- lists that are joined, from either end
 pieces : (h a s b c d t : List ℕ) → h ++ (a ++ (s ++ (b ++ (s ++ (c ++ (s ++ (d ++ t))))))) ≡ h ++ a ++ s ++ b ++ s ++ c ++ s ++ d ++ t
 pieces h a s b c d t = simp append_assoc
 
 five : (a b c d e f g : List ℕ) → a ++ (b ++ (c ++ (d ++ (e ++ (f ++ g))))) ≡ a ++ b ++ c ++ d ++ e ++ f ++ g
 five a b c d e f g = simp append_assoc
+
+seven : (a b c d e f g h : List ℕ) → a ++ (b ++ (c ++ (d ++ (e ++ (f ++ (g ++ h)))))) ≡ a ++ b ++ c ++ d ++ e ++ f ++ g ++ h
+seven a b c d e f g h = simp append_assoc
 
 three : (a b c d : List ℕ) → a ++ b ++ c ++ d ≡ a ++ (b ++ (c ++ d))
 three a b c d = simp append_assoc
@@ -90,3 +94,17 @@ post_pieces old put end r what w e =
 -- the end of the line of a post that has a position
 pub posted_end : (put : List ℕ) (at : ℕ) → put ++ codes " " ++ decimal at ++ codes "\n" ≡ put ++ (codes " " ++ (decimal at ++ codes "\n"))
 posted_end put at = three put (codes " ") (decimal at) (codes "\n")
+
+-- the board's line of a position, piece by piece
+pub board_pieces : (old : List ℕ) (at place id : ℕ) (given what : TakeWord) → given ≡ what
+    → old ++ (decimal at ++ (codes " line " ++ (decimal place ++ (codes " id " ++ (decimal id ++ (codes " " ++ (take_word what ++ codes "\n")))))))
+    ≡ old ++ board_row at place id given
+board_pieces old at place id given what w =
+    rw w (ap (λ t. old ++ t) (seven (decimal at) (codes " line ") (decimal place) (codes " id ") (decimal id) (codes " ") (take_word what) (codes "\n")))
+
+-- the line of what a container has at rest, piece by piece
+pub rest_pieces : (old name : List ℕ) (given reused linked : ℕ)
+    → old ++ (name ++ (codes " given " ++ (decimal given ++ (codes " reused " ++ (decimal reused ++ (codes " linked " ++ (decimal linked ++ codes "\n")))))))
+    ≡ old ++ rest_line name given reused linked
+rest_pieces old name given reused linked =
+    ap (λ t. old ++ t) (seven name (codes " given ") (decimal given) (codes " reused ") (decimal reused) (codes " linked ") (decimal linked) (codes "\n"))
