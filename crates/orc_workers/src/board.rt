@@ -89,9 +89,7 @@ where
         waiting,
         done,
     } = reserve(alloc, desks.len() - 1, &room)?;
-    let own = TakeList::new(alloc, many)?;
-    let posts = PostList::new(alloc, many)?;
-    let takes = TakeList::new(alloc, many)?;
+    let (own, mut replies) = empty_lists(alloc, many)?;
     let desk = desks.remove(0);
     let waiting = seat(&AtBoard { queue, rush, set }, desks, rooms, waiting);
     let Seated {
@@ -101,7 +99,6 @@ where
     } = run_seated(
         rt, queue, rush, set, posters, takers, lines, gate, desk, own, waiting, done,
     );
-    let mut replies = Room { posts, takes };
     replies.takes.append(own);
     let Ok(()) = desks.push(desk) else {
         unreachable!()
@@ -109,6 +106,18 @@ where
     hand_back(workers, desks, &mut replies);
     let Room { posts, takes } = replies;
     Ok(Replies { posts, takes })
+}
+
+// Lists with room for `many` replies each: of the caller's takes, and of all posts and takes.
+fn empty_lists(alloc: Global, many: usize) -> Result<(TakeList, Room<TakeReply>), NoMemory>
+    ensures own { IfOk result (λ r. (r.0.items ≡ []) × (many ≤ r.0.spare)) }
+    ensures posts { IfOk result (λ r. (r.1.posts.items ≡ []) × (many ≤ r.1.posts.spare)) }
+    ensures takes { IfOk result (λ r. (r.1.takes.items ≡ []) × (many ≤ r.1.takes.spare)) }
+{
+    let own = TakeList::new(alloc, many)?;
+    let posts = PostList::new(alloc, many)?;
+    let takes = TakeList::new(alloc, many)?;
+    Ok((own, Room { posts, takes }))
 }
 
 // Runs the workers, and then takes what they left. All memory has been taken before.

@@ -38,15 +38,15 @@ run_seated-desk-requires-clause-team g c κs within =
     c.in_ok-rooms.ensures.done_room c.seat-waiting.ensures.seated
 
 pub append-requires : goal.append-requires
-append-requires g c = omega (arith, c.run_seated-desk.ensures.few.1, c.in_ok-takes.ensures.1, c.len-many.ensures)
+append-requires g c = omega (arith, c.run_seated-desk.ensures.few.1, c.in_ok-own.ensures.takes.1, c.len-many.ensures)
 
 pub hand_back-requires : goal.hand_back-requires
 hand_back-requires g c =
     let W : Type 0 = BoardWorker g.row.Q-Pass.Denot g.row.S-Pass.Denot in
-    let posts : length (all_of (λ (w : W). w.replies.posts.items) c.run_seated-desk.result.workers.items) ≤ c.in_ok-posts.posts.spare =
-    omega (arith, c.run_seated-desk.ensures.few.0, c.in_ok-posts.ensures.1, c.len-many.ensures) in
+    let posts : length (all_of (λ (w : W). w.replies.posts.items) c.run_seated-desk.result.workers.items) ≤ c.in_ok-own.replies.posts.spare =
+    omega (arith, c.run_seated-desk.ensures.few.0, c.in_ok-own.ensures.posts.1, c.len-many.ensures) in
     let takes : length (all_of (λ (w : W). w.replies.takes.items) c.run_seated-desk.result.workers.items) ≤ c.append.new.self.spare =
-    omega (arith, c.run_seated-desk.ensures.few.1, c.in_ok-takes.ensures.1, c.len-many.ensures, c.append.ensures.spare) in
+    omega (arith, c.run_seated-desk.ensures.few.1, c.in_ok-own.ensures.takes.1, c.len-many.ensures, c.append.ensures.spare) in
     record {
       desks = places_fit c.args.desks.now.len c.args.desks.now.cap c.remove-desk.new.self.cap c.seat-waiting.new.desks.cap c.push.new.self.cap
           c.seat-waiting.new.desks.len _ c.push.new.self.len c.run_seated-desk.result.workers.len _ _ c.args.desks.now.ok.1 c.requires.count
@@ -65,9 +65,9 @@ returns g c =
     let desks : c.hand_back.new.desks.items ≡ caller ∷ map (λ (w : W). w.desk) ws =
     c.hand_back.ensures.desks ∙ ap (λ (ds : List D). ds ++ map (λ (w : W). w.desk) ws) first in
     let posts =
-    c.hand_back.ensures.replies false ∙ ap (λ (rs : List PostReply). rs ++ all_of (λ (w : W). w.replies.posts.items) ws) c.in_ok-posts.ensures.0 in
+    c.hand_back.ensures.replies false ∙ ap (λ (rs : List PostReply). rs ++ all_of (λ (w : W). w.replies.posts.items) ws) c.in_ok-own.ensures.posts.0 in
     let takes = c.hand_back.ensures.replies true ∙ ap (λ (rs : List TakeReply). rs ++ all_of (λ (w : W). w.replies.takes.items) ws)
-    (c.append.ensures.items ∙ ap (λ (rs : List TakeReply). rs ++ c.run_seated-desk.result.takes.items) c.in_ok-takes.ensures.0) in
+    (c.append.ensures.items ∙ ap (λ (rs : List TakeReply). rs ++ c.run_seated-desk.result.takes.items) c.in_ok-own.ensures.takes.0) in
     let back = c.run_seated-desk.ensures.back in
     let ran = ran_of g.Q.SharedQueue g.S.SharedSet c.args.queue.now c.args.rush.now c.args.set.now c.args.lines.now c.args.posters c.args.takers
     caller c.run_seated-desk.result.takes.items ws _ _ c.requires.posters c.requires.good.few (for_both _ c.requires.first.0 c.requires.first.1) back
