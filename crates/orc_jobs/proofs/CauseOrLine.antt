@@ -1,5 +1,5 @@
 -- No record has neither a cause nor a line.
-use Rattle.std.proofs.Common.{◌≡◌, ◌≢◌, ◌<◌, ◌^◌, ◌∙◌, sym, Bool, true, false, All, IsUtf8, List, [], ◌∷◌, ℕ, suc, arith, codes, inl, inr, length, refl}
+use Rattle.std.proofs.Common.{◌≡◌, ◌≢◌, ◌<◌, ◌^◌, ◌∙◌, sym, Bool, true, false, All, IsUtf8, List, [], ◌∷◌, ℕ, suc, arith, codes, inl, inr, length, refl, subst}
 use Rattle.std.specs.Fmt.{decimal}
 use Rattle.orc_jobs.proofs.Fields.{two-fields}
 use Rattle.orc_jobs.proofs.FileLaws.{none-applies, whether}
@@ -22,6 +22,15 @@ four-fields (x ∷ y ∷ []) a b c d n p q r s = absurd (omega (arith, n))
 four-fields (x ∷ y ∷ z ∷ []) a b c d n p q r s = absurd (omega (arith, n))
 four-fields (x ∷ y ∷ z ∷ w ∷ []) a b c d n p q r s = cc
 four-fields (x ∷ y ∷ z ∷ w ∷ v ∷ rest) a b c d n p q r s = absurd (omega (arith, n))
+
+-- a record of four fields that spell a job
+pub job_spelled : (fields : List (List ℕ)) (verb : List ℕ) (id : ℕ) (op : Job) (text : List ℕ) → length fields ≡ 4 → field fields 0 ≡ verb → id < 2 ^ 32
+    → field fields 1 ≡ decimal id → field fields 2 ≡ operation_word op → field fields 3 ≡ text → All IsUtf8 fields → TakesText op (field fields 3)
+    → (fields ≡ verb ∷ decimal id ∷ operation_word op ∷ text ∷ []) × ((id < 2 ^ 32) × IsUtf8 text × TakesText op text)
+job_spelled fields verb id op text four verb_is small id_is op_is text_is all fits = (
+  four-fields fields verb (decimal id) (operation_word op) text four verb_is id_is op_is text_is,
+  (small, subst IsUtf8 text_is (all 3 [] (omega (arith, four))), subst (λ (t : List ℕ). TakesText op t) text_is fits),
+)
 
 -- a record of which no cause applies and that stands for no line
 record Neither (fields : List (List ℕ)) : Type 0 where

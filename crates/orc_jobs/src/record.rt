@@ -1,7 +1,9 @@
-ghost use Rattle.std.specs.Prelude.{◌≡◌, IfNone, IfSome};
+ghost use Rattle.std.specs.Prelude.{◌≡◌, ◌≢◌, IfNone, IfSome, codes, false, true};
 ghost use Rattle.orc_jobs.specs.{
-  JobGrammar.{HasCause, IsLine, IsOpWord, record_of, operation_word},
+  JobGrammar.{HasCause, IsLine, IsOpWord, TakesText, record_of, operation_word},
   Laws.JobLines.{known_by_record, line_has_no_cause, record_has_one_cause},
+  Numbers.{IsNumberList},
+  declared.line.Job.{Job},
 };
 
 use crate::number::is_number_list;
@@ -29,15 +31,13 @@ impl FromRecord for Line {
     fn from_record(alloc: Global, row: &ByteRecord) -> Result<Line, RecordRefused<Cause>> {
         let verb = field_of(row, 0);
         let is_drop = is_word(verb, b"drop");
-        let wanted = if is_drop { 2 } else { 4 };
-        if row.len() != wanted {
+        if row.len() != wanted_fields(is_drop) {
             return Err(RecordRefused::Cause(Cause::Fields));
         }
         if !is_text(row) {
             return Err(RecordRefused::Cause(Cause::Utf8));
         }
-        let is_rush = is_word(verb, b"rush");
-        if !is_drop && !is_rush && !is_word(verb, b"post") {
+        if !is_verb(verb) {
             return Err(RecordRefused::Cause(Cause::Verb));
         }
         let Some(id) = number_of(field_of(row, 1)) else {
@@ -50,9 +50,10 @@ impl FromRecord for Line {
             return Err(RecordRefused::Cause(Cause::Op));
         };
         let text = field_of(row, 3);
-        if op == Job::Sum && !is_number_list(text) {
+        if !takes(op, text) {
             return Err(RecordRefused::Cause(Cause::Sum));
         }
+        let is_rush = is_word(verb, b"rush");
         let text = Text::from_slice(alloc, text)?;
         if is_rush {
             Ok(Line::Rush { id, op, text })
@@ -60,6 +61,30 @@ impl FromRecord for Line {
             Ok(Line::Post { id, op, text })
         }
     }
+}
+
+// How many fields a record has.
+fn wanted_fields(is_drop: bool) -> usize
+    ensures drop { is_drop ≡ true → result ≡ 2 }
+    ensures job { is_drop ≡ false → result ≡ 4 }
+{
+    if is_drop { 2 } else { 4 }
+}
+
+// Whether a word is one of the three that a record begins with.
+fn is_verb(word: &[u8]) -> bool
+    ensures yes { result ≡ true → word.now ≢ codes "drop" → word.now ≢ codes "rush" → word.now ≡ codes "post" }
+    ensures no { result ≡ false → (word.now ≢ codes "post") × (word.now ≢ codes "rush") × (word.now ≢ codes "drop") }
+{
+    is_word(word, b"post") || is_word(word, b"rush") || is_word(word, b"drop")
+}
+
+// Whether an operation takes a text.
+fn takes(op: Job, text: &[u8]) -> bool
+    ensures yes { result ≡ true → TakesText op text.now }
+    ensures no { result ≡ false → (op ≡ Job.Sum) × ¬ IsNumberList text.now }
+{
+    op != Job::Sum || is_number_list(text)
 }
 
 // The operation of a word.
