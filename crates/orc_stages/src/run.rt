@@ -84,9 +84,7 @@ where
         waiting,
         done,
     } = reserve(alloc, desks.len() - 1, &room)?;
-    let posts = PostList::new(alloc, many)?;
-    let moves = reserve_moves(alloc, queues.len() - 1, many)?;
-    let outs = OutList::new(alloc, many)?;
+    let (mut replies, outs) = empty_lists(alloc, queues.len() - 1, many)?;
     let desk = desks.remove(0);
     let waiting = seat(&AtQueues { queues }, desks, rooms, waiting);
     let Seated {
@@ -97,10 +95,6 @@ where
     let Ok(()) = desks.push(desk) else {
         unreachable!()
     };
-    let mut replies = Room {
-        posts,
-        takes: moves,
-    };
     hand_back(workers, desks, &mut replies);
     let Room { posts, takes } = replies;
     Ok(StagesDone {
@@ -110,12 +104,21 @@ where
     })
 }
 
-// Takes room for the moves of so many stages, of each for so many lines.
-fn reserve_moves(alloc: Global, stages: usize, lines: usize) -> Result<StageList, NoMemory>
+// Lists with room for the posts of so many lines, for the moves of so many stages of each, and for what comes out.
+fn empty_lists(
+    alloc: Global,
+    stages: usize,
+    lines: usize,
+) -> Result<(Room<StageReply>, OutList), NoMemory>
     requires few { (stages ≤ 6) × (lines ≤ 65535) }
-    ensures { IfOk result (λ l. (l.items ≡ []) × (l.spare ≡ stages * lines)) }
+    ensures posts { IfOk result (λ r. (r.0.posts.items ≡ []) × (r.0.posts.spare ≡ lines)) }
+    ensures moves { IfOk result (λ r. (r.0.takes.items ≡ []) × (r.0.takes.spare ≡ stages * lines)) }
+    ensures outs { IfOk result (λ r. (r.1.items ≡ []) × (r.1.spare ≡ lines)) }
 {
-    StageList::new(alloc, stages * lines)
+    let posts = PostList::new(alloc, lines)?;
+    let takes = StageList::new(alloc, stages * lines)?;
+    let outs = OutList::new(alloc, lines)?;
+    Ok((Room { posts, takes }, outs))
 }
 
 // Runs the workers, and then moves what is left. All memory has been taken before.

@@ -1,6 +1,8 @@
-use Rattle.std.proofs.Common.{rules, ◌≡◌, ◌≤◌, ◌+◌, ◌-◌, ◌*◌, ◌++◌, ◌∷◌, [], suc, ℕ, ap, sym, ◌∙◌, length, map, arith, List, false, true}
+use Rattle.std.proofs.Common.{rules, ◌≡◌, ◌<◌, ◌≤◌, ◌+◌, ◌-◌, ◌*◌, ◌++◌, ◌∷◌, [], suc, ℕ, ap, sym, ◌∙◌, length, map, arith, List, false, true, refl, subst}
+use Rattle.std.specs.Prelude.{slice_index_or}
+use Rattle.std.proofs.lemmas.Result.{err_from_is_err_and}
 use Rattle.orc_board.specs.declared.replies.PostReply.{PostReply}
-use Rattle.orc_team.specs.Seats.{IsEmptyRoom, all_of}
+use Rattle.orc_team.specs.Seats.{EachNumbered, IsEmptyRoom, all_of}
 use Rattle.orc_team.proofs.Numbered.{EachFrom-map, EachFrom-rest}
 use Rattle.orc_team.proofs.Seats.{places_fit, seats_ready}
 use Rattle.orc_team.proofs.Teams.{for_both}
@@ -12,6 +14,35 @@ use Rattle.orc_stages.specs.declared.replies.StageReply.{StageReply}
 use Rattle.orc_stages.proofs.Over.{over}
 use Rattle.orc_stages.proofs.Seated.{ready_at}
 use Rattle.orc_stages.proofs.run.run_stages.Goals as goal
+
+-- what holds of each item with its number holds of the first
+first_of : {X : Type 0} (F : ℕ → X → Type 0) (k : ℕ) (xs : List X) (x : X) → 0 < length xs → x ≡ slice_index_or xs 0 x → EachNumbered F k xs → F k x
+first_of F k [] x some is h = absurd (omega (arith, some))
+first_of {X} F k (y ∷ ys) x some is h = subst (λ (z : X). F k z) (sym is) h.0
+
+pub empty_lists-requires : goal.empty_lists-requires
+empty_lists-requires g c = record { few = (omega (arith, c.requires.queues.1), omega (arith, c.len-many.ensures, c.requires.good.few)) }
+
+pub seat-waiting-requires-clause-rooms : goal.seat-waiting-requires-clause-rooms
+seat-waiting-requires-clause-rooms g c =
+    omega (arith, c.in_ok-rooms.rooms.ok.0, c.in_ok-rooms.ensures.all, c.len.ensures, c.remove-desk.ensures.len)
+
+pub seat-waiting-requires-clause-nobody : goal.seat-waiting-requires-clause-nobody
+seat-waiting-requires-clause-nobody g c = c.in_ok-rooms.ensures.nobody_waits
+
+pub seat-waiting-requires-clause-capacity : goal.seat-waiting-requires-clause-capacity
+seat-waiting-requires-clause-capacity g c =
+    omega (arith, c.in_ok-rooms.ensures.waiting_room, c.len.ensures, c.remove-desk.ensures.len)
+
+pub run_seated-desk-requires-clause-desk : goal.run_seated-desk-requires-clause-desk
+run_seated-desk-requires-clause-desk g c κs within =
+    let some : 0 < length c.args.desks.now.items = omega (arith, c.args.desks.now.ok.0, c.requires.count, c.requires.posters) in
+    (first_of (IsNewDesk g.Q.SharedQueue c.args.queues.now) 0 _ _ some c.remove-desk.ensures.value c.requires.desks).passes
+
+pub run_seated-desk-requires-clause-new : goal.run_seated-desk-requires-clause-new
+run_seated-desk-requires-clause-new g c κs within =
+    let some : 0 < length c.args.desks.now.items = omega (arith, c.args.desks.now.ok.0, c.requires.count, c.requires.posters) in
+    (first_of (IsNewDesk g.Q.SharedQueue c.args.queues.now) 0 _ _ some c.remove-desk.ensures.value c.requires.desks).new
 
 pub seat-waiting-requires-clause-agents : goal.seat-waiting-requires-clause-agents
 seat-waiting-requires-clause-agents g c =
@@ -36,13 +67,29 @@ run_seated-desk-requires-clause-team g c κs within =
     (EachFrom-map _ M (λ k r d. search rules) 1 _ c.in_ok-rooms.ensures.rooms) c.in_ok-rooms.ensures.all c.in_ok-rooms.ensures.nobody_is_done
     c.in_ok-rooms.ensures.done_room c.seat-waiting.ensures.seated
 
+pub run_seated-desk-requires-clause-posters : goal.run_seated-desk-requires-clause-posters
+run_seated-desk-requires-clause-posters g c κs within = c.requires.posters
+
+pub run_seated-desk-requires-clause-good : goal.run_seated-desk-requires-clause-good
+run_seated-desk-requires-clause-good g c κs within = c.requires.good
+
+pub run_seated-desk-requires-clause-queues : goal.run_seated-desk-requires-clause-queues
+run_seated-desk-requires-clause-queues g c κs within = c.requires.queues
+
+pub run_seated-desk-requires-clause-agents : goal.run_seated-desk-requires-clause-agents
+run_seated-desk-requires-clause-agents g c κs within = c.requires.agents
+
+pub run_seated-desk-requires-clause-outs : goal.run_seated-desk-requires-clause-outs
+run_seated-desk-requires-clause-outs g c κs within =
+    (c.in_ok-replies.ensures.outs.0, omega (arith, c.in_ok-replies.ensures.outs.1, c.len-many.ensures))
+
 pub hand_back-requires : goal.hand_back-requires
 hand_back-requires g c =
     let W : Type 0 = StageWorker g.row.Q-Pass.Denot in
-    let posts : length (all_of (λ (w : W). w.replies.posts.items) c.run_seated-desk.result.workers.items) ≤ c.in_ok-posts.posts.spare =
-    omega (arith, c.run_seated-desk.ensures.few.0, c.in_ok-posts.ensures.1, c.len-many.ensures) in
-    let moves : length (all_of (λ (w : W). w.replies.takes.items) c.run_seated-desk.result.workers.items) ≤ c.in_ok-moves.moves.spare =
-    omega (arith, c.run_seated-desk.ensures.few.1, c.in_ok-moves.ensures.1, ap (λ (n : ℕ). (length c.args.queues.now - 1) * n) c.len-many.ensures) in
+    let posts : length (all_of (λ (w : W). w.replies.posts.items) c.run_seated-desk.result.workers.items) ≤ c.in_ok-replies.replies.posts.spare =
+    omega (arith, c.run_seated-desk.ensures.few.0, c.in_ok-replies.ensures.posts.1, c.len-many.ensures) in
+    let moves : length (all_of (λ (w : W). w.replies.takes.items) c.run_seated-desk.result.workers.items) ≤ c.in_ok-replies.replies.takes.spare =
+    omega (arith, c.run_seated-desk.ensures.few.1, c.in_ok-replies.ensures.moves.1, ap (λ (n : ℕ). (length c.args.queues.now - 1) * n) c.len-many.ensures) in
     record {
       desks = places_fit c.args.desks.now.len c.args.desks.now.cap c.remove-desk.new.self.cap c.seat-waiting.new.desks.cap c.push.new.self.cap
           c.seat-waiting.new.desks.len _ c.push.new.self.len c.run_seated-desk.result.workers.len _ _ c.args.desks.now.ok.1
@@ -68,10 +115,20 @@ returns g c =
     ∙ ap (λ (xs : List Passes). xs ++ map (λ (w : StageWorker g.row.Q-Pass.Denot). w.desk) c.run_seated-desk.result.workers.items) first in
     let posts = c.hand_back.ensures.replies false
     ∙ ap (λ (xs : List PostReply). xs ++ all_of (λ (w : StageWorker g.row.Q-Pass.Denot). w.replies.posts.items) c.run_seated-desk.result.workers.items)
-    c.in_ok-posts.ensures.0 in
+    c.in_ok-replies.ensures.posts.0 in
     let moves = c.hand_back.ensures.replies true
     ∙ ap (λ (xs : List StageReply). xs ++ all_of (λ (w : StageWorker g.row.Q-Pass.Denot). w.replies.takes.items) c.run_seated-desk.result.workers.items)
-    c.in_ok-moves.ensures.0 in
+    c.in_ok-replies.ensures.moves.0 in
     let end = over q queues c.args.lines.now posters stages c.run_seated-desk.result.desk c.run_seated-desk.result.workers.items
     c.run_seated-desk.result.outs.items c.requires.posters c.requires.good.few c.run_seated-desk.ensures.back.many c.run_seated-desk.ensures.back _ _ _ desks posts moves in
     record { idle = end.0; all = end.1 ∙ run; seen = end.2; pipeline = end.3; kept = tt }
+
+pub returns-in_err-rooms : goal.returns-in_err-rooms
+returns-in_err-rooms g c =
+    let r = err_from_is_err_and c.from_residual.result c.from_residual.ensures.1 in
+    rw r.1 (record { idle = tt; all = tt; seen = tt; pipeline = tt; kept = refl })
+
+pub returns-in_err-replies : goal.returns-in_err-replies
+returns-in_err-replies g c =
+    let r = err_from_is_err_and c.from_residual-in_err-replies.result c.from_residual-in_err-replies.ensures.1 in
+    rw r.1 (record { idle = tt; all = tt; seen = tt; pipeline = tt; kept = refl })
