@@ -1,5 +1,5 @@
 -- A pass learns from the one before it, and drains.
-use Rattle.std.proofs.Common.{List, [], subst, suc, sym, ℕ, ◌∙◌, ◌∷◌, ◌≡◌}
+use Rattle.std.proofs.Common.{List, [], arith, subst, suc, sym, ℕ, ◌∙◌, ◌∷◌, ◌≡◌, ◌≢◌}
 use Rattle.std.proofs.lemmas.List.Elements.{All-from_recursion, recursion_from_All}
 use Rattle.std.specs.List.{AllByRecursion}
 use Rattle.std.specs.Prelude.{slice_index_or}
@@ -88,6 +88,9 @@ module _ {D N : Type 0} {d : discipline.Ghosts D N} {m : machine.Ghosts Reclaimi
         numbers : AreNumbered seat (suc (seat u).agent) (v ∷ vs)
         numbers = subst (AreNumbered seat (suc (seat u).agent)) is numbered
 
+        pub next_differs : (seat v).agent ≢ (seat u).agent
+        next_differs same = let e = numbers.0 in omega (arith, e, same)
+
         module _ (idle : AllByRecursion (λ p. IsIdle (seat p)) all) (seen : AllByRecursion (λ p. IsPrefix (journal p) (journal u)) all) (x y : Pass d m)
             (l : Learns (λ (s : Step N). s.agent) (seat v) (seat u) (seat x) (seat y) (journal v) (journal u) (journal x) (journal y))
           where
@@ -108,6 +111,9 @@ module _ {D N : Type 0} {d : discipline.Ghosts D N} {m : machine.Ghosts Reclaimi
 
             pub others_idle : AllByRecursion (λ p. IsIdle (seat p)) vs
             others_idle = idle_all.1
+
+            pub next_idle : IsIdle (seat x)
+            next_idle = record { slots = hears.same.slots ∙ idle_all.0.slots; fresh = hears.same.fresh ∙ idle_all.0.fresh }
 
             pub list_stays : journal y ≡ journal u
             list_stays = sym l.one_journal ∙ at

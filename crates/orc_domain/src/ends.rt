@@ -1,9 +1,9 @@
 //! Passes that end their work.
 
-ghost use Rattle.std.specs.Prelude.{◌≡◌, ◌+◌, ◌*◌, [], All, suc};
+ghost use Rattle.std.specs.Prelude.{◌≡◌, ◌≢◌, ◌+◌, ◌*◌, [], All, suc};
 ghost use Rattle.std.specs.List.{AllByRecursion};
 ghost use mathlib.Core.List.{IsPrefix};
-ghost use Rattle.orc_any_domain.specs.Learning.{Hears};
+ghost use Rattle.orc_any_domain.specs.Learning.{Hears, LearnsAll};
 ghost use Rattle.orc_heap.specs.{OwnEvents.{Only}, Seats.{IsIdle}};
 ghost use Rattle.orc_history.specs.Parts.{IsAlone};
 ghost use Rattle.orc_machine_rest.specs.{Drains.{Drains}, OwnSteps.{AtMostMore, LeavesNothing, TakesInAll, most_rounds, steps_a_round}};
@@ -61,11 +61,23 @@ impl<D: Discipline> OrcDomain<D> {
         ensures quiet { AddsNoEvents self.now passes.old passes.new }
     {
         if let Some((first, others)) = passes.split_first_mut() {
-            learn_all(self, first, others);
+            self.learn_from_all(first, others);
             self.drain(first);
             self.drain_in_turn(first, others);
-            learn_all(self, first, others);
+            self.learn_from_all(first, others);
         }
+    }
+
+    // Lets the pass learn from each of the others, twice.
+    fn learn_from_all(&self, first: &mut OrcPass<D>, others: &mut [OrcPass<D>])
+        requires first { IsPassOf self.now first.old }
+        requires others { AllByRecursion (λ p. IsPassOf self.now p) others.old }
+        requires agents { AllByRecursion (λ p. (seat_of self.now first.old).agent ≢ (seat_of self.now p).agent) others.old }
+        ensures first { IsPassOf self.now first.new }
+        ensures others { AllByRecursion (λ p. IsPassOf self.now p) others.new }
+        ensures steps { LearnsAll (λ p. seat_of self.now p) (λ s. s.agent) (λ p. journal_of p) first.old first.new others.old others.new }
+    {
+        learn_all(self, first, others);
     }
 
     // Lets each of the others drain, after it has learned from the one before it.

@@ -65,9 +65,7 @@ fn domain_passes<D: Discipline>(
 
 // Makes a pass that was given no row yet.
 fn new_pass<D: Discipline>(shape: &Shape, pass: MachineBoardPass<D>) -> OrcPass<D>
-    ensures same { result.pass ≡ pass }
-    ensures next { result.next < (bounds_of shape.now).rows }
-    ensures first { result.next ≡ first_row (bounds_of shape.now) (shows result.pass).agent % (bounds_of shape.now).rows }
+    ensures { result ≡ record { pass = pass; next = first_row (bounds_of shape.now) (shows pass).agent % (bounds_of shape.now).rows } }
 {
     let next = first_row(shape, pass.agent());
     OrcPass { pass, next }

@@ -1,7 +1,7 @@
-use Rattle.std.proofs.Common.{rules, subst}
+use Rattle.std.proofs.Common.{refl, rules, subst}
 use Rattle.std.specs.List.{AllByRecursion}
 use Rattle.orc_any_domain.proofs.Lists.{all_behind}
-use Rattle.orc_domain.proofs.NextDrain.{before_hears, list_stays, next_numbered, next_seen, others_idle, turns_next}
+use Rattle.orc_domain.proofs.NextDrain.{before_hears, list_stays, next_differs, next_idle, next_numbered, next_seen, others_idle, turns_next}
 use Rattle.orc_domain.specs.Passes.{IsPassOf}
 use Rattle.orc_domain.proofs.domain.OrcDomain.+drain_in_turn.Goals as goal
 
@@ -38,3 +38,35 @@ returns-clause-turns g t c =
     c.requires.numbered c.requires.idle c.requires.seen c.learn.new.into c.learn.new.from c.learn.ensures.learned
     c.drain.new.p c.drain.ensures.drains c.drain.ensures.nothing passes.0 c.drain.ensures.pass c.drain.ensures.idle
     c.drain_in_turn.new.before c.drain_in_turn.new.others c.drain_in_turn.ensures.hears c.drain_in_turn.ensures.same c.drain_in_turn.ensures.turns
+
+pub learn-requires-clause-passes : goal.learn-requires-clause-passes
+learn-requires-clause-passes g t c =
+    let passes = subst (AllByRecursion (λ p. IsPassOf c.args.self.now p)) c.in-Some.ensures.cases.0 c.requires.others in
+    (passes.0, c.requires.before)
+
+pub learn-requires-clause-agents : goal.learn-requires-clause-agents
+learn-requires-clause-agents g t c =
+    next_differs c.args.self.now c.args.before.now c.in-Some.next.now c.in-Some.rest.now c.args.others.now c.in-Some.ensures.cases.0 c.requires.numbered
+
+pub drain-requires-clause-pass : goal.drain-requires-clause-pass
+drain-requires-clause-pass g t c = c.learn.ensures.passes.0
+
+pub drain-requires-clause-idle : goal.drain-requires-clause-idle
+drain-requires-clause-idle g t c =
+    next_idle c.args.self.now c.args.before.now c.in-Some.next.now c.in-Some.rest.now c.args.others.now c.in-Some.ensures.cases.0
+    c.requires.numbered c.requires.idle c.requires.seen c.learn.new.into c.learn.new.from c.learn.ensures.learned
+
+pub returns-clause-before : goal.returns-clause-before
+returns-clause-before g t c = c.learn.ensures.passes.1
+
+pub returns-clause-others : goal.returns-clause-others
+returns-clause-others g t c = (c.drain_in_turn.ensures.before, c.drain_in_turn.ensures.others)
+
+pub returns-in_default-clause-before : goal.returns-in_default-clause-before
+returns-in_default-clause-before g t c = c.requires.before
+
+pub returns-in_default-clause-others : goal.returns-in_default-clause-others
+returns-in_default-clause-others g t c = c.requires.others
+
+pub returns-in_default-clause-same : goal.returns-in_default-clause-same
+returns-in_default-clause-same g t c = refl

@@ -42,3 +42,36 @@ returns-then-eq-clause-low g c =
     let old : may_change d n from (Some c.in-Node.h.now.row) ≡ true = old_target d n c.in-Node.h.now.row from
     (c.if-eq.ensures ∙ ap (λ (l : RowLink). option_eq eqb l.to (Some c.row.result)) c.row_link.ensures ∙ ap (λ r. option_eq eqb from (Some r)) c.row.ensures) in
     subst (λ (w : Want). may_change d n from (row_link w).to ≡ true) (sym c.in-Node.is) old
+
+pub check-requires-clause-belongs : goal.check-requires-clause-belongs
+check-requires-clause-belongs g c = c.requires.belongs
+
+pub check-requires-clause-ready : goal.check-requires-clause-ready
+check-requires-clause-ready g c = c.requires.ready
+
+pub returns-in_default-clause-belongs : goal.returns-in_default-clause-belongs
+returns-in_default-clause-belongs g c = c.requires.belongs
+
+pub returns-in_default-clause-spent : goal.returns-in_default-clause-spent
+returns-in_default-clause-spent g c = tt
+
+pub returns-in_default-clause-worn : goal.returns-in_default-clause-worn
+returns-in_default-clause-worn g c = tt
+
+pub returns-then-eq-clause-belongs : goal.returns-then-eq-clause-belongs
+returns-then-eq-clause-belongs g c = c.requires.belongs
+
+pub returns-then-eq-clause-spent : goal.returns-then-eq-clause-spent
+returns-then-eq-clause-spent g c = tt
+
+pub returns-then-eq-clause-worn : goal.returns-then-eq-clause-worn
+returns-then-eq-clause-worn g c = tt
+
+pub returns-clause-belongs : goal.returns-clause-belongs
+returns-clause-belongs g c = c.check.ensures.belongs
+
+pub returns-clause-checks : goal.returns-clause-checks
+returns-clause-checks g c = c.check.ensures.checks
+
+pub returns-clause-worn : goal.returns-clause-worn
+returns-clause-worn g c = c.check.ensures.worn

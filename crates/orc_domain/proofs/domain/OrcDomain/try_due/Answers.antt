@@ -25,3 +25,12 @@ returns-in_default-clause-becomes g c =
     let s = shows c.args.p.now in
     becomes_self (domain_bounds c.args.self.now) (record s.record_is { due = None }) s
     (without_due s.record_is (c.requires.pending ∙ c.in_default.is))
+
+pub set_retired-requires-clause-belongs : goal.set_retired-requires-clause-belongs
+set_retired-requires-clause-belongs g c = c.requires.belongs
+
+pub returns-in-Some-clause-belongs : goal.returns-in-Some-clause-belongs
+returns-in-Some-clause-belongs g c = c.set_retired.ensures.belongs
+
+pub returns-in_default-clause-belongs : goal.returns-in_default-clause-belongs
+returns-in_default-clause-belongs g c = c.requires.belongs

@@ -1,5 +1,5 @@
 use Rattle.std.proofs.Common.{ap, arith, eqb-true, inl, inr, ◌/◌, ◌<◌, ◌≤◌, ◌∙◌, ◌%◌}
-use Rattle.std.proofs.lemmas.Bool.{eq-eqb, eqb-false, ne_eqb}
+use Rattle.std.proofs.lemmas.Bool.{eq-eqb, eqb-false, false≢true, ne_eqb}
 use Rattle.orc_domain.proofs.Ending.{stage_of}
 use Rattle.orc_domain.proofs.Trying.{LooksAt, ReadsCounter, count_fails, look_fails, take_can, take_fails, take_gets}
 use Rattle.orc_domain.specs.Passes.{domain_bounds}
@@ -58,3 +58,33 @@ returns-clause-took g c f =
     let at = goal.at.returns-clause-took g c in
     let e = c.gate_take-taken in
     take_gets (looks g at.After-gate_look-gate) (reads g at.After-counter_load-counter) (stage_of e.ensures.belongs) e.result e.ensures.made (eqb-true e.result 1 f)
+
+pub gate_look-gate-requires-clause-belongs : goal.gate_look-gate-requires-clause-belongs
+gate_look-gate-requires-clause-belongs g c = c.requires.belongs
+
+pub counter_load-counter-requires-clause-belongs : goal.counter_load-counter-requires-clause-belongs
+counter_load-counter-requires-clause-belongs g c = c.gate_look-gate.ensures.belongs
+
+pub gate_take-taken-requires-clause-belongs : goal.gate_take-taken-requires-clause-belongs
+gate_take-taken-requires-clause-belongs g c = c.counter_load-counter.ensures.belongs
+
+pub returns-then-gate-eq1-clause-belongs : goal.returns-then-gate-eq1-clause-belongs
+returns-then-gate-eq1-clause-belongs g c = c.gate_look-gate.ensures.belongs
+
+pub returns-then-gate-eq1-clause-took : goal.returns-then-gate-eq1-clause-took
+returns-then-gate-eq1-clause-took g c is = absurd (false≢true is)
+
+pub returns-then-gate-limit-clause-belongs : goal.returns-then-gate-limit-clause-belongs
+returns-then-gate-limit-clause-belongs g c = c.gate_look-gate.ensures.belongs
+
+pub returns-then-gate-limit-clause-took : goal.returns-then-gate-limit-clause-took
+returns-then-gate-limit-clause-took g c is = absurd (false≢true is)
+
+pub returns-then-counter-limit-clause-belongs : goal.returns-then-counter-limit-clause-belongs
+returns-then-counter-limit-clause-belongs g c = c.counter_load-counter.ensures.belongs
+
+pub returns-then-counter-limit-clause-took : goal.returns-then-counter-limit-clause-took
+returns-then-counter-limit-clause-took g c is = absurd (false≢true is)
+
+pub returns-clause-belongs : goal.returns-clause-belongs
+returns-clause-belongs g c = c.gate_take-taken.ensures.belongs

@@ -3,6 +3,7 @@ use Rattle.std.proofs.Math.Nat.{mod-lt}
 use Rattle.orc_domain.proofs.Giving.{Gave, Took, first_can, gave, publish_can, second_can}
 use Rattle.orc_domain.proofs.Rounds.{next_grows, tries_all, tries_then}
 use Rattle.orc_domain.proofs.Ending.{between_of, ends_later, pass_of, stage_of}
+use Rattle.orc_domain.proofs.Swinging.{read_between}
 use Rattle.orc_domain.proofs.TakingIn.{takes_free}
 use Rattle.orc_any_domain.specs.Turns.{IsNext}
 use Rattle.orc_heap.specs.Slots.{Hold}
@@ -105,3 +106,63 @@ returns-clause-next g c =
     let rows = c.rows.ensures ∙ ap (λ (b : Bounds). b.rows) c.shape.ensures in
     let same = ap (λ (h : Hold). h.row) (sym c.new.ensures) in
     c.around-p.ensures ∙ (λ i. (same i + 1) % rows i)
+
+pub search-requires-clause-belongs : goal.search-requires-clause-belongs
+search-requires-clause-belongs g c = c.requires.pass.board
+
+pub search-requires-clause-ready : goal.search-requires-clause-ready
+search-requires-clause-ready g c = c.requires.pass.ready
+
+pub search-requires-clause-begin : goal.search-requires-clause-begin
+search-requires-clause-begin g c = c.requires.pass.inside
+
+pub take_in_free-requires-clause-belongs : goal.take_in_free-requires-clause-belongs
+take_in_free-requires-clause-belongs g c = c.search.ensures.belongs
+
+pub returns-in_default-clause-pass : goal.returns-in_default-clause-pass
+returns-in_default-clause-pass g c =
+    pass_of c.take_in_free.ensures.belongs
+    (read_between (stage_of c.requires.pass.board) (stage_of c.take_in_free.ensures.belongs)
+    (tries_then _ _ _ _ _ _ _ (c.search.ensures.tried c.in_default.is) c.take_in_free.ensures.idle).idle (between_of c.requires.pass))
+    c.requires.pass.inside
+
+pub returns-in_default-clause-later : goal.returns-in_default-clause-later
+returns-in_default-clause-later g c =
+    let idle = (tries_then _ _ _ _ _ _ _ (c.search.ensures.tried c.in_default.is) c.take_in_free.ensures.idle).idle in (idle.more, sym idle.journal)
+
+pub returns-in_default-clause-none : goal.returns-in_default-clause-none
+returns-in_default-clause-none g c =
+    (tries_then _ _ _ _ _ _ _ (c.search.ensures.tried c.in_default.is) c.take_in_free.ensures.idle).idle.only
+
+pub returns-in_default-clause-given : goal.returns-in_default-clause-given
+returns-in_default-clause-given g c = tt
+
+pub returns-in_default-clause-in_turn : goal.returns-in_default-clause-in_turn
+returns-in_default-clause-in_turn g c = tt
+
+pub returns-in_default-clause-next : goal.returns-in_default-clause-next
+returns-in_default-clause-next g c = tt
+
+pub returns-in_default-clause-same_next : goal.returns-in_default-clause-same_next
+returns-in_default-clause-same_next g c = refl
+
+pub fill-requires-clause-belongs : goal.fill-requires-clause-belongs
+fill-requires-clause-belongs g c = c.search.ensures.belongs
+
+pub fill-requires-2-clause-belongs : goal.fill-requires-2-clause-belongs
+fill-requires-2-clause-belongs g c = c.fill.ensures.belongs
+
+pub publish-requires-clause-belongs : goal.publish-requires-clause-belongs
+publish-requires-clause-belongs g c = c.fill-2.ensures.belongs
+
+pub returns-clause-none : goal.returns-clause-none
+returns-clause-none g c = tt
+
+pub returns-clause-lacking : goal.returns-clause-lacking
+returns-clause-lacking g c = tt
+
+pub returns-clause-taken_in : goal.returns-clause-taken_in
+returns-clause-taken_in g c = tt
+
+pub returns-clause-same_next : goal.returns-clause-same_next
+returns-clause-same_next g c = tt

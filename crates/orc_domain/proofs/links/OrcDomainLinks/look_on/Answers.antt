@@ -167,3 +167,49 @@ returns-then-stays-clause-looked g c =
 pub returns-then-stays-clause-taken_in : goal.returns-then-stays-clause-taken_in
 returns-then-stays-clause-taken_in g c =
     (move_ends (moves g (goal.at.returns-then-stays-clause-taken_in g c).After-read_again-stays) (c.read_again-stays.ensures.again.stays c.if-stays.true)).leaves
+
+pub load-one-requires-clause-belongs : goal.load-one-requires-clause-belongs
+load-one-requires-clause-belongs g c = c.requires.pass.board
+
+pub returns-in_default-clause-later : goal.returns-in_default-clause-later
+returns-in_default-clause-later g c = ends_later (null_ends (starts g (goal.at.returns-in_default-clause-later g c).After-load-one))
+
+pub returns-in_default-clause-next : goal.returns-in_default-clause-next
+returns-in_default-clause-next g c = refl
+
+pub protect_marked-same-requires-clause-belongs : goal.protect_marked-same-requires-clause-belongs
+protect_marked-same-requires-clause-belongs g c = c.load-one.ensures.belongs
+
+pub returns-then-mark-clause-next : goal.returns-then-mark-clause-next
+returns-then-mark-clause-next g c = refl
+
+pub returns-then-same-clause-next : goal.returns-then-same-clause-next
+returns-then-same-clause-next g c = refl
+
+pub move_on-requires-clause-belongs : goal.move_on-requires-clause-belongs
+move_on-requires-clause-belongs g c = c.load-one.ensures.belongs
+
+pub read_again-stays-requires-clause-belongs : goal.read_again-stays-requires-clause-belongs
+read_again-stays-requires-clause-belongs g c = c.move_on.ensures.belongs
+
+pub read_again-stays-requires-clause-known : goal.read_again-stays-requires-clause-known
+read_again-stays-requires-clause-known g c = c.load-one.ensures.link
+
+pub unlock_moved-requires-clause-belongs : goal.unlock_moved-requires-clause-belongs
+unlock_moved-requires-clause-belongs g c = c.read_again-stays.ensures.belongs
+
+pub returns-clause-later : goal.returns-clause-later
+returns-clause-later g c =
+    ends_later (off_ends (moves g (goal.at.returns-clause-later g c).After-read_again-stays)
+    (c.read_again-stays.ensures.again.moves c.if-stays.false) (stage_of c.unlock_moved.ensures.belongs)
+    c.unlock_moved.ensures.unlocks)
+
+pub returns-clause-next : goal.returns-clause-next
+returns-clause-next g c = refl
+
+pub returns-then-stays-clause-later : goal.returns-then-stays-clause-later
+returns-then-stays-clause-later g c =
+    ends_later (move_ends (moves g (goal.at.returns-then-stays-clause-later g c).After-read_again-stays) (c.read_again-stays.ensures.again.stays c.if-stays.true))
+
+pub returns-then-stays-clause-next : goal.returns-then-stays-clause-next
+returns-then-stays-clause-next g c = refl

@@ -1,3 +1,4 @@
+use Rattle.std.proofs.Common.{refl, sym}
 use Rattle.orc_domain.proofs.Ending.{between_of, pass_of, stage_of}
 use Rattle.orc_domain.proofs.Swinging.{leaves_both, move_on, read_between, read_untouched, swings_both}
 use Rattle.orc_domain.proofs.links.OrcDomainLinks.swing.Goals as goal
@@ -25,3 +26,39 @@ pub returns-clause-taken_in : goal.returns-clause-taken_in
 returns-clause-taken_in g c =
     leaves_both (stage_of c.requires.pass.board) (stage_of c.prepare.ensures.belongs) c.prepare.ensures.checks (stage_of c.exchange-done.ensures.belongs)
     c.prepare.ensures.checks.leaves c.exchange-done.ensures.leaves
+
+pub prepare-requires-clause-belongs : goal.prepare-requires-clause-belongs
+prepare-requires-clause-belongs g c = c.requires.pass.board
+
+pub prepare-requires-clause-ready : goal.prepare-requires-clause-ready
+prepare-requires-clause-ready g c = c.requires.pass.ready
+
+pub prepare-requires-clause-links : goal.prepare-requires-clause-links
+prepare-requires-clause-links g c = c.requires.links
+
+pub returns-in_err-prepare-clause-later : goal.returns-in_err-prepare-clause-later
+returns-in_err-prepare-clause-later g c = let idle = c.prepare.ensures.checks in (idle.more, sym idle.journal)
+
+pub returns-in_err-prepare-clause-taken_in : goal.returns-in_err-prepare-clause-taken_in
+returns-in_err-prepare-clause-taken_in g c = c.prepare.ensures.checks.leaves
+
+pub returns-in_err-prepare-clause-next : goal.returns-in_err-prepare-clause-next
+returns-in_err-prepare-clause-next g c = refl
+
+pub exchange-done-requires-clause-belongs : goal.exchange-done-requires-clause-belongs
+exchange-done-requires-clause-belongs g c = c.prepare.ensures.belongs
+
+pub exchange-done-requires-clause-low : goal.exchange-done-requires-clause-low
+exchange-done-requires-clause-low g c = c.in_ok-prepare.ensures.low
+
+pub returns-clause-none : goal.returns-clause-none
+returns-clause-none g c = tt
+
+pub returns-clause-spent : goal.returns-clause-spent
+returns-clause-spent g c = tt
+
+pub returns-clause-worn : goal.returns-clause-worn
+returns-clause-worn g c = tt
+
+pub returns-clause-next : goal.returns-clause-next
+returns-clause-next g c = refl
