@@ -1,5 +1,8 @@
 -- A protected load.
 use Rattle.std.proofs.Common.{◌≡◌, ◌≢◌, ℕ, Bool, List, [], ◌∷◌, true, false, Option, Some, None, slice_set, refl, sym, ap, ◌∙◌, subst}
+use mathlib.Core.List.{IsPrefix}
+use Rattle.orc_words.specs.Bounds.{Bounds}
+use Rattle.orc_heap.proofs.Pieces.{goes_on}
 use Rattle.orc_words.specs.declared.packed.RowLink.{RowLink}
 use Rattle.orc_words.specs.declared.place.Word.{Word}
 use Rattle.orc_heap.proofs.Calls.{Puts-trans, looks_beside}
@@ -22,12 +25,12 @@ use Rattle.orc_plain_board.specs.Calls.{KnowsPlace, KnowsRow}
 use Rattle.orc_any_domain.specs.Rows.{index_of}
 use Rattle.orc_plain_board.specs.Machine.{id_by, link_by, place_by, run}
 use Rattle.orc_heap.specs.Journals.{event_by}
-use Rattle.orc_plain_board.specs.Views.{PlainView, heap_of, shows}
+use Rattle.orc_plain_board.specs.Views.{PlainView, heap_of, shows, shows_by}
 use Rattle.orc_plain_board.specs.declared.machine.Plain.{Plain}
 use Rattle.orc_plain_board.specs.declared.machine.PlainOp.{PlainOp}
 use Rattle.orc_plain_board.specs.declared.machine.PlainStep.{PlainStep}
 use Rattle.orc_plain_board.specs.declared.shape.PlainShape.{PlainShape}
-use Rattle.orc_plain_domain.specs.Passes.{IsPassOf, domain_bounds, domain_numbers, seat_of}
+use Rattle.orc_plain_domain.specs.Passes.{IsPassOf, domain_bounds, domain_numbers, journal_of, seat_of}
 use Rattle.orc_plain_domain.specs.declared.domain.PlainDomain.{PlainDomain}
 use Rattle.orc_plain_domain.specs.declared.domain.PlainPass.{PlainPass}
 use Rattle.orc_plain_domain.specs.Calls.{IsSame, Loads}
@@ -50,6 +53,12 @@ link_one rows l k g f e = let r = went l.to k.to g f (ap (λ (z : Link). z.to) e
 module _ {D N : Type 0} {d : discipline.Ghosts D N} {m : machine.Ghosts Plain N (PlainShape N) PlainOp (PlainStep N) (Unit {0}) (Unit {0})}
     (domain : PlainDomain D N) (p q : PlainPass D N (PlainShape N) PlainOp (PlainStep N) (Unit {0}) (Unit {0}) d m)
   where
+    -- what a pass of the domain has seen is what its board tells
+    events_later : IsPassOf domain p → IsPassOf domain q → IsPrefix (shows domain.board p.pass).events (shows domain.board q.pass).events
+        → IsPrefix (journal_of p) (journal_of q)
+    events_later h k = subst (λ (z : Bounds × Bounds). IsPrefix (shows_by z.0 p.pass).events (shows_by z.1 q.pass).events)
+        (λ i. (sym h.shape i, sym k.shape i))
+
     -- a load of a place by its word found this link
     pub record LoadsWord (word : Word) (link : RowLink) : Type 0 where
       pub after : IsPassOf domain q
@@ -72,6 +81,9 @@ module _ {D N : Type 0} {d : discipline.Ghosts D N} {m : machine.Ghosts Plain N 
 
     grows : Grows b s t
     grows = adds_grow b may (event_by s.agent (Look (place_by s.rows word) (link_by t.rows one)) None ∷ []) s t first.load.loads.adds
+
+    pub later_first : IsPrefix (journal_of p) (journal_of p1)
+    later_first = events_later domain p p1 first.before first.load.after grows.events
 
     pub slots_still : (seat_of domain p1).slots ≡ (seat_of domain p).slots
     slots_still = ap (slots_by t.rows) first.load.same.slots ∙ slots_stay b s t p.slots grows (held_given domain p first.before)
@@ -126,6 +138,9 @@ module _ {D N : Type 0} {d : discipline.Ghosts D N} {m : machine.Ghosts Plain N 
 
         grows2 : Grows b t u
         grows2 = adds_grow b may (event_by t.agent (Look (place_by t.rows word) (link_by u.rows two)) None ∷ []) t u again.loads.adds
+
+        pub later_last : IsPrefix (journal_of p) (journal_of p2)
+        later_last = events_later domain p p2 first.before again.after (goes_on s.events t.events u.events grows.events grows2.events)
 
         two_given : Given u.rows two.to
         two_given = given_by b (run b p2.pass.pass.seat.me.0.seen).words u.rows (heap_of b u) (tie domain p2 again.after) t.agent two.to again.loads.known

@@ -66,11 +66,12 @@ fn domain_passes<D: Discipline>(
 
 // Makes a pass that holds nothing.
 fn new_pass<D: Discipline>(shape: &Shape, pass: orc_plain_board::PlainBoardPass<D>) -> PlainPass<D>
-    ensures same { result.pass ≡ pass }
-    ensures slots { result.slots ≡ replicate 8 None }
-    ensures next { result.next < (bounds_of shape.now).rows }
-    ensures first { result.next ≡ first_row (bounds_of shape.now) (shows_by (bounds_of shape.now) result.pass).agent % (bounds_of shape.now).rows }
-    ensures shape { bounds_of result.shape ≡ bounds_of shape.now }
+    ensures { result ≡ record {
+      pass = pass;
+      slots = replicate 8 None;
+      next = first_row (bounds_of shape.now) (shows_by (bounds_of shape.now) pass).agent % (bounds_of shape.now).rows;
+      shape = shape.now;
+    } }
 {
     let next = first_row(shape, pass.agent());
     PlainPass {

@@ -1,3 +1,4 @@
+use Rattle.std.proofs.Common.{arith}
 use Rattle.orc_plain_domain.proofs.Draining.{agents_differ, all_again, first_of, idle_again, learned, no_longer, others_of, own_seen}
 use Rattle.orc_plain_domain.proofs.domain.PlainDomain.drain_all.Goals as goal
 
@@ -34,3 +35,10 @@ pub returns-in-Some-clause-longest : goal.returns-in-Some-clause-longest
 returns-in-Some-clause-longest g c =
     no_longer c.args.self.now c.args.passes.now c.in-Some.first.now c.in-Some.others.now c.in-Some.ensures.cases.0 c.requires.all
     c.learn_all.new.first c.learn_all.new.others c.learn_all.ensures.events
+
+pub returns-in_default : goal.returns-in_default
+returns-in_default g c =
+    let many = c.requires.all.many in
+    let some = c.args.self.now.board.words.shape.shape.some_agents in
+    let none = c.in_default.ensures.cases in
+    absurd (omega (arith, many, some, none))

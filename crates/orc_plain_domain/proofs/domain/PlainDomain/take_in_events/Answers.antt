@@ -16,3 +16,9 @@ returns-clause-taken g c =
     let long : length c.loop-rest.rest.items ≡ 0 = search rules in
     taking_done c.args.self.now c.args.into.now c.loop-rest.into c.args.others.items c.loop-rest.rest.items c.loop-rest.invariant
     (nil_from_length c.loop-rest.rest.items long)
+
+pub loop-rest-init : goal.loop-rest-init
+loop-rest-init g c = record { pass = c.requires.into; others = c.requires.others; to_go = λ u k. k }
+
+pub returns-clause-into : goal.returns-clause-into
+returns-clause-into g c = c.loop-rest.invariant.pass

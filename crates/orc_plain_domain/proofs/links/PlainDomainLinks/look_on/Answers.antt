@@ -1,9 +1,9 @@
-use Rattle.std.proofs.Common.{sym, subst}
+use Rattle.std.proofs.Common.{sym, subst, ◌∙◌}
 use Rattle.orc_plain_board.specs.Calls.{KnowsPlace}
 use Rattle.orc_plain_board.specs.Views.{shows}
 use Rattle.orc_plain_domain.specs.Passes.{domain_bounds}
 use Rattle.orc_plain_domain.proofs.Equal.{links_agree, links_differ}
-use Rattle.orc_plain_domain.proofs.Looking.{LoadsFirst, LoadsWord, known_again, moves_held, moves_off, stays_held, stays_moved, stays_null, still_looked, still_off}
+use Rattle.orc_plain_domain.proofs.Looking.{LoadsFirst, LoadsWord, known_again, later_first, later_last, moves_held, moves_off, stays_held, stays_moved, stays_null, still_looked, still_off}
 use Rattle.orc_plain_domain.proofs.Naming.{place_known}
 use Rattle.orc_plain_domain.proofs.Releasing.{slot_below}
 use Rattle.orc_plain_domain.proofs.links.PlainDomainLinks.look_on.Given.{Over}
@@ -84,3 +84,53 @@ returns-clause-looked g c =
     moves_held (first g at.After-load-one) (again g at.After-load-again) c.slot-freed.result c.in-Some.row c.in-Some.is
     (links_agree c.load-again.result c.load-one.result c.ne-2.result c.ne-2.ensures c.if-ne-2.false)
     c.args.slot c.new.result c.args.from c.slot-freed.ensures c.new.ensures c.if-mark.false
+
+pub load-one-requires-clause-pass : goal.load-one-requires-clause-pass
+load-one-requires-clause-pass g c = c.requires.pass
+
+pub load-again-requires-clause-pass : goal.load-again-requires-clause-pass
+load-again-requires-clause-pass g c = c.load-one.ensures.pass
+
+pub returns-in_default-clause-pass : goal.returns-in_default-clause-pass
+returns-in_default-clause-pass g c = c.load-one.ensures.pass
+
+pub returns-in_default-clause-later : goal.returns-in_default-clause-later
+returns-in_default-clause-later g c = later_first (first g (goal.at.returns-in_default-clause-later g c).After-load-one)
+
+pub returns-in_default-clause-next : goal.returns-in_default-clause-next
+returns-in_default-clause-next g c = c.load-one.ensures.same.next
+
+pub returns-then-ne-clause-pass : goal.returns-then-ne-clause-pass
+returns-then-ne-clause-pass g c = c.load-again.ensures.pass
+
+pub returns-then-ne-clause-later : goal.returns-then-ne-clause-later
+returns-then-ne-clause-later g c =
+    let at = goal.at.returns-then-ne-clause-later g c in
+    later_last (first g at.After-load-one) (again g at.After-load-again)
+
+pub returns-then-ne-clause-next : goal.returns-then-ne-clause-next
+returns-then-ne-clause-next g c = c.load-again.ensures.same.next ∙ c.load-one.ensures.same.next
+
+pub returns-then-mark-clause-later : goal.returns-then-mark-clause-later
+returns-then-mark-clause-later g c =
+    let at = goal.at.returns-then-mark-clause-later g c in
+    later_last (first g at.After-load-one) (again g at.After-load-again)
+
+pub returns-then-mark-clause-next : goal.returns-then-mark-clause-next
+returns-then-mark-clause-next g c = c.load-again.ensures.same.next ∙ c.load-one.ensures.same.next
+
+pub returns-then-ne-2-clause-later : goal.returns-then-ne-2-clause-later
+returns-then-ne-2-clause-later g c =
+    let at = goal.at.returns-then-ne-2-clause-later g c in
+    later_last (first g at.After-load-one) (again g at.After-load-again)
+
+pub returns-then-ne-2-clause-next : goal.returns-then-ne-2-clause-next
+returns-then-ne-2-clause-next g c = c.load-again.ensures.same.next ∙ c.load-one.ensures.same.next
+
+pub returns-clause-later : goal.returns-clause-later
+returns-clause-later g c =
+    let at = goal.at.returns-clause-later g c in
+    later_last (first g at.After-load-one) (again g at.After-load-again)
+
+pub returns-clause-next : goal.returns-clause-next
+returns-clause-next g c = c.load-again.ensures.same.next ∙ c.load-one.ensures.same.next
