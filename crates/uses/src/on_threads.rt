@@ -39,8 +39,9 @@ where
     ensures usable { All (λ p. ⟦<Queue<L> as SharedQueue>⟧.usable queue.now p) passes.new.items }
     ensures many { length passes.new.items ≡ length passes.old.items }
 {
-    put_and_take_by_all(rt, queue, passes.as_mut_slice(), rounds, sums);
-    backlog_when_settled(queue.links(), passes.as_mut_slice())
+    let passes = passes.as_mut_slice();
+    put_and_take_by_all(rt, queue, passes, rounds, sums);
+    backlog_when_settled(queue.links(), passes)
 }
 
 /// Lets each agent of a new queue put and take in turn, in so many rounds, in a thread of its own, and brings the queue to rest. None
@@ -103,9 +104,10 @@ where
     ensures usable { All (λ p. ⟦<Set<L> as SharedSet>⟧.usable set.now p) passes.new.items }
     ensures many { length passes.new.items ≡ length passes.old.items }
 {
-    add_and_take_out_by_all(rt, set, passes.as_mut_slice(), 64, calls, sums);
-    let found = present(set, passes.as_mut_slice());
-    let waiting = backlog_when_settled(set.links(), passes.as_mut_slice());
+    let passes = passes.as_mut_slice();
+    add_and_take_out_by_all(rt, set, passes, 64, calls, sums);
+    let found = present(set, passes);
+    let waiting = backlog_when_settled(set.links(), passes);
     (found, waiting)
 }
 

@@ -4,3 +4,9 @@ use Rattle.uses.proofs.passes.two_passes.Goals as goal
 
 pub returns-clause-agents : goal.returns-clause-agents
 returns-clause-agents g c e = omega (arith, e, c.in_ok-second.ensures.agent, c.in_ok-first.ensures.agent, c.in_ok-first.ensures.fewer)
+
+pub returns-clause-first : goal.returns-clause-first
+returns-clause-first g c = c.in_ok-first.ensures.popped
+
+pub returns-clause-second : goal.returns-clause-second
+returns-clause-second g c = c.in_ok-second.ensures.popped
