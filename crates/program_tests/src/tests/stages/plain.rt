@@ -1,5 +1,6 @@
 //! Rows of a pipeline over plain queues, by one agent.
-ghost use Rattle.orc_jobs.specs.GoodLines.{AreGood};
+ghost use Rattle.std.specs.Prelude.{◌≡◌, [], IfOk, length};
+ghost use Rattle.orc_jobs.specs.{GoodLines.{AreGood}, Line.{jobs_in}};
 ghost use Rattle.orc_stages.specs.Calls.{AreStagePasses};
 
 use super::super::{lines_of, plain_queue};
@@ -33,11 +34,54 @@ struct Wanted<'a> {
     outs: &'a [u64],
 }
 
+// Empty lists, with room for what comes of these lines.
+fn empty_lists(alloc: Global, lines: &Lines) -> Result<TwoStages, NoMemory>
+    ensures posts { IfOk result (λ d. (d.posts.items ≡ []) × (d.posts.spare ≡ length lines.now)) }
+    ensures first { IfOk result (λ d. (d.first.items ≡ []) × (d.first.spare ≡ jobs_in lines.now)) }
+    ensures second { IfOk result (λ d. (d.second.items ≡ []) × (d.second.spare ≡ jobs_in lines.now)) }
+    ensures outs { IfOk result (λ d. d.outs.items ≡ []) }
+{
+    let jobs = count_jobs(lines);
+    Ok(TwoStages {
+        posts: PostList::new(alloc, lines.len())?,
+        first: StageList::new(alloc, jobs)?,
+        second: StageList::new(alloc, jobs)?,
+        outs: OutList::new(alloc, jobs)?,
+    })
+}
+
+// Agent 1 works as the first stage, or as the caller in place of it.
+fn first_stage<R: Wait, Q: SharedQueue>(
+    rt: &R,
+    from: &Q,
+    to: &Q,
+    p: &mut Q::Pass,
+    r: &mut Q::Pass,
+    lines: &Lines,
+    by_caller: bool,
+    moves: &mut StageList,
+)
+    requires passes { AreStagePasses Q.SharedQueue from.now to.now 1 p.old r.old }
+    requires good { AreGood lines.now }
+    requires none { moves.old.items ≡ [] }
+    requires room { moves.old.spare ≡ jobs_in lines.now }
+    ensures passes { AreStagePasses Q.SharedQueue from.now to.now 1 p.new r.new }
+{
+    if by_caller {
+        move_rest(rt, from, to, p, r, 1, lines, moves);
+        return;
+    }
+    let before = AtomicU64::new(0);
+    let after = AtomicU64::new(2);
+    run_stage(
+        rt, from, to, p, r, 1, lines, &OpenGate, &before, &after, moves,
+    );
+}
+
 // What comes of these lines at three queues, where agent 1 does all: as the poster, as two stages, or as the caller in place of the first,
 // and as the caller who takes what has come out.
 fn at_queues<R: Wait, Q: SharedQueue>(
     rt: &R,
-    alloc: Global,
     lines: &Lines,
     queue0: &Q,
     queue1: &Q,
@@ -46,46 +90,34 @@ fn at_queues<R: Wait, Q: SharedQueue>(
     pass1: &mut Q::Pass,
     pass2: &mut Q::Pass,
     by_caller: bool,
-) -> Result<TwoStages, NoMemory>
+    done: &mut TwoStages,
+)
     requires first { AreStagePasses Q.SharedQueue queue0.now queue1.now 1 pass0.old pass1.old }
     requires second { AreStagePasses Q.SharedQueue queue1.now queue2.now 1 pass1.old pass2.old }
     requires good { AreGood lines.now }
+    requires posts { (done.old.posts.items ≡ []) × (done.old.posts.spare ≡ length lines.now) }
+    requires moves { (done.old.first.items ≡ []) × (done.old.first.spare ≡ jobs_in lines.now) }
+    requires more { (done.old.second.items ≡ []) × (done.old.second.spare ≡ jobs_in lines.now) }
+    requires outs { done.old.outs.items ≡ [] }
 {
-    let jobs = count_jobs(lines);
-    let mut posts = PostList::new(alloc, lines.len())?;
-    let mut first = StageList::new(alloc, jobs)?;
-    let mut second = StageList::new(alloc, jobs)?;
-    let mut outs = OutList::new(alloc, jobs)?;
-    let before = AtomicU64::new(0);
-    let after = AtomicU64::new(2);
-    post_items(rt, queue0, pass0, 1, 1, lines, &OpenGate, &mut posts);
-    if by_caller {
-        move_rest(rt, queue0, queue1, pass0, pass1, 1, lines, &mut first);
-    } else {
-        run_stage(
-            rt, queue0, queue1, pass0, pass1, 1, lines, &OpenGate, &before, &after, &mut first,
-        );
-    }
-    run_stage(
+    post_items(rt, queue0, pass0, 1, 1, lines, &OpenGate, &mut done.posts);
+    first_stage(
         rt,
+        queue0,
         queue1,
-        queue2,
+        pass0,
         pass1,
-        pass2,
-        2,
         lines,
-        &OpenGate,
-        &before,
-        &after,
-        &mut second,
+        by_caller,
+        &mut done.first,
     );
-    take_outs(rt, queue2, pass2, &mut outs);
-    Ok(TwoStages {
-        posts,
-        first,
-        second,
-        outs,
-    })
+    let before = AtomicU64::new(0);
+    let after = AtomicU64::new(1);
+    let second = &mut done.second;
+    run_stage(
+        rt, queue1, queue2, pass1, pass2, 2, lines, &OpenGate, &before, &after, second,
+    );
+    take_outs(rt, queue2, pass2, &mut done.outs);
 }
 
 // Which lists of a run of this file over plain queues, of which the middle one has room for so many jobs, are those that are wanted.
@@ -101,9 +133,11 @@ fn agree<R: Wait>(
     let (queue0, mut pass0) = plain_queue(alloc, 8, 0)?;
     let (queue1, mut pass1) = plain_queue(alloc, middle, 0)?;
     let (queue2, mut pass2) = plain_queue(alloc, 8, 0)?;
-    let done = at_queues(
-        rt, alloc, &lines, &queue0, &queue1, &queue2, &mut pass0, &mut pass1, &mut pass2, by_caller,
-    )?;
+    let mut done = empty_lists(alloc, &lines)?;
+    at_queues(
+        rt, &lines, &queue0, &queue1, &queue2, &mut pass0, &mut pass1, &mut pass2, by_caller,
+        &mut done,
+    );
     Ok([
         done.posts.items() == wanted.posts,
         done.first.items() == wanted.first,
