@@ -1,7 +1,8 @@
 #!/usr/bin/env bash
-# Runs the gate from nothing (`rt ci --anew`), and prints its processor minutes: of libraries, of crates of tests, and of the edits
-# with the checks from which they begin, each as sampled once a second, and of all that it ran. With the words `first start`, runs
-# the first line of the README in a clean clone instead, whose program is proved and built from nothing.
+# Runs the gate from nothing (`rt ci --anew`; plain `rt ci` under a kit that keeps nothing from run to run), and prints its processor
+# minutes: of libraries, of crates of tests, and of the edits with the checks from which they begin, each as sampled once a second,
+# and of all that it ran. With the words `first start`, runs the first line of the README in a clean clone instead, whose program is
+# proved and built from nothing.
 # As the host's speed changes from hour to hour, it also prints how much processor time a fixed piece of work took meanwhile, in the
 # median: 0.11 s on the machine of docs/SPEED.md with nothing else to do. The figures go to docs/SPEED.md with date and machine.
 set -euo pipefail
@@ -74,5 +75,6 @@ if sys.argv[1] == 'first start':
                          stdout=subprocess.DEVNULL, env=dict(os.environ, MOORINGAKEE_BUILD='here')))
 if sys.argv[1]:
     sys.exit('gate: the words are `first start`, or none')
-sys.exit(measure(['rt', 'ci', '--anew']))
+told = subprocess.run(['rt', '--help'], stdout=subprocess.PIPE, stderr=subprocess.STDOUT, text=True).stdout
+sys.exit(measure(['rt', 'ci', *['--anew'] * ('--anew' in told)]))
 PY
