@@ -46,3 +46,22 @@ returns-in-Err-NoNode-clause-part g c = record {
   in_set = insert_refused (set_view g.S.SharedSet c.args.set.now) _ list_refused.NoNode _ _ _ _ c.requires.set_agent c.in-Err-NoNode.field-0-is
       c.in-Err-NoNode.ensures.refused;
 }
+
+pub returns-in-Ok-false-clause-part : goal.returns-in-Ok-false-clause-part
+returns-in-Ok-false-clause-part g c = record {
+  queue = _;
+  set = _;
+  is = (refl, refl);
+  in_queue = Did-nothing of_queue (queue_view g.Q.SharedQueue c.args.queue.now) _ _;
+  in_set = inserted (set_view g.S.SharedSet c.args.set.now) _ _ _ _ _ _ _ c.requires.set_agent c.in-Ok-false.field-0-test c.in-Ok-false.ensures.added;
+}
+
+pub returns-in-Err-Spent-clause-part : goal.returns-in-Err-Spent-clause-part
+returns-in-Err-Spent-clause-part g c = record {
+  queue = _;
+  set = _;
+  is = (refl, (_, refl));
+  in_queue = Did-nothing of_queue (queue_view g.Q.SharedQueue c.args.queue.now) _ _;
+  in_set = insert_refused (set_view g.S.SharedSet c.args.set.now) _ (list_refused.Spent _) _ _ _ _ c.requires.set_agent c.in-Err-Spent.field-0-is
+      c.in-Err-Spent.ensures.refused;
+}

@@ -42,3 +42,27 @@ returns-in-Drop-clause-desk g c =
       rush_agent = desk.rush_agent;
       set_agent = c.drop_id-what.ensures.agent ∙ desk.set_agent;
     }
+
+pub returns-in-Post-clause-desk : goal.returns-in-Post-clause-desk
+returns-in-Post-clause-desk g c =
+    let desk = c.requires.desk in
+    record {
+      queue_pass = c.post_job-what.ensures.queue;
+      rush_pass = desk.rush_pass;
+      set_pass = c.post_job-what.ensures.set;
+      queue_agent = c.post_job-what.ensures.queue_agent;
+      rush_agent = desk.rush_agent;
+      set_agent = c.post_job-what.ensures.set_agent;
+    }
+
+pub returns-in-Rush-clause-desk : goal.returns-in-Rush-clause-desk
+returns-in-Rush-clause-desk g c =
+    let desk = c.requires.desk in
+    record {
+      queue_pass = desk.queue_pass;
+      rush_pass = c.post_job-what-in-Rush.ensures.queue;
+      set_pass = c.post_job-what-in-Rush.ensures.set;
+      queue_agent = desk.queue_agent;
+      rush_agent = c.post_job-what-in-Rush.ensures.queue_agent;
+      set_agent = c.post_job-what-in-Rush.ensures.set_agent;
+    }

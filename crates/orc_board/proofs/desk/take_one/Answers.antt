@@ -1,4 +1,4 @@
-use Rattle.std.proofs.Common.{refl, sym, ◌∙◌, ap}
+use Rattle.std.proofs.Common.{refl, subst, sym, ◌∙◌, ap}
 use Rattle.orc_board.specs.Stretches.{queue_views, set_view}
 use Rattle.orc_board.proofs.Rows.{passed_none, passed_more, taken_none, taken_some, none_last, some_last}
 use Rattle.orc_board.proofs.desk.take_one.Goals as goal
@@ -52,3 +52,27 @@ returns-in-Some-posted_id-clause-last g c =
 
 pub take_next-requires-clause-agent : goal.take_next-requires-clause-agent
 take_next-requires-clause-agent g c = c.loop.invariant.rush_agent ∙ sym c.loop.invariant.agent
+
+pub close_job-requires-clause-set : goal.close_job-requires-clause-set
+close_job-requires-clause-set g c = subst (g.S.SharedSet.usable c.args.set.now) (sym c.loop.invariant.set) c.requires.desk.set_pass
+
+pub returns-in-None-take_next-clause-desk : goal.returns-in-None-take_next-clause-desk
+returns-in-None-take_next-clause-desk g c = record {
+  queue_pass = c.take_next.ensures.queue;
+  rush_pass = c.take_next.ensures.rush;
+  set_pass = subst (g.S.SharedSet.usable c.args.set.now) (sym c.loop.invariant.set) c.requires.desk.set_pass;
+  queue_agent = c.take_next.ensures.queue_agent ∙ c.loop.invariant.agent;
+  rush_agent = c.take_next.ensures.rush_agent ∙ c.loop.invariant.rush_agent;
+  set_agent = ap (g.S.SharedSet.agent_of c.args.set.now) c.loop.invariant.set ∙ c.requires.desk.set_agent;
+}
+
+pub returns-in-Some-posted_id-clause-desk : goal.returns-in-Some-posted_id-clause-desk
+returns-in-Some-posted_id-clause-desk g c = record {
+  queue_pass = c.take_next.ensures.queue;
+  rush_pass = c.take_next.ensures.rush;
+  set_pass = c.close_job.ensures.set;
+  queue_agent = c.take_next.ensures.queue_agent ∙ c.loop.invariant.agent;
+  rush_agent = c.take_next.ensures.rush_agent ∙ c.loop.invariant.rush_agent;
+  set_agent =
+      c.close_job.ensures.agent ∙ (ap (g.S.SharedSet.agent_of c.args.set.now) c.loop.invariant.set ∙ c.requires.desk.set_agent);
+}

@@ -1,4 +1,4 @@
-use Rattle.std.proofs.Common.{◌≡◌, ℕ, length, ap, arith, [], ◌∷◌, subst, length-append}
+use Rattle.std.proofs.Common.{◌≡◌, ℕ, length, ap, arith, [], ◌∷◌, subst, sym, ◌∙◌, length-append}
 use Rattle.orc_board.specs.Desk.{IsDesk}
 use Rattle.orc_board.specs.Stretches.{queue_views, set_view}
 use Rattle.orc_board.proofs.Workers.{taking_none, taking_more, taking_end, taking_full, taking_last}
@@ -37,3 +37,19 @@ pub returns-in-None-take_one-clause-last : goal.returns-in-None-take_one-clause-
 returns-in-None-take_one-clause-last g c = λ room.
     taking_last (queue_views g.Q.SharedQueue c.args.queue.now c.args.rush.now)
     (set_view g.S.SharedSet c.args.set.now) _ _ _ _ _ _ _ _ _ _ c.loop.invariant.taking c.loop.invariant.desk.queue_agent c.in-None-take_one.ensures.last
+
+pub take_one-requires-clause-desk : goal.take_one-requires-clause-desk
+take_one-requires-clause-desk g c =
+    let desk = c.loop.invariant.desk in
+    subst (λ (a : ℕ). IsDesk g.Q.SharedQueue g.S.SharedSet c.args.queue.now c.args.rush.now c.args.set.now a c.loop.desk) (sym desk.queue_agent) desk
+
+pub returns-in-None-take_one-clause-desk : goal.returns-in-None-take_one-clause-desk
+returns-in-None-take_one-clause-desk g c =
+    subst (λ (a : ℕ). IsDesk g.Q.SharedQueue g.S.SharedSet c.args.queue.now c.args.rush.now c.args.set.now a c.take_one.new.desk) c.loop.invariant.desk.queue_agent
+    c.take_one.ensures.desk
+
+pub returns-then-spare-eq0-clause-last : goal.returns-then-spare-eq0-clause-last
+returns-then-spare-eq0-clause-last g c = λ room. absurd (room (sym c.spare.ensures ∙ c.if-spare-eq0.true))
+
+pub push-requires : goal.push-requires
+push-requires g c = λ none. c.if-spare-eq0.false (c.spare.ensures ∙ none)
