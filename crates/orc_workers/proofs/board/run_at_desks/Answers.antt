@@ -1,5 +1,6 @@
 use Rattle.std.proofs.Common.{rules, ◌≡◌, ◌+◌, ◌≤◌, ◌++◌, ◌∷◌, [], ap, refl, sym, ◌∙◌, length, map, arith, List, false, true}
 use Rattle.std.proofs.lemmas.List.{length-map}
+use Rattle.std.proofs.lemmas.Result.{err_from_is_err_and}
 use Rattle.orc_board.specs.declared.desk.Desk.{Desk}
 use Rattle.orc_board.specs.declared.replies.PostReply.{PostReply}
 use Rattle.orc_board.specs.declared.replies.TakeReply.{TakeReply}
@@ -36,6 +37,37 @@ run_seated-desk-requires-clause-team g c κs within =
     c.requires.desks c.remove-desk.ensures.items (sym c.args.desks.now.ok.0 ∙ c.requires.count) (c.len.ensures ∙ c.requires.count)
     (EachFrom-map _ M (λ k r d. search rules) 1 _ c.in_ok-rooms.ensures.rooms) c.in_ok-rooms.ensures.all c.in_ok-rooms.ensures.nobody_is_done
     c.in_ok-rooms.ensures.done_room c.seat-waiting.ensures.seated
+
+pub remove-desk-requires : goal.remove-desk-requires
+remove-desk-requires g c = omega (arith, c.requires.count)
+
+pub overflow_sub-len : goal.overflow_sub-len
+overflow_sub-len g c = omega (arith, c.len.ensures, c.requires.count)
+
+pub seat-waiting-requires-clause-nobody : goal.seat-waiting-requires-clause-nobody
+seat-waiting-requires-clause-nobody g c = c.in_ok-rooms.ensures.nobody_waits
+
+pub seat-waiting-requires-clause-capacity : goal.seat-waiting-requires-clause-capacity
+seat-waiting-requires-clause-capacity g c = omega (arith, c.in_ok-rooms.ensures.waiting_room, c.remove-desk.ensures.len, c.len.ensures)
+
+pub run_seated-desk-requires-clause-agents : goal.run_seated-desk-requires-clause-agents
+run_seated-desk-requires-clause-agents g c κs within = c.requires.agents
+
+pub run_seated-desk-requires-clause-none : goal.run_seated-desk-requires-clause-none
+run_seated-desk-requires-clause-none g c κs within = c.in_ok-own.ensures.own.0
+
+pub run_seated-desk-requires-clause-enough : goal.run_seated-desk-requires-clause-enough
+run_seated-desk-requires-clause-enough g c κs within = omega (arith, c.in_ok-own.ensures.own.1, c.len-many.ensures)
+
+pub returns-in_err-rooms : goal.returns-in_err-rooms
+returns-in_err-rooms g c =
+    let r = err_from_is_err_and c.from_residual.result c.from_residual.ensures.1 in
+    rw r.1 (record { idle = tt; all = tt; seen = tt; follows = tt; queues_legal = tt; set_legal = tt; empty = tt; reportable = tt; kept = refl })
+
+pub returns-in_err-own : goal.returns-in_err-own
+returns-in_err-own g c =
+    let r = err_from_is_err_and c.from_residual-in_err-own.result c.from_residual-in_err-own.ensures.1 in
+    rw r.1 (record { idle = tt; all = tt; seen = tt; follows = tt; queues_legal = tt; set_legal = tt; empty = tt; reportable = tt; kept = refl })
 
 pub append-requires : goal.append-requires
 append-requires g c = omega (arith, c.run_seated-desk.ensures.few.1, c.in_ok-own.ensures.takes.1, c.len-many.ensures)

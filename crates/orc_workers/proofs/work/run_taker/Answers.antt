@@ -1,4 +1,4 @@
-use Rattle.std.proofs.Common.{◌≡◌, ℕ, length, ap, arith, [], ◌∷◌, subst, length-append}
+use Rattle.std.proofs.Common.{◌≡◌, ℕ, length, ap, arith, [], ◌∷◌, subst, sym, length-append}
 use Rattle.orc_board.specs.Desk.{IsDesk}
 use Rattle.orc_board.specs.Stretches.{queue_views, set_view}
 use Rattle.orc_workers.proofs.Resting.{resting_none, resting_more, resting_none_more, resting_last}
@@ -47,3 +47,17 @@ pub returns-then-none_left-clause-last : goal.returns-then-none_left-clause-last
 returns-then-none_left-clause-last g c = λ less.
     resting_last (queue_views g.Q.SharedQueue c.args.queue.now c.args.rush.now) (set_view g.S.SharedSet c.args.set.now) _ _ _ _ _ _ _ _ _ _ c.loop.invariant.taking
     c.loop.invariant.desk.queue_agent c.in-None-take_one.ensures.last
+
+pub take_one-requires-clause-desk : goal.take_one-requires-clause-desk
+take_one-requires-clause-desk g c =
+    let desk = c.loop.invariant.desk in
+    subst (λ (a : ℕ). IsDesk g.Q.SharedQueue g.S.SharedSet c.args.queue.now c.args.rush.now c.args.set.now a c.loop.desk) (sym desk.queue_agent) desk
+
+pub push-requires : goal.push-requires
+push-requires g c =
+    omega (arith, c.if-len-jobs.false, c.len.ensures, c.count_jobs-jobs.ensures, c.loop.invariant.spare, c.requires.room)
+
+pub returns-then-none_left-clause-desk : goal.returns-then-none_left-clause-desk
+returns-then-none_left-clause-desk g c =
+    subst (λ (a : ℕ). IsDesk g.Q.SharedQueue g.S.SharedSet c.args.queue.now c.args.rush.now c.args.set.now a c.take_one.new.desk)
+    c.loop.invariant.desk.queue_agent c.take_one.ensures.desk
