@@ -1,5 +1,5 @@
-use Rattle.std.proofs.Common.{rules, ◌+◌, ℕ, true, false, subst, sym, arith, length, suc}
-use Rattle.orc_board.specs.Desk.{IsDesk, seen_in}
+use Rattle.std.proofs.Common.{rules, ◌+◌, ℕ, true, false, subst, arith, length, suc}
+use Rattle.orc_board.specs.Desk.{seen_in}
 use Rattle.orc_board.specs.Stretches.{queue_views, set_view}
 use Rattle.orc_board.specs.Follows.{TakingRest, IsWorker}
 use Rattle.orc_workers.specs.Learning.{LawsTell}
@@ -19,22 +19,8 @@ learn_from_team-requires-clause-others g c =
     others_after g.Q.SharedQueue g.S.SharedSet c.args.queue.now c.args.rush.now c.args.set.now c.args.lines.now c.args.posters _ _
     (team_did _ _ _ _ _ _ (λ w v d. search rules) c.requires.team.nobody_is_done c.run_workers-workers.ensures.team)
 
-pub learn_from_team-requires-clause-desk : goal.learn_from_team-requires-clause-desk
-learn_from_team-requires-clause-desk g c = c.requires.desk.is_desk
-
 pub tell_laws-requires : goal.tell_laws-requires
 tell_laws-requires g c = c.learn_from_team.ensures.desk
-
-pub take_rest-requires-clause-desk : goal.take_rest-requires-clause-desk
-take_rest-requires-clause-desk g c =
-    let desk = c.learn_from_team.ensures.desk in
-    subst (λ (a : ℕ). IsDesk g.Q.SharedQueue g.S.SharedSet c.args.queue.now c.args.rush.now c.args.set.now a c.learn_from_team.new.desk)
-    (sym desk.queue_agent) desk
-
-pub learn_from_team-requires-2-clause-desk : goal.learn_from_team-requires-2-clause-desk
-learn_from_team-requires-2-clause-desk g c =
-    subst (λ (a : ℕ). IsDesk g.Q.SharedQueue g.S.SharedSet c.args.queue.now c.args.rush.now c.args.set.now a c.take_rest.new.desk)
-    c.learn_from_team.ensures.desk.queue_agent c.take_rest.ensures.desk
 
 pub learn_from_team-requires-2-clause-others : goal.learn_from_team-requires-2-clause-others
 learn_from_team-requires-2-clause-others g c = c.learn_from_team.ensures.others
