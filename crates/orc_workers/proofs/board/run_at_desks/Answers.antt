@@ -104,14 +104,14 @@ returns g c =
     let ran = ran_of g.Q.SharedQueue g.S.SharedSet c.args.queue.now c.args.rush.now c.args.set.now c.args.lines.now c.args.posters c.args.takers
     caller c.run_seated-desk.result.takes.items ws _ _ c.requires.posters c.requires.good.few (for_both _ c.requires.first.0 c.requires.first.1) back
     posts takes in
-    record {
-      idle = rw desks (back.caller, back.idle);
-      all = ap length desks ∙ omega (arith, length-map ws (λ (w : W). w.desk), back.many);
-      seen = rw desks (((λ b. refl), refl), back.seen);
-      follows = rw desks ran.follows;
-      queues_legal = rw desks ran.queues_legal;
-      set_legal = rw desks ran.set_legal;
-      empty = rw desks ran.empty;
+    rw desks (record {
+      idle = (back.caller, back.idle);
+      all = omega (arith, length-map ws (λ (w : W). w.desk), back.many);
+      seen = (((λ b. refl), refl), back.seen);
+      follows = ran.follows;
+      queues_legal = ran.queues_legal;
+      set_legal = ran.set_legal;
+      empty = ran.empty;
       reportable = ran.reportable;
       kept = tt;
-    }
+    })
