@@ -6,3 +6,4 @@ pub mod RunEntries
 pub mod Rushes
 pub mod AllDone
 pub mod NumberedLines
+pub mod Options
