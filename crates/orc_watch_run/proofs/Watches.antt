@@ -4,11 +4,9 @@ use Rattle.orc_board.specs.Stretches.{Stretch, View, just}
 use Rattle.orc_board.proofs.Shares.{Did-just, Did-nothing, DidAll-snoc}
 use Rattle.orc_board.proofs.Workers.{Pairwise-snoc}
 use Rattle.orc_cell.specs.declared.refused.CellRefused.{CellRefused}
-use Rattle.orc_cell.specs.declared.refused.CellRefused.TheVariants as refused
 use Rattle.orc_pairs_rule.specs.declared.entry.CellEntry.{CellEntry}
 use Rattle.orc_pairs_rule.specs.declared.entry.CellEntry.TheVariants.{Published}
 use Rattle.orc_watch.specs.declared.line.WatchLine.{WatchLine}
-use Rattle.orc_watch.specs.declared.line.WatchLine.TheVariants as line
 use Rattle.orc_watch.specs.declared.reply.WatchReply.{WatchReply}
 use Rattle.orc_watch.specs.declared.reply.WatchWord.TheVariants as word
 use Rattle.orc_watch_run.specs.CellView.{of_cell}

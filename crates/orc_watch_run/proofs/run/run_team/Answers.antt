@@ -18,6 +18,15 @@ learn_from_team-requires-clause-others g c =
     others_after g.L.Links c.args.cell.now.links c.args.lines.now c.args.workers _ _
     (team_did _ _ _ _ _ _ (λ w v d. search rules) c.requires.team.nobody_is_done c.run_workers-team.ensures.team)
 
+pub tell_laws-requires : goal.tell_laws-requires
+tell_laws-requires g c = c.learn_from_team.ensures.desk
+
+pub learn_from_team-requires-2-clause-others : goal.learn_from_team-requires-2-clause-others
+learn_from_team-requires-2-clause-others g c = c.learn_from_team.ensures.others
+
+pub tell_laws-requires-2 : goal.tell_laws-requires-2
+tell_laws-requires-2 g c = c.learn_from_team-2.ensures.desk
+
 pub returns-clause-back : goal.returns-clause-back
 returns-clause-back g c =
     let d = c.args.cell.now.links in

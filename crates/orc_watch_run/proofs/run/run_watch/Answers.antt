@@ -1,4 +1,5 @@
-use Rattle.std.proofs.Common.{rules, ◌≡◌, ◌≤◌, ◌++◌, ◌∷◌, [], ap, sym, ◌∙◌, length, map, arith, List}
+use Rattle.std.proofs.Common.{rules, ◌≡◌, ◌≤◌, ◌++◌, ◌∷◌, [], ap, refl, sym, ◌∙◌, length, map, arith, List}
+use Rattle.std.proofs.lemmas.Result.{err_from_is_err_and}
 use Rattle.orc_watch.specs.declared.reply.WatchReply.{WatchReply}
 use Rattle.orc_team.specs.Seats.{all_of}
 use Rattle.orc_team.proofs.Numbered.{EachFrom-map, EachFrom-rest}
@@ -26,6 +27,31 @@ pub seat-waiting-requires-clause-agents : goal.seat-waiting-requires-clause-agen
 seat-waiting-requires-clause-agents g c =
     EachFrom-map (IsFreshPass g.L.Links c.args.cell.now.links) (IsUsablePassOf g.L.Links c.args.cell.now.links) (λ k p f. f.is_pass) 1 _
     (EachFrom-rest (IsFreshPass g.L.Links c.args.cell.now.links) 0 _ _ c.remove-pass.ensures.items c.requires.passes)
+
+pub remove-pass-requires : goal.remove-pass-requires
+remove-pass-requires g c = omega (arith, c.requires.count)
+
+pub overflow_sub-len : goal.overflow_sub-len
+overflow_sub-len g c = omega (arith, c.len.ensures, c.requires.count)
+
+pub seat-waiting-requires-clause-nobody : goal.seat-waiting-requires-clause-nobody
+seat-waiting-requires-clause-nobody g c = c.in_ok-rooms.ensures.nobody_waits
+
+pub seat-waiting-requires-clause-capacity : goal.seat-waiting-requires-clause-capacity
+seat-waiting-requires-clause-capacity g c = omega (arith, c.in_ok-rooms.ensures.waiting_room, c.remove-pass.ensures.len, c.len.ensures)
+
+pub run_team-pass-requires-clause-agents : goal.run_team-pass-requires-clause-agents
+run_team-pass-requires-clause-agents g c κs within = c.requires.agents
+
+pub returns-in_err-rooms : goal.returns-in_err-rooms
+returns-in_err-rooms g c =
+    let r = err_from_is_err_and c.from_residual.result c.from_residual.ensures.1 in
+    rw r.1 (record { usable = tt; all = tt; seen = tt; follows = tt; kept = refl })
+
+pub returns-in_err-replies : goal.returns-in_err-replies
+returns-in_err-replies g c =
+    let r = err_from_is_err_and c.from_residual-in_err-replies.result c.from_residual-in_err-replies.ensures.1 in
+    rw r.1 (record { usable = tt; all = tt; seen = tt; follows = tt; kept = refl })
 
 pub hand_back-requires : goal.hand_back-requires
 hand_back-requires g c = record {
