@@ -10,6 +10,10 @@ module _ {A : Type 0} where
   each_at-cons P x xs p h zero d lt = p
   each_at-cons P x xs p h (suc i) d lt = h i d (omega arith)
 
+  -- the same, where the others are told of by their places before the first came
+  pub each_at-first : (P : ℕ → A → Type 0) (x : A) (xs : List A) → P 0 x → EachAt (λ i. P (i + 1)) xs → EachAt P (x ∷ xs)
+  each_at-first P x xs p h = each_at-cons P x xs p (λ i d lt. let next : i + 1 ≡ suc i = omega arith in subst (λ k. P k (slice_index_or xs i d)) next (h i d lt))
+
   pub each_at-push : (P : ℕ → A → Type 0) (xs : List A) (y : A) → EachAt P xs → P (length xs) y → EachAt P (xs ++ y ∷ [])
   each_at-push P [] y h p = each_at-cons P y [] p (each_at-nil (λ i. P (suc i)))
   each_at-push P (x ∷ xs) y h p =

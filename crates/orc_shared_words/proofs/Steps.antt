@@ -19,7 +19,7 @@ use Rattle.orc_history.specs.Journals.{own_of}
 use Rattle.orc_words.specs.Operations.{word_after}
 use Rattle.orc_words.specs.declared.operation.Operation.{Operation}
 use Rattle.orc_words.specs.declared.operation.Operation.TheVariants.{CompareExchange, Swap}
-use Rattle.orc_shared_words.specs.Steps.{DidStep, LaterJournal, IsAllowedLater, Tried}
+use Rattle.orc_shared_words.specs.Steps.{DidStep, Extends, LaterJournal, IsAllowedLater, Tried}
 use Rattle.orc_shared_words.proofs.Changes.{AllRetired, AllUnborn, changed, still_one, still_retired, still_unborn}
 use Rattle.orc_heap.proofs.Prefixes.{prefix_more, prefix_same}
 use Rattle.orc_shared_words.proofs.Runs.{below-snoc, by_other, none_behind, own_of-others}
@@ -238,3 +238,9 @@ chosen false x y = refl
 -- a table's compare-and-exchange writes what the operation does
 pub exchanged : (x y : ℕ) → word_after (CompareExchange x y) ≡ (λ n. either (n == x) y n)
 exchanged x y = λ i n. chosen (n == x) y n i
+
+-- what is told of the picked step is told of the step that it is
+pub told : {K S Op Rec N : Type 0} (r : Rules K S Op Rec N) (H : K → List (Event N) → Type 0) (Y : K → List (Event N) → Event N → Type 0)
+    (pick : Option (K × Op × Option N)) (k : K) (op : Op) (said : Option N) (me after : Me (Unit {0}) (View S Rec)) (n : ℕ)
+    → pick ≡ Some (k, op, said) → DidStep r H Y pick me n after → Extends r k (H k) (Y k) op said me.0 n after.0 × (after.1 ≡ me.1)
+told r H Y pick k op said me after n picked did = subst (λ p. DidStep r H Y p me n after) picked did

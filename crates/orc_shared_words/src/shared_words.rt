@@ -15,7 +15,7 @@ use crate::journal::View;
 use crate::last_words::LastWords;
 use crate::machine::Machine;
 use crate::moves::{Absorb, Confirm, Does, NextAgent, Note, Picks, Tries};
-use crate::operation::PlacedOperation;
+use crate::operation::{PlacedOperation, operate};
 use crate::rule::Shown;
 use atomic_table::{Seat, Table};
 use orc_fault::NoMemory;
@@ -184,11 +184,6 @@ impl<M: Machine<D::Note>, D: Discipline> SharedWords<M, D> {
         let shared = &self.table.shared;
         let PlacedOperation { index, operation } = M::operation(&self.shape, agent, op, own);
         match operation {
-            Operation::Load => shared.load::<Does<M, D, J>>(seat, index),
-            Operation::Store(value) => {
-                shared.store::<Does<M, D, J>>(seat, index, value);
-                value
-            }
             Operation::Swap(0) => {
                 // where the word holds 0 already, a load does as much
                 let found = shared.load::<Tries<M, D, J>>(seat, index);
@@ -197,12 +192,7 @@ impl<M: Machine<D::Note>, D: Discipline> SharedWords<M, D> {
                 }
                 shared.swap::<Does<M, D, J>>(seat, index, 0)
             }
-            Operation::Swap(value) => shared.swap::<Does<M, D, J>>(seat, index, value),
-            Operation::Add(value) => shared.fetch_add::<Does<M, D, J>>(seat, index, value),
-            Operation::Sub(value) => shared.fetch_sub::<Does<M, D, J>>(seat, index, value),
-            Operation::CompareExchange(wanted, value) => {
-                shared.compare_exchange::<Does<M, D, J>>(seat, index, wanted, value)
-            }
+            _ => operate::<_, _, _, Does<M, D, J>>(shared, seat, index, operation),
         }
     }
 

@@ -1,28 +1,8 @@
 use Rattle.std.proofs.Common.{ap, refl, rules, ◌<◌, ◌∙◌, subst, sym}
 use Rattle.orc_shared_words.specs.Steps.{IsAllowedLater}
 use Rattle.orc_words.specs.declared.operation.Operation.TheVariants.{Swap}
-use Rattle.orc_shared_words.proofs.Steps.{exchanged, makes, tries}
+use Rattle.orc_shared_words.proofs.Steps.{makes, told, tries}
 use Rattle.orc_shared_words.proofs.shared_words.SharedWords.make_step.Goals as goal
-
-pub load-requires : goal.load-requires
-load-requires g c = (
-  search rules,
-  subst (λ z. z < c.args.self.now.table.shared.table_id.words) (sym (c.operation-index.ensures.index _ c.requires.tied c.requires.allowed)) c.requires.inside,
-  makes g.M.Machine.rules g.M.Machine.obeys c.args.self.now.shape (λ k. g.D.Discipline.holds (g.M.Machine.numbers k))
-      (λ k. g.D.Discipline.may (g.M.Machine.numbers k)) (g.D.Discipline.keeps _) _ _ _ _ _ _ _ _ _ c.operation-index.result.index _ _ _ refl
-      c.args.self.now.shaped c.requires.picked (c.operation-index.ensures.index _ c.requires.tied c.requires.allowed) (c.operation-index.ensures.written _ c.requires.tied c.requires.allowed) (c.operation-index.ensures.answer _ c.requires.tied c.requires.allowed)
-      c.in-Load.is (c.requires.agent, refl) c.requires.allowed c.requires.licensed,
-)
-
-pub store-requires : goal.store-requires
-store-requires g c = (
-  search rules,
-  subst (λ z. z < c.args.self.now.table.shared.table_id.words) (sym (c.operation-index.ensures.index _ c.requires.tied c.requires.allowed)) c.requires.inside,
-  makes g.M.Machine.rules g.M.Machine.obeys c.args.self.now.shape (λ k. g.D.Discipline.holds (g.M.Machine.numbers k))
-      (λ k. g.D.Discipline.may (g.M.Machine.numbers k)) (g.D.Discipline.keeps _) _ _ _ _ _ _ _ _ _ c.operation-index.result.index _ _ _ refl
-      c.args.self.now.shaped c.requires.picked (c.operation-index.ensures.index _ c.requires.tied c.requires.allowed) (c.operation-index.ensures.written _ c.requires.tied c.requires.allowed) (c.operation-index.ensures.answer _ c.requires.tied c.requires.allowed)
-      c.in-Store.is (c.requires.agent, refl) c.requires.allowed c.requires.licensed,
-)
 
 pub load-found-requires : goal.load-found-requires
 load-found-requires g c = (
@@ -50,42 +30,20 @@ swap-requires g c =
           (g.D.Discipline.may (g.M.Machine.numbers c.args.self.now.shape)) z.0 c.args.agent c.args.op.now c.args.note.now) (sym same) c.requires.licensed),
     )
 
-pub swap-requires-in-Swap : goal.swap-requires-in-Swap
-swap-requires-in-Swap g c = (
-  search rules,
-  subst (λ z. z < c.args.self.now.table.shared.table_id.words) (sym (c.operation-index.ensures.index _ c.requires.tied c.requires.allowed)) c.requires.inside,
-  makes g.M.Machine.rules g.M.Machine.obeys c.args.self.now.shape (λ k. g.D.Discipline.holds (g.M.Machine.numbers k))
-      (λ k. g.D.Discipline.may (g.M.Machine.numbers k)) (g.D.Discipline.keeps _) _ _ _ _ _ _ _ _ _ c.operation-index.result.index _ _ _ refl
-      c.args.self.now.shaped c.requires.picked (c.operation-index.ensures.index _ c.requires.tied c.requires.allowed) (c.operation-index.ensures.written _ c.requires.tied c.requires.allowed) (c.operation-index.ensures.answer _ c.requires.tied c.requires.allowed)
-      c.in-Swap.is (c.requires.agent, refl) c.requires.allowed c.requires.licensed,
-)
+pub operate-requires-clause-inside : goal.operate-requires-clause-inside
+operate-requires-clause-inside g c =
+    subst (λ z. z < c.args.self.now.table.shared.table_id.words) (sym (c.operation-index.ensures.index _ c.requires.tied c.requires.allowed)) c.requires.inside
 
-pub fetch_add-requires : goal.fetch_add-requires
-fetch_add-requires g c = (
-  search rules,
-  subst (λ z. z < c.args.self.now.table.shared.table_id.words) (sym (c.operation-index.ensures.index _ c.requires.tied c.requires.allowed)) c.requires.inside,
-  makes g.M.Machine.rules g.M.Machine.obeys c.args.self.now.shape (λ k. g.D.Discipline.holds (g.M.Machine.numbers k))
-      (λ k. g.D.Discipline.may (g.M.Machine.numbers k)) (g.D.Discipline.keeps _) _ _ _ _ _ _ _ _ _ c.operation-index.result.index _ _ _ refl
-      c.args.self.now.shaped c.requires.picked (c.operation-index.ensures.index _ c.requires.tied c.requires.allowed) (c.operation-index.ensures.written _ c.requires.tied c.requires.allowed) (c.operation-index.ensures.answer _ c.requires.tied c.requires.allowed)
-      c.in-Add.is (c.requires.agent, refl) c.requires.allowed c.requires.licensed,
-)
+pub operate-requires-clause-allowed : goal.operate-requires-clause-allowed
+operate-requires-clause-allowed g c s =
+    makes g.M.Machine.rules g.M.Machine.obeys c.args.self.now.shape (λ k. g.D.Discipline.holds (g.M.Machine.numbers k))
+    (λ k. g.D.Discipline.may (g.M.Machine.numbers k)) (g.D.Discipline.keeps _) _ _ _ _ _ _ _ _ _ c.operation-index.result.index _ c.operation-index.result.operation _ refl
+    c.args.self.now.shaped c.requires.picked (c.operation-index.ensures.index _ c.requires.tied c.requires.allowed)
+    (c.operation-index.ensures.written _ c.requires.tied c.requires.allowed) (c.operation-index.ensures.answer _ c.requires.tied c.requires.allowed)
+    refl (c.requires.agent, refl) c.requires.allowed c.requires.licensed
 
-pub fetch_sub-requires : goal.fetch_sub-requires
-fetch_sub-requires g c = (
-  search rules,
-  subst (λ z. z < c.args.self.now.table.shared.table_id.words) (sym (c.operation-index.ensures.index _ c.requires.tied c.requires.allowed)) c.requires.inside,
-  makes g.M.Machine.rules g.M.Machine.obeys c.args.self.now.shape (λ k. g.D.Discipline.holds (g.M.Machine.numbers k))
-      (λ k. g.D.Discipline.may (g.M.Machine.numbers k)) (g.D.Discipline.keeps _) _ _ _ _ _ _ _ _ _ c.operation-index.result.index _ _ _ refl
-      c.args.self.now.shaped c.requires.picked (c.operation-index.ensures.index _ c.requires.tied c.requires.allowed) (c.operation-index.ensures.written _ c.requires.tied c.requires.allowed) (c.operation-index.ensures.answer _ c.requires.tied c.requires.allowed)
-      c.in-Sub.is (c.requires.agent, refl) c.requires.allowed c.requires.licensed,
-)
-
-pub compare_exchange-requires : goal.compare_exchange-requires
-compare_exchange-requires g c = (
-  search rules,
-  subst (λ z. z < c.args.self.now.table.shared.table_id.words) (sym (c.operation-index.ensures.index _ c.requires.tied c.requires.allowed)) c.requires.inside,
-  makes g.M.Machine.rules g.M.Machine.obeys c.args.self.now.shape (λ k. g.D.Discipline.holds (g.M.Machine.numbers k))
-      (λ k. g.D.Discipline.may (g.M.Machine.numbers k)) (g.D.Discipline.keeps _) _ _ _ _ _ _ _ _ _ c.operation-index.result.index _ _ _
-      (exchanged _ _) c.args.self.now.shaped c.requires.picked (c.operation-index.ensures.index _ c.requires.tied c.requires.allowed) (c.operation-index.ensures.written _ c.requires.tied c.requires.allowed)
-      (c.operation-index.ensures.answer _ c.requires.tied c.requires.allowed) c.in-CompareExchange.is (c.requires.agent, refl) c.requires.allowed c.requires.licensed,
-)
+pub returns-in_default : goal.returns-in_default
+returns-in_default g c =
+    let did = told g.M.Machine.rules (λ k. g.D.Discipline.holds (g.M.Machine.numbers k)) (λ k. g.D.Discipline.may (g.M.Machine.numbers k))
+    _ _ _ _ _ _ _ c.requires.picked c.operate.ensures.told.1 in
+    record { table = c.operate.ensures.table; step = did.0; slots = did.1 }
