@@ -1,12 +1,27 @@
-use Rattle.std.proofs.Common.{ap, arith, inl, inr, refl, sym, ◌∙◌}
+use Rattle.std.proofs.Common.{Bool, None, Option, Some, ap, arith, cond, false, inl, inr, refl, sym, true, ℕ, ◌∙◌, ◌≡◌}
+use Rattle.std.specs.Prelude.{is_some, ◌==◌}
+use Rattle.orc_core.specs.RecordParts.{kept}
+use Rattle.orc_core.specs.declared.records.Agent.{Agent}
+use Rattle.orc_core.specs.declared.records.Doom.{Doom}
+use Rattle.orc_core.specs.declared.records.Scan.{Scan}
 use Rattle.orc_machine_rest.proofs.Joins.{opens_less, opens_next, opens_then}
 use Rattle.orc_machine_rest.proofs.Passes.{bounds_are}
-use Rattle.orc_machine_rest.specs.Passes.{state_of}
+use Rattle.orc_machine_rest.specs.Passes.{agent_record, state_of}
 use Rattle.orc_machine_board.specs.Views.{board_bounds}
 use Rattle.orc_rest.proofs.Calls.{end_allowed}
 use Rattle.orc_rest.proofs.Looks.{hand_allowed}
+use Rattle.orc_rest.specs.Records.{IsDoomOf}
 use Rattle.orc_words.specs.Bounds.{Bounds}
 use Rattle.orc_machine_rest.proofs.rounds.look_over.Goals as goal
+
+no_scan : (o : Option Scan) → is_some o ≡ false → o ≡ None
+no_scan None e = refl
+no_scan (Some s) e = cc
+
+-- a scan that ends leaves none where its row is doomed by it
+doomed : (t : Bool) (s : Scan) (r : ℕ) (o : Option Doom) → cond t None (Some s) ≡ None → IsDoomOf r 0 (cond t (Some (record { row = r; cuts = 0; bare = false })) o)
+doomed true s r o e = refl
+doomed false s r o e = cc
 
 pub loop-k-init : goal.loop-k-init
 loop-k-init g c = record {
@@ -88,6 +103,20 @@ settle_step-requires-2-clause-allowed g c =
     let place = c.requires.place in
     end_allowed (state_of c.args.board.now c.loop-k.p) c.args.agent c.args.row c.loop-k.k i.pass.reached i.pass.low i.still i.scan
     (omega (arith, low, high, place))
+
+pub settle_step-requires-2-clause-settles : goal.settle_step-requires-2-clause-settles
+settle_step-requires-2-clause-settles g c = tt
+
+pub free_doomed-requires-clause-scan : goal.free_doomed-requires-clause-scan
+free_doomed-requires-clause-scan g c = sym c.kept.ensures.scan ∙ no_scan c.kept.result.now.scan c.if-is_none.ensures
+
+pub free_doomed-requires-clause-doom : goal.free_doomed-requires-clause-doom
+free_doomed-requires-clause-doom g c =
+    let d = agent_record c.args.board.now c.args.agent c.loop-k.p in
+    let ended = c.settle_step-2.ensures.after in
+    let none = sym c.kept.ensures.scan ∙ no_scan c.kept.result.now.scan c.if-is_none.ensures in
+    ap (λ (e : Agent). e.doom) ended.is
+    ∙ doomed (ended.word == kept d.scan) _ c.args.row d.doom (sym (ap (λ (e : Agent). e.scan) ended.is) ∙ none)
 
 pub returns-then-is_none-clause-opens : goal.returns-then-is_none-clause-opens
 returns-then-is_none-clause-opens g c =
