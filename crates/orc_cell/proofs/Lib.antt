@@ -3,6 +3,7 @@ pub mod Elsewhere
 pub mod Others
 pub mod Pieces
 pub mod Counting
+pub mod Ending
 pub mod Looking
 pub mod Reading
 pub mod Staging

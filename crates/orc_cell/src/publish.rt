@@ -297,7 +297,7 @@ fn publish_from<L: Links<Rule = Pairs>>(
         × ComesAfter (L.numbers links.now) from.now (L.seat links.now p.old) right.now }
     ensures pass { L.belongs links.now p.new }
     ensures later { IsPrefix (L.journal p.old) (L.journal p.new) }
-    ensures tries { MakesAtMost L.Links links.now (1 + events_for (given_of left.now) + events_for (given_of right.now)) p.old p.new }
+    ensures tries { MakesAtMost L.Links links.now (events_for (given_of left.now) + events_for (given_of right.now) + 1) p.old p.new }
     ensures published { PublishesFrom (L.numbers links.now) (link_in (L.seat links.now p.old).slots from.now) (given_of left.now) (given_of right.now)
         pair.now (L.seat links.now p.old) result (L.seat links.now p.new) }
     ensures worn { (why : SpentRow) → result ≡ PublishTurn.Spent why → Within (length (L.journal p.old)) (length (L.journal p.new))

@@ -6,23 +6,44 @@ use Rattle.orc_cell.proofs.Pieces.{pass_known}
 use Rattle.orc_cell.proofs.Staging.{err_of, ok_of}
 use Rattle.orc_cell.proofs.publish.aim_staged.Goals as goal
 
-pub aim_half-requires-clause-other : goal.aim_half-requires-clause-other
-aim_half-requires-clause-other g c =
+pub aim_half-requires : goal.aim_half-requires
+aim_half-requires g c =
     let d = c.args.links.now in
-    staged_not_fresh _ _ _ _ _ c.requires.staged (λ i is. g.met.L.Links.fresh_is d c.args.p.now i c.requires.pass is)
+    let r = c.requires in
+    record {
+      pass = r.pass;
+      made = r.made;
+      fresh = r.fresh;
+      part = r.staged.held;
+      other = staged_not_fresh _ _ _ _ _ r.staged (λ i is. g.met.L.Links.fresh_is d c.args.p.now i r.pass is);
+    }
 
-pub returns-in-Ok-clause-aimed : goal.returns-in-Ok-clause-aimed
-returns-in-Ok-clause-aimed g c =
+pub returns-in-Ok : goal.returns-in-Ok
+returns-in-Ok g c =
     let d = c.args.links.now in
-    let known = pass_known g.L.Links g.met.L.Links.obeys g.met.L.Links.allowed d c.args.p.now c.requires.pass in
-    let e = c.aim_half.ensures in (
-      id_in (g.L.Links.seat d c.args.p.now).slots c.args.part.now,
-      refl,
-      staged_aimed _ c.args.half _ _ c.args.part.now c.args.pair.now _ c.args.value c.requires.staged c.requires.fresh known
-          (g.met.L.Links.allowed d c.aim_half.new.p e.pass) (λ i is. g.met.L.Links.fresh_is d c.args.p.now i c.requires.pass is) (ok_of _ c.in-Ok.is e.aimed),
-    )
-
-pub returns-in-Err-clause-aimed : goal.returns-in-Err-clause-aimed
-returns-in-Err-clause-aimed g c =
+    let r = c.requires in
     let e = c.aim_half.ensures in
-    staged_refused _ _ _ c.args.pair.now c.requires.fresh (g.met.L.Links.allowed _ _ e.pass) (err_of _ c.in-Err.is e.none)
+    let known = pass_known g.L.Links g.met.L.Links.obeys g.met.L.Links.allowed d c.args.p.now r.pass in
+    record {
+      pass = e.pass;
+      later = e.later;
+      tries = e.tries;
+      aimed = (
+        id_in (g.L.Links.seat d c.args.p.now).slots c.args.part.now,
+        refl,
+        staged_aimed _ c.args.half _ _ c.args.part.now c.args.pair.now _ c.args.value r.staged r.fresh known
+            (g.met.L.Links.allowed d c.aim_half.new.p e.pass) (λ i is. g.met.L.Links.fresh_is d c.args.p.now i r.pass is) (ok_of _ c.in-Ok.is e.aimed),
+      );
+      worn = tt;
+    }
+
+pub returns-in-Err : goal.returns-in-Err
+returns-in-Err g c =
+    let e = c.aim_half.ensures in
+    record {
+      pass = e.pass;
+      later = e.later;
+      tries = e.tries;
+      aimed = staged_refused _ _ _ c.args.pair.now c.requires.fresh (g.met.L.Links.allowed _ _ e.pass) (err_of _ c.in-Err.is e.none);
+      worn = err_of _ c.in-Err.is e.worn;
+    }

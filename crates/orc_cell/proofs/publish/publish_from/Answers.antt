@@ -1,46 +1,89 @@
 -- Both halves are aimed, and then root 0 is swung.
-use Rattle.std.proofs.Common.{[], ap, false, subst, true, ◌∙◌, ◌≡◌}
+use Rattle.std.proofs.Common.{[], ap, append-nil, false, length, subst, sym, true, ◌∙◌, ◌≡◌}
+use Rattle.orc_fault.specs.declared.Spent.{Spent as SpentRow}
+use Rattle.orc_heap.proofs.Pieces.{goes_on}
 use Rattle.orc_heap.specs.Seats.{link_in}
-use Rattle.orc_heap.specs.Slots.{Slots, id_in}
+use Rattle.orc_heap.specs.Slots.{IsFree, Slots, id_in}
 use Rattle.orc_heap.specs.declared.events.Link.{Link}
 use Rattle.orc_cell.specs.Publishes.{PublishDone, PublishMissed, SwingsPair, given_of}
 use Rattle.orc_cell.specs.declared.publish.Half.TheVariants.{Left}
+use Rattle.orc_history.specs.Journals.{Within}
+use Rattle.orc_cell.proofs.Ending.{done_spent, one_few, over_spent, three_few, turn_spent, two_few}
 use Rattle.orc_cell.proofs.Pieces.{pass_known}
 use Rattle.orc_cell.proofs.Readying.{other_stays_ready}
+use Rattle.orc_cell.proofs.Staging.{within_call}
 use Rattle.orc_cell.proofs.Swinging.{follows_from, follows_held, follows_kept, may_publish, right_kept, spent_right, swung_turn}
 use Rattle.orc_cell.proofs.publish.publish_from.Given.{Over}
 use Rattle.orc_cell.proofs.publish.publish_from.Goals.{After-swing_pair}
 use Rattle.orc_cell.proofs.publish.publish_from.Goals as goal
 
-pub aim_part-requires-clause-ready : goal.aim_part-requires-clause-ready
-aim_part-requires-clause-ready g c = c.requires.prepared.left_leads
+pub aim_part-requires : goal.aim_part-requires
+aim_part-requires g c =
+    let r = c.requires in
+    record {
+      pass = r.pass;
+      made = r.made;
+      fresh = r.prepared.fresh;
+      new = r.prepared.left_held;
+      ready = r.prepared.left_leads;
+      follows = r.follows.0;
+      slot = r.slot;
+    }
 
-pub aim_part-requires-clause-fresh : goal.aim_part-requires-clause-fresh
-aim_part-requires-clause-fresh g c = c.requires.prepared.fresh
-
-pub aim_part-requires-clause-new : goal.aim_part-requires-clause-new
-aim_part-requires-clause-new g c = c.requires.prepared.left_held
-
-pub aim_part-requires-clause-follows : goal.aim_part-requires-clause-follows
-aim_part-requires-clause-follows g c = c.requires.follows.0
-
-pub aim_part-requires-2-clause-ready : goal.aim_part-requires-2-clause-ready
-aim_part-requires-2-clause-ready g c =
-    other_stays_ready _ Left _ _ c.args.pair.now c.args.right.now c.in-Ok.ensures.aimed.2.kept c.requires.prepared.right_leads
-
-pub aim_part-requires-2-clause-new : goal.aim_part-requires-2-clause-new
-aim_part-requires-2-clause-new g c =
+pub aim_part-requires-2 : goal.aim_part-requires-2
+aim_part-requires-2 g c =
+    let r = c.requires in
     let e = c.in-Ok.ensures in
-    right_kept _ _ _ c.args.right.now [] e.aimed.2.kept.answered (g.met.L.Links.allowed _ _ e.pass) c.requires.prepared.right_held
+    let kept = e.aimed.2.kept in
+    let all = g.met.L.Links.allowed _ _ e.pass in
+    record {
+      pass = e.pass;
+      made = r.made;
+      fresh = kept.fresh;
+      new = right_kept _ _ _ c.args.right.now [] kept.answered all r.prepared.right_held;
+      ready = other_stays_ready _ Left _ _ c.args.pair.now c.args.right.now kept r.prepared.right_leads;
+      follows = follows_kept _ _ _ c.args.from.now c.args.right.now [] kept.answered all r.follows.1;
+      slot = subst (λ (z : Slots). IsFree z 5) (sym kept.answered.slots) r.slot;
+    }
 
-pub aim_part-requires-2-clause-follows : goal.aim_part-requires-2-clause-follows
-aim_part-requires-2-clause-follows g c =
+pub returns-in-Err : goal.returns-in-Err
+returns-in-Err g c =
+    let e = c.in-Err.ensures in
+    let d = c.args.links.now in
+    record {
+      pass = e.pass;
+      later = e.later;
+      tries = one_few _ _ _ _ 1 e.tries;
+      published = record { answered = e.aimed.answered; fresh = e.aimed.fresh };
+      worn = λ why is. turn_spent (λ (x : SpentRow). Within (length (g.L.Links.journal c.args.p.now)) (length (g.L.Links.journal c.aim_part.new.p))
+          (g.L.Links.worn d (g.L.Links.seat d c.args.p.now).agent x (g.L.Links.journal c.aim_part.new.p))) is e.worn;
+    }
+
+pub returns-in-Err-aim_part : goal.returns-in-Err-aim_part
+returns-in-Err-aim_part g c =
+    let d = c.args.links.now in
     let e = c.in-Ok.ensures in
-    follows_kept _ _ _ c.args.from.now c.args.right.now [] e.aimed.2.kept.answered (g.met.L.Links.allowed _ _ e.pass) c.requires.follows.1
+    let f = c.in-Err-aim_part.ensures in
+    record {
+      pass = f.pass;
+      later = goes_on _ _ _ e.later f.later;
+      tries = two_few _ _ _ _ _ 1 e.tries f.tries;
+      published = spent_right _ _ _ _ c.args.pair.now _ _ e.aimed.2 f.aimed;
+      worn = λ why is.
+          let there = turn_spent (λ (x : SpentRow). Within (length (g.L.Links.journal c.aim_part.new.p)) (length (g.L.Links.journal c.aim_part-2.new.p))
+          (g.L.Links.worn d (g.L.Links.seat d c.aim_part.new.p).agent x (g.L.Links.journal c.aim_part-2.new.p))) is f.worn in
+          within_call g.L.Links d c.args.p.now c.aim_part.new.p c.aim_part-2.new.p c.aim_part-2.new.p (λ who. g.L.Links.worn d who why)
+          (λ who. g.met.L.Links.worn_stays d who why) e.aimed.2.kept.answered.piece.puts.agent e.later ([], append-nil _) there;
+    }
 
-pub returns-in-Err-aim_part-clause-published : goal.returns-in-Err-aim_part-clause-published
-returns-in-Err-aim_part-clause-published g c =
-    spent_right _ _ _ _ c.args.pair.now _ _ c.in-Ok.ensures.aimed.2 c.in-Err-aim_part.ensures.aimed
+pub swing_pair-requires-clause-pass : goal.swing_pair-requires-clause-pass
+swing_pair-requires-clause-pass g c = c.in-Ok-aim_part.ensures.pass
+
+pub swing_pair-requires-clause-made : goal.swing_pair-requires-clause-made
+swing_pair-requires-clause-made g c = c.requires.made
+
+pub swing_pair-requires-clause-fresh : goal.swing_pair-requires-clause-fresh
+swing_pair-requires-clause-fresh g c = c.in-Ok-aim_part.ensures.aimed.2.kept.fresh
 
 pub swing_pair-requires-clause-from : goal.swing_pair-requires-clause-from
 swing_pair-requires-clause-from g c =
@@ -86,8 +129,28 @@ came g c =
     (λ i is. g.met.L.Links.fresh_is d c.aim_part-2.new.p i right.pass is) t _ _ _ _ swung (g.met.L.Links.allowed _ _ c.swing_pair.ensures.pass)
     left.same right.same
 
-pub returns-then-swing_pair-clause-published : goal.returns-then-swing_pair-clause-published
-returns-then-swing_pair-clause-published g c = (came g (goal.at.returns-then-swing_pair-clause-published g c).After-swing_pair).0 c.if-swing_pair.true
+pub returns-then-swing_pair : goal.returns-then-swing_pair
+returns-then-swing_pair g c =
+    let e = c.in-Ok.ensures in
+    let f = c.in-Ok-aim_part.ensures in
+    let w = c.swing_pair.ensures in
+    record {
+      pass = w.pass;
+      later = goes_on _ _ _ e.later (goes_on _ _ _ f.later w.later);
+      tries = three_few _ _ _ _ _ _ 1 e.tries f.tries w.tries;
+      published = (came g (goal.at.returns-then-swing_pair g c).After-swing_pair).0 c.if-swing_pair.true;
+      worn = λ why is. absurd (done_spent _ _ why is);
+    }
 
-pub returns-else-swing_pair-clause-published : goal.returns-else-swing_pair-clause-published
-returns-else-swing_pair-clause-published g c = (came g (goal.at.returns-else-swing_pair-clause-published g c).After-swing_pair).1 c.if-swing_pair.false
+pub returns-else-swing_pair : goal.returns-else-swing_pair
+returns-else-swing_pair g c =
+    let e = c.in-Ok.ensures in
+    let f = c.in-Ok-aim_part.ensures in
+    let w = c.swing_pair.ensures in
+    record {
+      pass = w.pass;
+      later = goes_on _ _ _ e.later (goes_on _ _ _ f.later w.later);
+      tries = three_few _ _ _ _ _ _ 1 e.tries f.tries w.tries;
+      published = (came g (goal.at.returns-else-swing_pair g c).After-swing_pair).1 c.if-swing_pair.false;
+      worn = λ why is. absurd (over_spent why is);
+    }

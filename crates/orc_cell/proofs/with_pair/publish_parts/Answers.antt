@@ -1,9 +1,10 @@
 -- No turn, or the test of root 0, and then the parts.
-use Rattle.std.proofs.Common.{[], ap, arith, false, inl, inr, slice_get, sym, ℕ, ◌*◌, ◌+◌, ◌∙◌, ◌≡◌}
+use Rattle.std.proofs.Common.{[], ap, append-nil, arith, false, inl, inr, slice_get, sym, ℕ, ◌*◌, ◌+◌, ◌∙◌, ◌≡◌}
 use Rattle.orc_heap.proofs.Pieces.{goes_on}
 use Rattle.orc_heap.specs.Slots.{Slots}
 use Rattle.orc_cell.specs.Publishes.{nodes_for, part_count}
 use Rattle.orc_cell.proofs.Answering.{answers_after, answers_none, caused_in_part}
+use Rattle.orc_cell.proofs.Ending.{none_few}
 use Rattle.orc_cell.proofs.Pieces.{only_none}
 use Rattle.orc_cell.proofs.Staging.{finds_staging}
 use Rattle.orc_cell.proofs.Counting.{nodes_few, publish_few}
@@ -79,3 +80,27 @@ returns-clause-pass g c = c.publish_both.ensures.pass
 
 pub returns-clause-later : goal.returns-clause-later
 returns-clause-later g c = goes_on _ _ _ c.is_null-empty.ensures.later c.publish_both.ensures.later
+
+pub is_null-empty-requires : goal.is_null-empty-requires
+is_null-empty-requires g c = record { pass = c.requires.pass; made = c.requires.made }
+
+pub publish_both-requires-clause-left_published : goal.publish_both-requires-clause-left_published
+publish_both-requires-clause-left_published g c = λ none some. c.is_null-empty.ensures.published some
+
+pub publish_both-requires-clause-right_published : goal.publish_both-requires-clause-right_published
+publish_both-requires-clause-right_published g c = λ none some. c.is_null-empty.ensures.published some
+
+pub returns-clause-no_turns : goal.returns-clause-no_turns
+returns-clause-no_turns g c = λ zero. absurd (c.if-turns-eq0.false zero)
+
+pub returns-clause-nothing : goal.returns-clause-nothing
+returns-clause-nothing g c = λ zero. absurd (c.if-turns-eq0.false zero)
+
+pub returns-then-turns-eq0-clause-refused : goal.returns-then-turns-eq0-clause-refused
+returns-then-turns-eq0-clause-refused g c = tt
+
+pub returns-then-turns-eq0-clause-later : goal.returns-then-turns-eq0-clause-later
+returns-then-turns-eq0-clause-later g c = ([], append-nil _)
+
+pub returns-then-turns-eq0-clause-tries : goal.returns-then-turns-eq0-clause-tries
+returns-then-turns-eq0-clause-tries g c = none_few _ _
