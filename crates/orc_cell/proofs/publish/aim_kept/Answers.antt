@@ -36,11 +36,6 @@ aim_half-aimed-requires g c =
           (λ i is. g.met.L.Links.fresh_is d y i vp.pass is);
     }
 
-pub release-requires-clause-held : goal.release-requires-clause-held
-release-requires-clause-held g c =
-    let slots = aimed_slots _ _ _ _ c.aim_half-aimed.result c.aim_half-aimed.ensures.aimed c.aim_half-aimed.ensures.none in
-    subst (λ (z : Slots). Holds z c.hold_half-part.result) (sym (slots ∙ c.value-value.ensures.nothing.slots)) c.hold_half-part.ensures.holds
-
 -- what came of the aim
 came : (g : Over) (c : After-release g) → let d = c.args.links.now in let n = g.L.Links.numbers d in let s = g.L.Links.seat d c.args.p.now in
     let t = g.L.Links.seat d c.release.new.p in let r = c.aim_half-aimed.result in
@@ -66,31 +61,8 @@ returns-in-Ok-clause-aimed g c =
     let held = c.hold_half-part.ensures.held in
     (held.id, held.leads, ok_of _ c.in-Ok.is (came g (goal.at.returns-in-Ok-clause-aimed g c).After-release).0)
 
-pub returns-in-Err-clause-aimed : goal.returns-in-Err-clause-aimed
-returns-in-Err-clause-aimed g c = err_of _ c.in-Err.is (came g (goal.at.returns-in-Err-clause-aimed g c).After-release).1
-
-pub returns-in-Err-clause-worn : goal.returns-in-Err-clause-worn
-returns-in-Err-clause-worn g c =
-    let d = c.args.links.now in
-    let why = c.in-Err.spent in
-    let hp = c.hold_half-part.ensures in
-    let vp = c.value-value.ensures in
-    within_call g.L.Links d c.args.p.now c.value-value.new.p c.aim_half-aimed.new.p c.release.new.p (λ who. g.L.Links.worn d who why) (λ who. g.met.L.Links.worn_stays d who why)
-    (vp.nothing.puts.agent ∙ hp.held.finds.puts.agent) (goes_on _ _ _ hp.later vp.later) c.release.ensures.later
-    (err_of _ c.in-Err.is c.aim_half-aimed.ensures.worn)
-
 pub returns-in-Ok-clause-tries : goal.returns-in-Ok-clause-tries
 returns-in-Ok-clause-tries g c =
-    omega (
-      arith,
-      c.hold_half-part.ensures.tries,
-      made c.value-value.ensures.nothing.puts,
-      c.aim_half-aimed.ensures.tries,
-      made c.release.ensures.released.puts,
-    )
-
-pub returns-in-Err-clause-tries : goal.returns-in-Err-clause-tries
-returns-in-Err-clause-tries g c =
     omega (
       arith,
       c.hold_half-part.ensures.tries,
@@ -102,8 +74,13 @@ returns-in-Err-clause-tries g c =
 pub value-value-requires-clause-pass : goal.value-value-requires-clause-pass
 value-value-requires-clause-pass g c = c.hold_half-part.ensures.pass
 
-pub release-requires-clause-pass : goal.release-requires-clause-pass
-release-requires-clause-pass g c = c.aim_half-aimed.ensures.pass
+pub release-requires : goal.release-requires
+release-requires g c =
+    record {
+      held = let slots = aimed_slots _ _ _ _ c.aim_half-aimed.result c.aim_half-aimed.ensures.aimed c.aim_half-aimed.ensures.none in
+          subst (λ (z : Slots). Holds z c.hold_half-part.result) (sym (slots ∙ c.value-value.ensures.nothing.slots)) c.hold_half-part.ensures.holds;
+      pass = c.aim_half-aimed.ensures.pass;
+    }
 
 pub returns-in-Ok-clause-pass : goal.returns-in-Ok-clause-pass
 returns-in-Ok-clause-pass g c = c.release.ensures.pass
@@ -112,9 +89,24 @@ pub returns-in-Ok-clause-later : goal.returns-in-Ok-clause-later
 returns-in-Ok-clause-later g c =
     goes_on _ _ _ c.hold_half-part.ensures.later (goes_on _ _ _ c.value-value.ensures.later (goes_on _ _ _ c.aim_half-aimed.ensures.later c.release.ensures.later))
 
-pub returns-in-Err-clause-pass : goal.returns-in-Err-clause-pass
-returns-in-Err-clause-pass g c = c.release.ensures.pass
-
-pub returns-in-Err-clause-later : goal.returns-in-Err-clause-later
-returns-in-Err-clause-later g c =
-    goes_on _ _ _ c.hold_half-part.ensures.later (goes_on _ _ _ c.value-value.ensures.later (goes_on _ _ _ c.aim_half-aimed.ensures.later c.release.ensures.later))
+pub returns-in-Err : goal.returns-in-Err
+returns-in-Err g c =
+    record {
+      aimed = err_of _ c.in-Err.is (came g (goal.at.returns-in-Err g c).After-release).1;
+      worn = let d = c.args.links.now in
+          let why = c.in-Err.spent in
+          let hp = c.hold_half-part.ensures in
+          let vp = c.value-value.ensures in
+          within_call g.L.Links d c.args.p.now c.value-value.new.p c.aim_half-aimed.new.p c.release.new.p (λ who. g.L.Links.worn d who why) (λ who. g.met.L.Links.worn_stays d who why)
+          (vp.nothing.puts.agent ∙ hp.held.finds.puts.agent) (goes_on _ _ _ hp.later vp.later) c.release.ensures.later
+          (err_of _ c.in-Err.is c.aim_half-aimed.ensures.worn);
+      tries = omega (
+        arith,
+        c.hold_half-part.ensures.tries,
+        made c.value-value.ensures.nothing.puts,
+        c.aim_half-aimed.ensures.tries,
+        made c.release.ensures.released.puts,
+      );
+      pass = c.release.ensures.pass;
+      later = goes_on _ _ _ c.hold_half-part.ensures.later (goes_on _ _ _ c.value-value.ensures.later (goes_on _ _ _ c.aim_half-aimed.ensures.later c.release.ensures.later));
+    }

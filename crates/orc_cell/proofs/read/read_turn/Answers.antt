@@ -52,95 +52,77 @@ read_pair-parts-requires g c =
       pair = subst (IsPairOf (heap_of (g.L.Links.numbers d) a)) (sym (slot_id s a 1 f.id h c.requires.slots.0 f.in_slot)) f.pair;
     }
 
-pub release-requires-clause-held : goal.release-requires-clause-held
-release-requires-clause-held g c =
-    let f = found g (goal.at.release-requires-clause-held g c).In-Stable-default-Some in
-    let h = c.in-Stable-default-Some.pair in
-    subst (λ (z : Slots). Holds z h) (sym (pair_slots _ _ _ _ c.read_pair-parts.result c.read_pair-parts.ensures.read))
-    (slot_holds _ _ 1 f.id h c.requires.slots.0 f.in_slot)
-
-pub returns-in-Stable-default-Some-clause-read : goal.returns-in-Stable-default-Some-clause-read
-returns-in-Stable-default-Some-clause-read g c =
-    let f = found g (goal.at.returns-in-Stable-default-Some-clause-read g c).In-Stable-default-Some in
-    let d = c.args.links.now in
-    let free = c.requires.slots.0 in
-    let h = c.in-Stable-default-Some.pair in
-    let a = g.L.Links.seat d c.look.new.p in
-    let b = g.L.Links.seat d c.read_pair-parts.new.p in
-    let e = c.read_pair-parts.ensures in
-    let read = subst (λ i. ReadsPair (g.L.Links.numbers d) i a c.read_pair-parts.result b) (slot_id _ _ 1 f.id h free f.in_slot) e.read in
-    turn_read _ 1 _ a b _ h free f c.in-Stable-default-Some.ensures.looked.fresh
-    (g.met.L.Links.allowed d c.look.new.p c.in-Stable-default-Some.ensures.pass) (g.met.L.Links.allowed d c.read_pair-parts.new.p e.pass)
-    (λ i is. g.met.L.Links.fresh_is d c.read_pair-parts.new.p i e.pass is) c.release.ensures.released c.read_pair-parts.result read
-
 pub confirm-requires-clause-allowed : goal.confirm-requires-clause-allowed
 confirm-requires-clause-allowed g c =
     let a = g.L.Links.seat _ c.look.new.p in
     seen_null _ a.agent a.seen (g.met.L.Links.obeys _ _ c.in-Stable-default-None.ensures.pass)
 
-pub returns-then-confirm-clause-read : goal.returns-then-confirm-clause-read
-returns-then-confirm-clause-read g c =
-    let r = ended g (goal.at.returns-then-confirm-clause-read g c).In-Stable-default-None in
-    confirmed _ _ _ null 0 0 _ c.if-confirm.true (null_seen _ _ _ r c.in-Stable-default-None.ensures.looked.fresh) c.confirm.ensures.confirmed
-
-pub returns-else-confirm-clause-read : goal.returns-else-confirm-clause-read
-returns-else-confirm-clause-read g c =
-    let r = ended g (goal.at.returns-else-confirm-clause-read g c).In-Stable-default-None in
-    null_over _ _ _ _ 0 0 _ c.if-confirm.false r c.in-Stable-default-None.ensures.looked.fresh c.confirm.ensures.confirmed
-    (g.met.L.Links.allowed _ _ c.in-Stable-default-None.ensures.pass) (g.met.L.Links.allowed _ _ c.confirm.ensures.pass)
-
-pub returns-in-Moved-clause-read : goal.returns-in-Moved-clause-read
-returns-in-Moved-clause-read g c =
-    let e = c.in-Moved.ensures in
-    let r = e.looked.tells in
+pub release-requires : goal.release-requires
+release-requires g c =
     record {
-      only = record {
-        finds = record { own = _; puts = r.4; finding = (tt, (tt, tt)); entries_are = refl; fresh = e.looked.fresh };
-        slots = r.3;
-      };
-      moved = looks_differ_by_others _ _ _ r.0 r.1 r.4 (g.met.L.Links.allowed _ _ e.pass) r.2;
+      held = let f = found g (goal.at.release-requires g c).In-Stable-default-Some in
+          let h = c.in-Stable-default-Some.pair in
+          subst (λ (z : Slots). Holds z h) (sym (pair_slots _ _ _ _ c.read_pair-parts.result c.read_pair-parts.ensures.read))
+          (slot_holds _ _ 1 f.id h c.requires.slots.0 f.in_slot);
+      pass = c.read_pair-parts.ensures.pass;
     }
-
-pub returns-in-Stable-default-Some-clause-tries : goal.returns-in-Stable-default-Some-clause-tries
-returns-in-Stable-default-Some-clause-tries g c =
-    omega (arith, looked_few c.in-Stable-default-Some.ensures.looked, c.read_pair-parts.ensures.tries, made c.release.ensures.released.puts)
-
-pub returns-then-confirm-clause-tries : goal.returns-then-confirm-clause-tries
-returns-then-confirm-clause-tries g c = omega (arith, looked_few c.in-Stable-default-None.ensures.looked, c.confirm.ensures.tries)
-
-pub returns-else-confirm-clause-tries : goal.returns-else-confirm-clause-tries
-returns-else-confirm-clause-tries g c = omega (arith, looked_few c.in-Stable-default-None.ensures.looked, c.confirm.ensures.tries)
-
-pub returns-in-Moved-clause-tries : goal.returns-in-Moved-clause-tries
-returns-in-Moved-clause-tries g c = omega (arith, looked_few c.in-Moved.ensures.looked)
-
-pub release-requires-clause-pass : goal.release-requires-clause-pass
-release-requires-clause-pass g c = c.read_pair-parts.ensures.pass
 
 pub confirm-requires-clause-pass : goal.confirm-requires-clause-pass
 confirm-requires-clause-pass g c = c.in-Stable-default-None.ensures.pass
 
-pub returns-in-Stable-default-Some-clause-pass : goal.returns-in-Stable-default-Some-clause-pass
-returns-in-Stable-default-Some-clause-pass g c = c.release.ensures.pass
+pub returns-in-Stable-default-Some : goal.returns-in-Stable-default-Some
+returns-in-Stable-default-Some g c =
+    record {
+      read = let f = found g (goal.at.returns-in-Stable-default-Some g c).In-Stable-default-Some in
+          let d = c.args.links.now in
+          let free = c.requires.slots.0 in
+          let h = c.in-Stable-default-Some.pair in
+          let a = g.L.Links.seat d c.look.new.p in
+          let b = g.L.Links.seat d c.read_pair-parts.new.p in
+          let e = c.read_pair-parts.ensures in
+          let read = subst (λ i. ReadsPair (g.L.Links.numbers d) i a c.read_pair-parts.result b) (slot_id _ _ 1 f.id h free f.in_slot) e.read in
+          turn_read _ 1 _ a b _ h free f c.in-Stable-default-Some.ensures.looked.fresh
+          (g.met.L.Links.allowed d c.look.new.p c.in-Stable-default-Some.ensures.pass) (g.met.L.Links.allowed d c.read_pair-parts.new.p e.pass)
+          (λ i is. g.met.L.Links.fresh_is d c.read_pair-parts.new.p i e.pass is) c.release.ensures.released c.read_pair-parts.result read;
+      tries = omega (arith, looked_few c.in-Stable-default-Some.ensures.looked, c.read_pair-parts.ensures.tries, made c.release.ensures.released.puts);
+      pass = c.release.ensures.pass;
+      later = goes_on _ _ _ c.in-Stable-default-Some.ensures.later (goes_on _ _ _ c.read_pair-parts.ensures.later c.release.ensures.later);
+    }
 
-pub returns-in-Stable-default-Some-clause-later : goal.returns-in-Stable-default-Some-clause-later
-returns-in-Stable-default-Some-clause-later g c =
-    goes_on _ _ _ c.in-Stable-default-Some.ensures.later (goes_on _ _ _ c.read_pair-parts.ensures.later c.release.ensures.later)
+pub returns-then-confirm : goal.returns-then-confirm
+returns-then-confirm g c =
+    record {
+      read = let r = ended g (goal.at.returns-then-confirm g c).In-Stable-default-None in
+          confirmed _ _ _ null 0 0 _ c.if-confirm.true (null_seen _ _ _ r c.in-Stable-default-None.ensures.looked.fresh) c.confirm.ensures.confirmed;
+      tries = omega (arith, looked_few c.in-Stable-default-None.ensures.looked, c.confirm.ensures.tries);
+      pass = c.confirm.ensures.pass;
+      later = goes_on _ _ _ c.in-Stable-default-None.ensures.later c.confirm.ensures.later;
+    }
 
-pub returns-then-confirm-clause-pass : goal.returns-then-confirm-clause-pass
-returns-then-confirm-clause-pass g c = c.confirm.ensures.pass
+pub returns-else-confirm : goal.returns-else-confirm
+returns-else-confirm g c =
+    record {
+      read = let r = ended g (goal.at.returns-else-confirm g c).In-Stable-default-None in
+          null_over _ _ _ _ 0 0 _ c.if-confirm.false r c.in-Stable-default-None.ensures.looked.fresh c.confirm.ensures.confirmed
+          (g.met.L.Links.allowed _ _ c.in-Stable-default-None.ensures.pass) (g.met.L.Links.allowed _ _ c.confirm.ensures.pass);
+      tries = omega (arith, looked_few c.in-Stable-default-None.ensures.looked, c.confirm.ensures.tries);
+      pass = c.confirm.ensures.pass;
+      later = goes_on _ _ _ c.in-Stable-default-None.ensures.later c.confirm.ensures.later;
+    }
 
-pub returns-then-confirm-clause-later : goal.returns-then-confirm-clause-later
-returns-then-confirm-clause-later g c = goes_on _ _ _ c.in-Stable-default-None.ensures.later c.confirm.ensures.later
-
-pub returns-else-confirm-clause-pass : goal.returns-else-confirm-clause-pass
-returns-else-confirm-clause-pass g c = c.confirm.ensures.pass
-
-pub returns-else-confirm-clause-later : goal.returns-else-confirm-clause-later
-returns-else-confirm-clause-later g c = goes_on _ _ _ c.in-Stable-default-None.ensures.later c.confirm.ensures.later
-
-pub returns-in-Moved-clause-pass : goal.returns-in-Moved-clause-pass
-returns-in-Moved-clause-pass g c = c.in-Moved.ensures.pass
-
-pub returns-in-Moved-clause-later : goal.returns-in-Moved-clause-later
-returns-in-Moved-clause-later g c = c.in-Moved.ensures.later
+pub returns-in-Moved : goal.returns-in-Moved
+returns-in-Moved g c =
+    record {
+      read = let e = c.in-Moved.ensures in
+          let r = e.looked.tells in
+          record {
+            only = record {
+              finds = record { own = _; puts = r.4; finding = (tt, (tt, tt)); entries_are = refl; fresh = e.looked.fresh };
+              slots = r.3;
+            };
+            moved = looks_differ_by_others _ _ _ r.0 r.1 r.4 (g.met.L.Links.allowed _ _ e.pass) r.2;
+          };
+      tries = omega (arith, looked_few c.in-Moved.ensures.looked);
+      pass = c.in-Moved.ensures.pass;
+      later = c.in-Moved.ensures.later;
+    }

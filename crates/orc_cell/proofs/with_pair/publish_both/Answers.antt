@@ -50,27 +50,8 @@ returns-in-Err-clause-answered g c =
     pair_lacking _ _ _ _ (omega arith) c.requires.no_fresh c.in-Err.ensures.none
     (g.met.L.Links.allowed _ _ c.in-Err.ensures.pass)
 
-pub returns-clause-answered : goal.returns-clause-answered
-returns-clause-answered g c =
-    let e = c.in-Ok.ensures in
-    rw (← e.count, ← e.given) (answers_join (g.L.Links.numbers _) 1 c.args.roots.0 (1 + nodes_for c.args.right.0 c.args.right.1) c.args.turns
-    (given_of c.in-Ok.part) c.args.right.0 (g.L.Links.seat _ c.args.p.now) _ _ (g.L.Links.seat _ c.let_go.new.p) c.in-Ok.part
-    c.publish_right-answer.result c.requires.slots.0 (inl c.requires.roots.0) c.requires.null.0 c.requires.no_fresh e.ready
-    c.publish_right-answer.ensures.answered c.let_go.ensures.gone (g.met.L.Links.allowed _ _ e.pass)
-    (g.met.L.Links.allowed _ _ c.let_go.ensures.pass))
-
-pub returns-clause-refused : goal.returns-clause-refused
-returns-clause-refused g c =
-    caused_call g.L.Links _ c.args.p.now c.ready.new.p c.publish_right-answer.new.p c.let_go.new.p (g.met.L.Links.lacking_stays _) (g.met.L.Links.worn_stays _)
-    (ready_agent _ 1 c.args.roots.0 _ _ c.in-Ok.part c.in-Ok.ensures.ready) c.in-Ok.ensures.later c.let_go.ensures.later c.publish_right-answer.result
-    c.publish_right-answer.ensures.refused
-
 pub returns-in-Err-clause-tries : goal.returns-in-Err-clause-tries
 returns-in-Err-clause-tries g c = omega (arith, made c.in-Err.ensures.none.puts)
-
-pub returns-clause-tries : goal.returns-clause-tries
-returns-clause-tries g c =
-    rw (← c.in-Ok.ensures.given) (omega (arith, c.in-Ok.ensures.tries, c.publish_right-answer.ensures.tries, c.let_go.ensures.tries))
 
 pub returns-in-Err-clause-pass : goal.returns-in-Err-clause-pass
 returns-in-Err-clause-pass g c = c.in-Err.ensures.pass
@@ -78,8 +59,19 @@ returns-in-Err-clause-pass g c = c.in-Err.ensures.pass
 pub returns-in-Err-clause-later : goal.returns-in-Err-clause-later
 returns-in-Err-clause-later g c = c.in-Err.ensures.later
 
-pub returns-clause-pass : goal.returns-clause-pass
-returns-clause-pass g c = c.let_go.ensures.pass
-
-pub returns-clause-later : goal.returns-clause-later
-returns-clause-later g c = goes_on _ _ _ c.in-Ok.ensures.later (goes_on _ _ _ c.publish_right-answer.ensures.later c.let_go.ensures.later)
+pub returns : goal.returns
+returns g c =
+    record {
+      answered = let e = c.in-Ok.ensures in
+          rw (← e.count, ← e.given) (answers_join (g.L.Links.numbers _) 1 c.args.roots.0 (1 + nodes_for c.args.right.0 c.args.right.1) c.args.turns
+          (given_of c.in-Ok.part) c.args.right.0 (g.L.Links.seat _ c.args.p.now) _ _ (g.L.Links.seat _ c.let_go.new.p) c.in-Ok.part
+          c.publish_right-answer.result c.requires.slots.0 (inl c.requires.roots.0) c.requires.null.0 c.requires.no_fresh e.ready
+          c.publish_right-answer.ensures.answered c.let_go.ensures.gone (g.met.L.Links.allowed _ _ e.pass)
+          (g.met.L.Links.allowed _ _ c.let_go.ensures.pass));
+      refused = caused_call g.L.Links _ c.args.p.now c.ready.new.p c.publish_right-answer.new.p c.let_go.new.p (g.met.L.Links.lacking_stays _) (g.met.L.Links.worn_stays _)
+          (ready_agent _ 1 c.args.roots.0 _ _ c.in-Ok.part c.in-Ok.ensures.ready) c.in-Ok.ensures.later c.let_go.ensures.later c.publish_right-answer.result
+          c.publish_right-answer.ensures.refused;
+      tries = rw (← c.in-Ok.ensures.given) (omega (arith, c.in-Ok.ensures.tries, c.publish_right-answer.ensures.tries, c.let_go.ensures.tries));
+      pass = c.let_go.ensures.pass;
+      later = goes_on _ _ _ c.in-Ok.ensures.later (goes_on _ _ _ c.publish_right-answer.ensures.later c.let_go.ensures.later);
+    }

@@ -26,24 +26,6 @@ publish_given-turn-requires g c =
       );
     }
 
-pub release-requires-clause-held : goal.release-requires-clause-held
-release-requires-clause-held g c =
-    let e = c.in-Ok.ensures in
-    let f = pair_fresh _ _ _ _ c.requires.slots.0 e.given (g.met.L.Links.allowed _ _ e.pass) in
-    let same = given_slots _ _ _ _ _ _ _ c.publish_given-turn.result c.publish_given-turn.ensures.published in
-    subst (λ (z : Slots). Holds z c.in-Ok.pair) (sym same) f.held
-
-pub returns-in-Err-clause-answered : goal.returns-in-Err-clause-answered
-returns-in-Err-clause-answered g c =
-    pair_lacking _ 1 _ _ (omega arith) c.requires.no_fresh c.in-Err.ensures.none
-    (g.met.L.Links.allowed _ _ c.in-Err.ensures.pass)
-
-pub returns-in-Err-clause-refused : goal.returns-in-Err-clause-refused
-returns-in-Err-clause-refused g c =
-    let d = c.args.links.now in
-    let Fact = λ (e : NoNode). g.L.Links.lacking d (g.L.Links.seat d c.args.p.now).agent (g.L.Links.journal c.give.new.p) in
-    err_of _ c.in-Err.is (err_within g.L.Links d c.args.p.now c.give.new.p c.give.result Fact c.give.ensures.later c.give.ensures.lacking)
-
 pub returns-in-Published-clause-answered : goal.returns-in-Published-clause-answered
 returns-in-Published-clause-answered g c =
     let e = c.in-Ok.ensures in
@@ -57,23 +39,6 @@ returns-in-Over-clause-answered g c =
     pair_over _ _ _ _ c.requires.slots.0 e.given (g.met.L.Links.allowed _ _ e.pass) _ _ c.release.ensures.released
     (g.met.L.Links.allowed _ _ c.release.ensures.pass) c.args.turns c.in-Over.ensures.published
 
-pub returns-in-Spent-clause-answered : goal.returns-in-Spent-clause-answered
-returns-in-Spent-clause-answered g c =
-    let e = c.in-Ok.ensures in
-    pair_spent _ _ _ _ c.requires.slots.0 e.given (g.met.L.Links.allowed _ _ e.pass) _ _ c.release.ensures.released
-    (g.met.L.Links.allowed _ _ c.release.ensures.pass) c.in-Spent.ensures.published
-
-pub returns-in-Spent-clause-refused : goal.returns-in-Spent-clause-refused
-returns-in-Spent-clause-refused g c =
-    let d = c.args.links.now in
-    let why = c.in-Spent.spent in
-    within_call g.L.Links d c.args.p.now c.give.new.p c.publish_given-turn.new.p c.release.new.p (λ who. g.L.Links.worn d who why)
-    (λ who. g.met.L.Links.worn_stays d who why) c.in-Ok.ensures.given.puts.agent c.in-Ok.ensures.later c.release.ensures.later
-    (c.publish_given-turn.ensures.worn why c.in-Spent.is)
-
-pub returns-in-Err-clause-tries : goal.returns-in-Err-clause-tries
-returns-in-Err-clause-tries g c = omega (arith, made c.in-Err.ensures.none.puts)
-
 pub returns-in-Published-clause-tries : goal.returns-in-Published-clause-tries
 returns-in-Published-clause-tries g c =
     omega (arith, made c.in-Ok.ensures.given.puts, c.publish_given-turn.ensures.tries, made c.release.ensures.released.puts)
@@ -82,18 +47,28 @@ pub returns-in-Over-clause-tries : goal.returns-in-Over-clause-tries
 returns-in-Over-clause-tries g c =
     omega (arith, made c.in-Ok.ensures.given.puts, c.publish_given-turn.ensures.tries, made c.release.ensures.released.puts)
 
-pub returns-in-Spent-clause-tries : goal.returns-in-Spent-clause-tries
-returns-in-Spent-clause-tries g c =
-    omega (arith, made c.in-Ok.ensures.given.puts, c.publish_given-turn.ensures.tries, made c.release.ensures.released.puts)
+pub release-requires : goal.release-requires
+release-requires g c =
+    record {
+      held = let e = c.in-Ok.ensures in
+          let f = pair_fresh _ _ _ _ c.requires.slots.0 e.given (g.met.L.Links.allowed _ _ e.pass) in
+          let same = given_slots _ _ _ _ _ _ _ c.publish_given-turn.result c.publish_given-turn.ensures.published in
+          subst (λ (z : Slots). Holds z c.in-Ok.pair) (sym same) f.held;
+      pass = c.publish_given-turn.ensures.pass;
+    }
 
-pub release-requires-clause-pass : goal.release-requires-clause-pass
-release-requires-clause-pass g c = c.publish_given-turn.ensures.pass
-
-pub returns-in-Err-clause-pass : goal.returns-in-Err-clause-pass
-returns-in-Err-clause-pass g c = c.in-Err.ensures.pass
-
-pub returns-in-Err-clause-later : goal.returns-in-Err-clause-later
-returns-in-Err-clause-later g c = c.in-Err.ensures.later
+pub returns-in-Err : goal.returns-in-Err
+returns-in-Err g c =
+    record {
+      answered = pair_lacking _ 1 _ _ (omega arith) c.requires.no_fresh c.in-Err.ensures.none
+          (g.met.L.Links.allowed _ _ c.in-Err.ensures.pass);
+      refused = let d = c.args.links.now in
+          let Fact = λ (e : NoNode). g.L.Links.lacking d (g.L.Links.seat d c.args.p.now).agent (g.L.Links.journal c.give.new.p) in
+          err_of _ c.in-Err.is (err_within g.L.Links d c.args.p.now c.give.new.p c.give.result Fact c.give.ensures.later c.give.ensures.lacking);
+      tries = omega (arith, made c.in-Err.ensures.none.puts);
+      pass = c.in-Err.ensures.pass;
+      later = c.in-Err.ensures.later;
+    }
 
 pub returns-in-Published-clause-pass : goal.returns-in-Published-clause-pass
 returns-in-Published-clause-pass g c = c.release.ensures.pass
@@ -107,8 +82,18 @@ returns-in-Over-clause-pass g c = c.release.ensures.pass
 pub returns-in-Over-clause-later : goal.returns-in-Over-clause-later
 returns-in-Over-clause-later g c = goes_on _ _ _ c.in-Ok.ensures.later (goes_on _ _ _ c.publish_given-turn.ensures.later c.release.ensures.later)
 
-pub returns-in-Spent-clause-pass : goal.returns-in-Spent-clause-pass
-returns-in-Spent-clause-pass g c = c.release.ensures.pass
-
-pub returns-in-Spent-clause-later : goal.returns-in-Spent-clause-later
-returns-in-Spent-clause-later g c = goes_on _ _ _ c.in-Ok.ensures.later (goes_on _ _ _ c.publish_given-turn.ensures.later c.release.ensures.later)
+pub returns-in-Spent : goal.returns-in-Spent
+returns-in-Spent g c =
+    record {
+      answered = let e = c.in-Ok.ensures in
+          pair_spent _ _ _ _ c.requires.slots.0 e.given (g.met.L.Links.allowed _ _ e.pass) _ _ c.release.ensures.released
+          (g.met.L.Links.allowed _ _ c.release.ensures.pass) c.in-Spent.ensures.published;
+      refused = let d = c.args.links.now in
+          let why = c.in-Spent.spent in
+          within_call g.L.Links d c.args.p.now c.give.new.p c.publish_given-turn.new.p c.release.new.p (λ who. g.L.Links.worn d who why)
+          (λ who. g.met.L.Links.worn_stays d who why) c.in-Ok.ensures.given.puts.agent c.in-Ok.ensures.later c.release.ensures.later
+          (c.publish_given-turn.ensures.worn why c.in-Spent.is);
+      tries = omega (arith, made c.in-Ok.ensures.given.puts, c.publish_given-turn.ensures.tries, made c.release.ensures.released.puts);
+      pass = c.release.ensures.pass;
+      later = goes_on _ _ _ c.in-Ok.ensures.later (goes_on _ _ _ c.publish_given-turn.ensures.later c.release.ensures.later);
+    }
