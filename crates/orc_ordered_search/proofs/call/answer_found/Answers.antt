@@ -43,29 +43,6 @@ present g c = λ start s f.
 none_true : ◌≡◌ {A = Option Bool} None (Some true) → ⊥
 none_true is = cc
 
-pub returns-in-Over-clause-pass : goal.returns-in-Over-clause-pass
-returns-in-Over-clause-pass g c = c.requires.pass
-
-pub returns-in-Over-clause-later : goal.returns-in-Over-clause-later
-returns-in-Over-clause-later g c = ([], append-nil _)
-
-pub returns-in-Over-clause-taken : goal.returns-in-Over-clause-taken
-returns-in-Over-clause-taken g c = λ start s f call yes. absurd (none_true yes)
-
-pub returns-in-Over-clause-answered : goal.returns-in-Over-clause-answered
-returns-in-Over-clause-answered g c = λ start s f.
-    let r = reading_by _ g.K.Rank.manner in
-    let t = g.L.Links.seat _ c.args.p.now in
-    let moved = subst (λ (x : Searched). Finds r start (g.K.SetRank.key_rank c.args.key) s x t) c.in-Over.is f in
-    found_over r s t moved.0
-
-pub returns-in-Over-clause-few : goal.returns-in-Over-clause-few
-returns-in-Over-clause-few g c = λ start s f.
-    let r = reading_by _ g.K.Rank.manner in
-    let t = g.L.Links.seat _ c.args.p.now in
-    let moved = subst (λ (x : Searched). Finds r start (g.K.SetRank.key_rank c.args.key) s x t) c.in-Over.is f in
-    few_made 4 4 s t moved.0.own moved.0.quiet.puts moved.1 (omega arith)
-
 pub enter_absent-entered-requires : goal.enter_absent-entered-requires
 enter_absent-entered-requires g c =
     let (start, s, f) = c.requires.found in
@@ -77,32 +54,25 @@ enter_absent-entered-requires g c =
       absent = (start, c.in-Absent.passed, s, absent g (goal.at.enter_absent-entered-requires g c).In-Absent start s f);
     }
 
-pub returns-in-Absent-clause-pass : goal.returns-in-Absent-clause-pass
-returns-in-Absent-clause-pass g c = c.enter_absent-entered.ensures.pass
-
-pub returns-in-Absent-clause-later : goal.returns-in-Absent-clause-later
-returns-in-Absent-clause-later g c = c.enter_absent-entered.ensures.later
-
-pub returns-in-Absent-clause-load : goal.returns-in-Absent-clause-load
-returns-in-Absent-clause-load g c = λ asks other. c.enter_absent-entered.ensures.load
-
-pub returns-in-Absent-clause-answered : goal.returns-in-Absent-clause-answered
-returns-in-Absent-clause-answered g c = λ start s f.
-    let found = absent g (goal.at.returns-in-Absent-clause-answered g c).In-Absent start s f in
-    let mine = c.agent-agent.ensures ∙ found.behind.quiet.puts.agent in
-    enters_turn (reading_by _ g.K.Rank.manner) c.args.call s.agent c.args.key c.entry_of-entry.result s _ c.enter_absent-entered.result false _
-    (c.entry_of-entry.ensures ∙ ap (λ (i : ℕ). entry_by c.args.call i c.args.key false) mine)
-    c.answer_if.ensures (enters_any (reading_by _ g.K.Rank.manner) c.entry_of-entry.result s _ c.enter_absent-entered.result (c.enter_absent-entered.ensures.entered start c.in-Absent.passed s found))
-
-pub returns-in-Absent-clause-few : goal.returns-in-Absent-clause-few
-returns-in-Absent-clause-few g c = λ start s f.
-    enters_few (reading_by _ g.K.Rank.manner) c.entry_of-entry.result s _ c.enter_absent-entered.result
-    (c.enter_absent-entered.ensures.entered start c.in-Absent.passed s (absent g (goal.at.returns-in-Absent-clause-few g c).In-Absent start s f))
-
-pub returns-in-Absent-clause-taken : goal.returns-in-Absent-clause-taken
-returns-in-Absent-clause-taken g c = λ start s f call yes.
-    let told = (answers_true c.enter_absent-entered.result false _ c.answer_if.ensures yes).1 in
-    absurd cc
+pub returns-in-Absent : goal.returns-in-Absent
+returns-in-Absent g c =
+    record {
+      pass = c.enter_absent-entered.ensures.pass;
+      later = c.enter_absent-entered.ensures.later;
+      load = λ asks other. c.enter_absent-entered.ensures.load;
+      answered = λ start s f.
+          let found = absent g (goal.at.returns-in-Absent g c).In-Absent start s f in
+          let mine = c.agent-agent.ensures ∙ found.behind.quiet.puts.agent in
+          enters_turn (reading_by _ g.K.Rank.manner) c.args.call s.agent c.args.key c.entry_of-entry.result s _ c.enter_absent-entered.result false _
+          (c.entry_of-entry.ensures ∙ ap (λ (i : ℕ). entry_by c.args.call i c.args.key false) mine)
+          c.answer_if.ensures (enters_any (reading_by _ g.K.Rank.manner) c.entry_of-entry.result s _ c.enter_absent-entered.result (c.enter_absent-entered.ensures.entered start c.in-Absent.passed s found));
+      few = λ start s f.
+          enters_few (reading_by _ g.K.Rank.manner) c.entry_of-entry.result s _ c.enter_absent-entered.result
+          (c.enter_absent-entered.ensures.entered start c.in-Absent.passed s (absent g (goal.at.returns-in-Absent g c).In-Absent start s f));
+      taken = λ start s f call yes.
+          let told = (answers_true c.enter_absent-entered.result false _ c.answer_if.ensures yes).1 in
+          absurd cc;
+    }
 
 pub enter_present-entered-requires : goal.enter_present-entered-requires
 enter_present-entered-requires g c =
@@ -113,77 +83,77 @@ enter_present-entered-requires g c =
       present = (start, c.in-Present.passed, s, present g (goal.at.enter_present-entered-requires g c).In-Present start s f);
     }
 
-pub returns-in-Ask-clause-pass : goal.returns-in-Ask-clause-pass
-returns-in-Ask-clause-pass g c = c.enter_present-entered.ensures.pass
+pub returns-in-Ask : goal.returns-in-Ask
+returns-in-Ask g c =
+    record {
+      pass = c.enter_present-entered.ensures.pass;
+      later = c.enter_present-entered.ensures.later;
+      load = λ asks other. c.enter_present-entered.ensures.load;
+      answered = λ start s f.
+          let a = c.args in
+          let found = present g (goal.at.returns-in-Ask g c).In-Present start s f in
+          let asked = entry_is a.call Ask c.agent-agent.result s.agent a.key true c.in-Ask.is (c.agent-agent.ensures ∙ found.behind.quiet.puts.agent) in
+          enters_turn (reading_by _ g.K.Rank.manner) a.call s.agent a.key (Asked c.agent-agent.result a.key true) s _ c.enter_present-entered.result true _ asked c.answer_if-in-Ask.ensures
+          (enters_any (reading_by _ g.K.Rank.manner) (Asked c.agent-agent.result a.key true) s _ c.enter_present-entered.result (c.enter_present-entered.ensures.entered start c.in-Present.passed s found));
+      few = λ start s f.
+          enters_few (reading_by _ g.K.Rank.manner) (Asked c.agent-agent.result c.args.key true) s _ c.enter_present-entered.result
+          (c.enter_present-entered.ensures.entered start c.in-Present.passed s (present g (goal.at.returns-in-Ask g c).In-Present start s f));
+      taken = λ start s f call yes. let is = c.in-Ask.is in cc;
+    }
 
-pub returns-in-Ask-clause-later : goal.returns-in-Ask-clause-later
-returns-in-Ask-clause-later g c = c.enter_present-entered.ensures.later
+pub take_out-removed-requires : goal.take_out-removed-requires
+take_out-removed-requires g c =
+    record {
+      pass = c.requires.pass;
+      root = c.requires.root;
+      present = let (start, s, f) = c.requires.found in
+          (start, c.in-Present.passed, s, present g (goal.at.take_out-removed-requires g c).In-Present start s f);
+    }
 
-pub returns-in-Ask-clause-load : goal.returns-in-Ask-clause-load
-returns-in-Ask-clause-load g c = λ asks other. c.enter_present-entered.ensures.load
+pub returns-in-Remove : goal.returns-in-Remove
+returns-in-Remove g c =
+    record {
+      pass = c.take_out-removed.ensures.pass;
+      later = c.take_out-removed.ensures.later;
+      answered = λ start s f.
+          let x = ordering_of (g.met.K.Rank.ordered _) in
+          let a = c.args in
+          let entry = Removed (g.L.Links.seat a.links.now a.p.now).agent a.key true in
+          let found = present g (goal.at.returns-in-Remove g c).In-Present start s f in
+          enters_turn x.reading a.call s.agent a.key entry s _ c.take_out-removed.result true _
+          (entry_is a.call Remove _ s.agent a.key true c.in-Remove.is found.behind.quiet.puts.agent) c.answer_if-in-Remove.ensures
+          (takes_enters x found (g.K.SetRank.noted entry) g.K.SetRank.unlinking entry _ c.take_out-removed.result _ (g.met.K.SetRank.enters _ entry)
+          (g.met.K.SetRank.enters_none _) (c.take_out-removed.ensures.removed start c.in-Present.passed s found));
+      few = λ start s f.
+          let a = c.args in
+          let found = present g (goal.at.returns-in-Remove g c).In-Present start s f in
+          takes_few (ordering_of (g.met.K.Rank.ordered _)) found (g.K.SetRank.noted (Removed (g.L.Links.seat a.links.now a.p.now).agent a.key true))
+          g.K.SetRank.unlinking _ c.take_out-removed.result _ (c.take_out-removed.ensures.removed start c.in-Present.passed s found);
+      taken = λ start s f call yes.
+          let a = c.args in
+          let done = c.take_out-removed.result in
+          let found = present g (goal.at.returns-in-Remove g c).In-Present start s f in
+          takes_found (ordering_of (g.met.K.Rank.ordered _)) found (g.K.SetRank.noted (Removed (g.L.Links.seat a.links.now a.p.now).agent a.key true))
+          g.K.SetRank.unlinking _ done _ (c.take_out-removed.ensures.removed start c.in-Present.passed s found)
+          (answers_true done true _ c.answer_if-in-Remove.ensures yes).0;
+      load = λ asks other. let is = c.in-Remove.is in cc;
+    }
 
-pub returns-in-Ask-clause-answered : goal.returns-in-Ask-clause-answered
-returns-in-Ask-clause-answered g c = λ start s f.
-    let a = c.args in
-    let found = present g (goal.at.returns-in-Ask-clause-answered g c).In-Present start s f in
-    let asked = entry_is a.call Ask c.agent-agent.result s.agent a.key true c.in-Ask.is (c.agent-agent.ensures ∙ found.behind.quiet.puts.agent) in
-    enters_turn (reading_by _ g.K.Rank.manner) a.call s.agent a.key (Asked c.agent-agent.result a.key true) s _ c.enter_present-entered.result true _ asked c.answer_if-in-Ask.ensures
-    (enters_any (reading_by _ g.K.Rank.manner) (Asked c.agent-agent.result a.key true) s _ c.enter_present-entered.result (c.enter_present-entered.ensures.entered start c.in-Present.passed s found))
-
-pub returns-in-Ask-clause-few : goal.returns-in-Ask-clause-few
-returns-in-Ask-clause-few g c = λ start s f.
-    enters_few (reading_by _ g.K.Rank.manner) (Asked c.agent-agent.result c.args.key true) s _ c.enter_present-entered.result
-    (c.enter_present-entered.ensures.entered start c.in-Present.passed s (present g (goal.at.returns-in-Ask-clause-few g c).In-Present start s f))
-
-pub returns-in-Ask-clause-taken : goal.returns-in-Ask-clause-taken
-returns-in-Ask-clause-taken g c = λ start s f call yes. let is = c.in-Ask.is in cc
-
-pub take_out-removed-requires-clause-pass : goal.take_out-removed-requires-clause-pass
-take_out-removed-requires-clause-pass g c = c.requires.pass
-
-pub take_out-removed-requires-clause-root : goal.take_out-removed-requires-clause-root
-take_out-removed-requires-clause-root g c = c.requires.root
-
-pub take_out-removed-requires-clause-present : goal.take_out-removed-requires-clause-present
-take_out-removed-requires-clause-present g c =
-    let (start, s, f) = c.requires.found in
-    (start, c.in-Present.passed, s, present g (goal.at.take_out-removed-requires-clause-present g c).In-Present start s f)
-
-pub returns-in-Remove-clause-pass : goal.returns-in-Remove-clause-pass
-returns-in-Remove-clause-pass g c = c.take_out-removed.ensures.pass
-
-pub returns-in-Remove-clause-later : goal.returns-in-Remove-clause-later
-returns-in-Remove-clause-later g c = c.take_out-removed.ensures.later
-
-pub returns-in-Remove-clause-answered : goal.returns-in-Remove-clause-answered
-returns-in-Remove-clause-answered g c = λ start s f.
-    let x = ordering_of (g.met.K.Rank.ordered _) in
-    let a = c.args in
-    let entry = Removed (g.L.Links.seat a.links.now a.p.now).agent a.key true in
-    let found = present g (goal.at.returns-in-Remove-clause-answered g c).In-Present start s f in
-    enters_turn x.reading a.call s.agent a.key entry s _ c.take_out-removed.result true _
-    (entry_is a.call Remove _ s.agent a.key true c.in-Remove.is found.behind.quiet.puts.agent) c.answer_if-in-Remove.ensures
-    (takes_enters x found (g.K.SetRank.noted entry) g.K.SetRank.unlinking entry _ c.take_out-removed.result _ (g.met.K.SetRank.enters _ entry)
-    (g.met.K.SetRank.enters_none _) (c.take_out-removed.ensures.removed start c.in-Present.passed s found))
-
-pub returns-in-Remove-clause-few : goal.returns-in-Remove-clause-few
-returns-in-Remove-clause-few g c = λ start s f.
-    let a = c.args in
-    let found = present g (goal.at.returns-in-Remove-clause-few g c).In-Present start s f in
-    takes_few (ordering_of (g.met.K.Rank.ordered _)) found (g.K.SetRank.noted (Removed (g.L.Links.seat a.links.now a.p.now).agent a.key true))
-    g.K.SetRank.unlinking _ c.take_out-removed.result _ (c.take_out-removed.ensures.removed start c.in-Present.passed s found)
-
-pub returns-in-Remove-clause-taken : goal.returns-in-Remove-clause-taken
-returns-in-Remove-clause-taken g c = λ start s f call yes.
-    let a = c.args in
-    let done = c.take_out-removed.result in
-    let found = present g (goal.at.returns-in-Remove-clause-taken g c).In-Present start s f in
-    takes_found (ordering_of (g.met.K.Rank.ordered _)) found (g.K.SetRank.noted (Removed (g.L.Links.seat a.links.now a.p.now).agent a.key true))
-    g.K.SetRank.unlinking _ done _ (c.take_out-removed.ensures.removed start c.in-Present.passed s found)
-    (answers_true done true _ c.answer_if-in-Remove.ensures yes).0
-
-pub returns-in-Remove-clause-load : goal.returns-in-Remove-clause-load
-returns-in-Remove-clause-load g c = λ asks other. let is = c.in-Remove.is in cc
-
-pub returns-in-Over-clause-load : goal.returns-in-Over-clause-load
-returns-in-Over-clause-load g c = λ asks other. absurd (other c.in-Over.is)
+pub returns-in-Over : goal.returns-in-Over
+returns-in-Over g c =
+    record {
+      pass = c.requires.pass;
+      later = ([], append-nil _);
+      taken = λ start s f call yes. absurd (none_true yes);
+      answered = λ start s f.
+          let r = reading_by _ g.K.Rank.manner in
+          let t = g.L.Links.seat _ c.args.p.now in
+          let moved = subst (λ (x : Searched). Finds r start (g.K.SetRank.key_rank c.args.key) s x t) c.in-Over.is f in
+          found_over r s t moved.0;
+      few = λ start s f.
+          let r = reading_by _ g.K.Rank.manner in
+          let t = g.L.Links.seat _ c.args.p.now in
+          let moved = subst (λ (x : Searched). Finds r start (g.K.SetRank.key_rank c.args.key) s x t) c.in-Over.is f in
+          few_made 4 4 s t moved.0.own moved.0.quiet.puts moved.1 (omega arith);
+      load = λ asks other. absurd (other c.in-Over.is);
+    }

@@ -23,47 +23,40 @@ hands g c = λ a.
 pub link_node-linked-requires : goal.link_node-linked-requires
 link_node-linked-requires g c = record { pass = c.requires.pass; root = c.requires.root; adds = c.requires.adds }
 
-pub let_all_go-requires-clause-pass : goal.let_all_go-requires-clause-pass
-let_all_go-requires-clause-pass g c = c.link_node-linked.ensures.pass
+pub let_all_go-requires : goal.let_all_go-requires
+let_all_go-requires g c =
+    record {
+      pass = c.link_node-linked.ensures.pass;
+      hands = (c.requires.adds.slots, hands g (goal.at.let_all_go-requires g c).After-link_node-linked c.requires.adds);
+    }
 
-pub let_all_go-requires-clause-hands : goal.let_all_go-requires-clause-hands
-let_all_go-requires-clause-hands g c =
-    (c.requires.adds.slots, hands g (goal.at.let_all_go-requires-clause-hands g c).After-link_node-linked c.requires.adds)
-
-pub returns-clause-pass : goal.returns-clause-pass
-returns-clause-pass g c = c.let_all_go.ensures.pass
-
-pub returns-clause-later : goal.returns-clause-later
-returns-clause-later g c = goes_on _ _ _ c.link_node-linked.ensures.later c.let_all_go.ensures.later
-
-pub returns-clause-added : goal.returns-clause-added
-returns-clause-added g c = λ a.
-    let e = c.link_node-linked.ensures in
-    let f = c.let_all_go.ensures in
-    links_on (ordering_of (g.met.K.Rank.ordered _)) a.start a.wanted a.value a.kind c.args.left c.args.first c.args.right c.args.node.now
-    a.given a.slots a.begun _ a.at c.args.note _ _
-    c.link_node-linked.result (e.linked a) (f.gone a.slots (hands g (goal.at.returns-clause-added g c).After-link_node-linked a))
-    (g.met.L.Links.obeys _ _ e.pass) (g.met.L.Links.allowed _ _ e.pass)
-    (g.met.L.Links.allowed _ _ f.pass)
-
-pub returns-clause-few : goal.returns-clause-few
-returns-clause-few g c = λ a.
-    links_few (ordering_of (g.met.K.Rank.ordered _)) a.start a.wanted a.value a.kind c.args.left c.args.first c.args.right c.args.node.now
-    a.given a.slots a.begun _ a.at c.args.note _ _
-    c.link_node-linked.result (c.link_node-linked.ensures.linked a)
-    (c.let_all_go.ensures.gone a.slots (hands g (goal.at.returns-clause-few g c).After-link_node-linked a))
-
-pub returns-clause-linked : goal.returns-clause-linked
-returns-clause-linked g c = λ a is.
-    links_gone (ordering_of (g.met.K.Rank.ordered _)) a.start a.wanted a.value a.kind c.args.left c.args.first c.args.right c.args.node.now
-    a.given a.slots a.begun _ a.at c.args.note _ _
-    c.link_node-linked.result (c.link_node-linked.ensures.linked a)
-    (c.let_all_go.ensures.gone a.slots (hands g (goal.at.returns-clause-linked g c).After-link_node-linked a)) is
-
-pub returns-clause-worn : goal.returns-clause-worn
-returns-clause-worn g c = λ why is.
-    let d = c.args.links.now in
-    let agent = (g.L.Links.seat d c.args.p.now).agent in
-    let e = c.link_node-linked.ensures in
-    err_worn (g.L.Links.worn d agent) _ _ _ (λ why xs more from to h. g.met.L.Links.worn_stays d agent why xs more from to h) c.let_all_go.ensures.later
-    c.link_node-linked.result why is e.worn
+pub returns : goal.returns
+returns g c =
+    record {
+      pass = c.let_all_go.ensures.pass;
+      later = goes_on _ _ _ c.link_node-linked.ensures.later c.let_all_go.ensures.later;
+      added = λ a.
+          let e = c.link_node-linked.ensures in
+          let f = c.let_all_go.ensures in
+          links_on (ordering_of (g.met.K.Rank.ordered _)) a.start a.wanted a.value a.kind c.args.left c.args.first c.args.right c.args.node.now
+          a.given a.slots a.begun _ a.at c.args.note _ _
+          c.link_node-linked.result (e.linked a) (f.gone a.slots (hands g (goal.at.returns g c).After-link_node-linked a))
+          (g.met.L.Links.obeys _ _ e.pass) (g.met.L.Links.allowed _ _ e.pass)
+          (g.met.L.Links.allowed _ _ f.pass);
+      few = λ a.
+          links_few (ordering_of (g.met.K.Rank.ordered _)) a.start a.wanted a.value a.kind c.args.left c.args.first c.args.right c.args.node.now
+          a.given a.slots a.begun _ a.at c.args.note _ _
+          c.link_node-linked.result (c.link_node-linked.ensures.linked a)
+          (c.let_all_go.ensures.gone a.slots (hands g (goal.at.returns g c).After-link_node-linked a));
+      linked = λ a is.
+          links_gone (ordering_of (g.met.K.Rank.ordered _)) a.start a.wanted a.value a.kind c.args.left c.args.first c.args.right c.args.node.now
+          a.given a.slots a.begun _ a.at c.args.note _ _
+          c.link_node-linked.result (c.link_node-linked.ensures.linked a)
+          (c.let_all_go.ensures.gone a.slots (hands g (goal.at.returns g c).After-link_node-linked a)) is;
+      worn = λ why is.
+          let d = c.args.links.now in
+          let agent = (g.L.Links.seat d c.args.p.now).agent in
+          let e = c.link_node-linked.ensures in
+          err_worn (g.L.Links.worn d agent) _ _ _ (λ why xs more from to h. g.met.L.Links.worn_stays d agent why xs more from to h) c.let_all_go.ensures.later
+          c.link_node-linked.result why is e.worn;
+    }

@@ -59,29 +59,28 @@ mark_node-requires g c =
     let r = reads_node (ordering_of (g.met.K.Rank.ordered _)) f in
     record { pass = c.requires.pass; node = r.node_held; next = r.next_held; key = r.key; follows = r.follows }
 
-pub returns-then-not-mark_node-clause-pass : goal.returns-then-not-mark_node-clause-pass
-returns-then-not-mark_node-clause-pass g c = c.let_all_go.ensures.pass
-
-pub returns-then-not-mark_node-clause-later : goal.returns-then-not-mark_node-clause-later
-returns-then-not-mark_node-clause-later g c = goes_on _ _ _ c.mark_node.ensures.later c.let_all_go.ensures.later
-
-pub returns-then-not-mark_node-clause-removed : goal.returns-then-not-mark_node-clause-removed
-returns-then-not-mark_node-clause-removed g c = λ start passed s f.
-    let at = (goal.at.returns-then-not-mark_node-clause-removed g c).After-mark_node in
+pub returns-then-not-mark_node : goal.returns-then-not-mark_node
+returns-then-not-mark_node g c =
+    let at = (goal.at.returns-then-not-mark_node g c).After-mark_node in
     let a = c.args in
     let t = g.L.Links.seat _ a.p.now in
-    removes_missed (ordering_of (g.met.K.Rank.ordered _)) f
-    (g.K.SetRank.noted (Removed t.agent a.key true)) _ _
-    (marks g at start passed s f false c.if-not-mark_node.true) (c.let_all_go.ensures.gone s.slots (hands g at start passed s f))
-    (g.met.L.Links.allowed _ _ c.mark_node.ensures.pass)
+    record {
+      pass = c.let_all_go.ensures.pass;
+      later = goes_on _ _ _ c.mark_node.ensures.later c.let_all_go.ensures.later;
+      removed = λ start passed s f.
+          removes_missed (ordering_of (g.met.K.Rank.ordered _)) f
+          (g.K.SetRank.noted (Removed t.agent a.key true)) _ _
+          (marks g at start passed s f false c.if-not-mark_node.true) (c.let_all_go.ensures.gone s.slots (hands g at start passed s f))
+          (g.met.L.Links.allowed _ _ c.mark_node.ensures.pass);
+    }
 
-pub let_all_go-requires-clause-pass : goal.let_all_go-requires-clause-pass
-let_all_go-requires-clause-pass g c = c.mark_node.ensures.pass
-
-pub let_all_go-requires-clause-hands : goal.let_all_go-requires-clause-hands
-let_all_go-requires-clause-hands g c =
+pub let_all_go-requires : goal.let_all_go-requires
+let_all_go-requires g c =
     let (start, passed, s, f) = c.requires.present in
-    (s.slots, hands g (goal.at.let_all_go-requires-clause-hands g c).After-mark_node start passed s f)
+    record {
+      pass = c.mark_node.ensures.pass;
+      hands = (s.slots, hands g (goal.at.let_all_go-requires g c).After-mark_node start passed s f);
+    }
 
 pub unlink_run-requires : goal.unlink_run-requires
 unlink_run-requires g c =
@@ -104,24 +103,18 @@ unlink_run-requires g c =
       follows = unlink_follows ord f noted u m all;
     }
 
-pub let_all_go-requires-2-clause-pass : goal.let_all_go-requires-2-clause-pass
-let_all_go-requires-2-clause-pass g c = c.unlink_run.ensures.pass
-
-pub let_all_go-requires-2-clause-hands : goal.let_all_go-requires-2-clause-hands
-let_all_go-requires-2-clause-hands g c =
-    let at = goal.at.let_all_go-requires-2-clause-hands g c in
+pub let_all_go-requires-2 : goal.let_all_go-requires-2
+let_all_go-requires-2 g c =
+    let at = goal.at.let_all_go-requires-2 g c in
     let (start, passed, s, f) = c.requires.present in
-    (s.slots, hands_on g at.After-unlink_run start passed s f (hands g at.After-mark_node start passed s f))
+    record {
+      pass = c.unlink_run.ensures.pass;
+      hands = (s.slots, hands_on g at.After-unlink_run start passed s f (hands g at.After-mark_node start passed s f));
+    }
 
-pub returns-clause-pass : goal.returns-clause-pass
-returns-clause-pass g c = c.let_all_go-2.ensures.pass
-
-pub returns-clause-later : goal.returns-clause-later
-returns-clause-later g c = goes_on _ _ _ (goes_on _ _ _ c.mark_node.ensures.later c.unlink_run.ensures.later) c.let_all_go-2.ensures.later
-
-pub returns-clause-removed : goal.returns-clause-removed
-returns-clause-removed g c = λ start passed s f.
-    let at = goal.at.returns-clause-removed g c in
+pub returns : goal.returns
+returns g c =
+    let at = goal.at.returns g c in
     let d = c.args.links.now in
     let a = c.args in
     let t = g.L.Links.seat d a.p.now in
@@ -132,15 +125,20 @@ returns-clause-removed g c = λ start passed s f.
     let l = g.L.Links.journal c.unlink_run.new.p in
     let o = g.L.Links.journal c.let_all_go-2.new.p in
     let q = c.let_all_go-2.ensures in
-    let m = marks g at.After-mark_node start passed s f true c.if-not-mark_node.false in
-    let tried = tries_at (ordering_of (g.met.K.Rank.ordered _)) f u v c.node_or.result.now a.root
-    g.K.SetRank.unlinking _ c.requires.root.1 m.slots c.node_or.ensures c.unlink_run.ensures.tried in
     record {
-      marked = u;
-      tried = v;
-      marks = m;
-      tries = tries_wider _ (HasWorn (g.L.Links.worn d t.agent) j o) g.K.SetRank.unlinking _ _ _ u v
-          (λ w. worn_wider (g.L.Links.worn d) t.agent u.agent j k l o (λ why xs more from to h. g.met.L.Links.worn_stays d t.agent why xs more from to h)
-          m.puts.agent c.mark_node.ensures.later q.later w) tried;
-      gone = q.gone s.slots (hands_on g at.After-unlink_run start passed s f (hands g at.After-mark_node start passed s f));
+      pass = q.pass;
+      later = goes_on _ _ _ (goes_on _ _ _ c.mark_node.ensures.later c.unlink_run.ensures.later) q.later;
+      removed = λ start passed s f.
+          let m = marks g at.After-mark_node start passed s f true c.if-not-mark_node.false in
+          let tried = tries_at (ordering_of (g.met.K.Rank.ordered _)) f u v c.node_or.result.now a.root
+          g.K.SetRank.unlinking _ c.requires.root.1 m.slots c.node_or.ensures c.unlink_run.ensures.tried in
+          record {
+            marked = u;
+            tried = v;
+            marks = m;
+            tries = tries_wider _ (HasWorn (g.L.Links.worn d t.agent) j o) g.K.SetRank.unlinking _ _ _ u v
+                (λ w. worn_wider (g.L.Links.worn d) t.agent u.agent j k l o (λ why xs more from to h. g.met.L.Links.worn_stays d t.agent why xs more from to h)
+                m.puts.agent c.mark_node.ensures.later q.later w) tried;
+            gone = q.gone s.slots (hands_on g at.After-unlink_run start passed s f (hands g at.After-mark_node start passed s f));
+          };
     }

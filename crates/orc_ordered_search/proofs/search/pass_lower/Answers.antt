@@ -124,76 +124,72 @@ loop-p-preserved g c =
       walks = λ start s room w. (next_read g at.After-read-rank start s (passed g at.After-count_one-passed start s (i.walks start s room w))).0;
     }
 
-pub step_by-requires-clause-looked : goal.step_by-requires-clause-looked
-step_by-requires-clause-looked g c =
-    let (start, s, room, w) = c.requires.walks in
-    (start, s, by g (goal.at.step_by-requires-clause-looked g c).In-Stays start s room (c.loop-p.invariant.walks start s room w))
+pub step_by-requires : goal.step_by-requires
+step_by-requires g c =
+    record {
+      looked = let (start, s, room, w) = c.requires.walks in
+          (start, s, by g (goal.at.step_by-requires g c).In-Stays start s room (c.loop-p.invariant.walks start s room w));
+      pass = c.look_on.ensures.pass;
+    }
 
-pub returns-in-Stays-clause-stepped : goal.returns-in-Stays-clause-stepped
-returns-in-Stays-clause-stepped g c = λ start s room w.
-    let at = goal.at.returns-in-Stays-clause-stepped g c in
-    let i = c.loop-p.invariant in
-    steps_up (reading_by _ g.K.Rank.manner) g.K.Rank.number g.K.Rank.counted start (g.K.Rank.number c.args.wanted) (g.K.Rank.number c.args.rank + 1) (g.K.Rank.number c.loop-p.rank + 1) s c.step_by.result (g.L.Links.seat _
-    c.step_by.new.p)
-    (c.step_by.ensures.stepped start s (by g at.In-Stays start s room (i.walks start s room w))) (omega (arith, i.up))
+pub returns-in-Stays : goal.returns-in-Stays
+returns-in-Stays g c =
+    record {
+      stepped = λ start s room w.
+          let at = goal.at.returns-in-Stays g c in
+          let i = c.loop-p.invariant in
+          steps_up (reading_by _ g.K.Rank.manner) g.K.Rank.number g.K.Rank.counted start (g.K.Rank.number c.args.wanted) (g.K.Rank.number c.args.rank + 1) (g.K.Rank.number c.loop-p.rank + 1) s c.step_by.result (g.L.Links.seat _
+          c.step_by.new.p)
+          (c.step_by.ensures.stepped start s (by g at.In-Stays start s room (i.walks start s room w))) (omega (arith, i.up));
+      pass = c.step_by.ensures.pass;
+      later = goes_on _ _ _ (goes_on _ _ _ c.loop-p.invariant.later c.look_on.ensures.later) c.step_by.ensures.later;
+    }
 
-pub release-requires-clause-held : goal.release-requires-clause-held
-release-requires-clause-held g c =
-    let l = c.loop-p in
-    let (start, s, room, w) = c.requires.walks in
-    moved_holds (ordering_of (g.met.K.Rank.ordered _)) start (g.K.Rank.number c.args.wanted) l.left l.at (g.K.Rank.number l.rank) (g.K.Rank.counted l.rank) l.passed
-    c.spare_slot-spare.result s _
-    _ (l.invariant.walks start s room w) (g.met.L.Links.allowed _ _ c.look_on.ensures.pass)
-    c.in-Moved.ensures.looked
+pub release-requires : goal.release-requires
+release-requires g c =
+    record {
+      held = let l = c.loop-p in
+          let (start, s, room, w) = c.requires.walks in
+          moved_holds (ordering_of (g.met.K.Rank.ordered _)) start (g.K.Rank.number c.args.wanted) l.left l.at (g.K.Rank.number l.rank) (g.K.Rank.counted l.rank) l.passed
+          c.spare_slot-spare.result s _
+          _ (l.invariant.walks start s room w) (g.met.L.Links.allowed _ _ c.look_on.ensures.pass)
+          c.in-Moved.ensures.looked;
+      pass = c.look_on.ensures.pass;
+    }
 
-pub returns-in-Moved-clause-later : goal.returns-in-Moved-clause-later
-returns-in-Moved-clause-later g c =
-    goes_on _ _ _ (goes_on _ _ _ c.loop-p.invariant.later c.look_on.ensures.later) c.release.ensures.later
+pub returns-in-Moved : goal.returns-in-Moved
+returns-in-Moved g c =
+    record {
+      later = goes_on _ _ _ (goes_on _ _ _ c.loop-p.invariant.later c.look_on.ensures.later) c.release.ensures.later;
+      stepped = λ start s room first.
+          let d = c.args.links.now in
+          let l = c.loop-p in
+          let w = l.invariant.walks start s room first in
+          let f = c.release.ensures in
+          moves_off (ordering_of (g.met.K.Rank.ordered _)) start (g.K.Rank.number c.args.wanted) l.left l.at (g.K.Rank.number l.rank) (g.K.Rank.counted l.rank) l.passed
+          c.spare_slot-spare.result s _
+          _ w (g.met.L.Links.allowed _ _ c.look_on.ensures.pass)
+          c.in-Moved.ensures.looked _ f.released
+          (λ i h. g.met.L.Links.fresh_is d c.look_on.new.p i c.look_on.ensures.pass h) (g.met.L.Links.allowed _ _ f.pass);
+      pass = c.release.ensures.pass;
+    }
 
-pub returns-in-Moved-clause-stepped : goal.returns-in-Moved-clause-stepped
-returns-in-Moved-clause-stepped g c = λ start s room first.
-    let d = c.args.links.now in
-    let l = c.loop-p in
-    let w = l.invariant.walks start s room first in
-    let f = c.release.ensures in
-    moves_off (ordering_of (g.met.K.Rank.ordered _)) start (g.K.Rank.number c.args.wanted) l.left l.at (g.K.Rank.number l.rank) (g.K.Rank.counted l.rank) l.passed
-    c.spare_slot-spare.result s _
-    _ w (g.met.L.Links.allowed _ _ c.look_on.ensures.pass)
-    c.in-Moved.ensures.looked _ f.released
-    (λ i h. g.met.L.Links.fresh_is d c.look_on.new.p i c.look_on.ensures.pass h) (g.met.L.Links.allowed _ _ f.pass)
+pub step-requires : goal.step-requires
+step-requires g c =
+    record {
+      walks = let (start, s, room, w) = c.requires.walks in
+          (start, s, room, c.loop-p.invariant.walks start s room w);
+      pass = c.loop-p.invariant.pass;
+    }
 
-pub step-requires-clause-walks : goal.step-requires-clause-walks
-step-requires-clause-walks g c =
-    let (start, s, room, w) = c.requires.walks in
-    (start, s, room, c.loop-p.invariant.walks start s room w)
-
-pub returns-clause-later : goal.returns-clause-later
-returns-clause-later g c = goes_on _ _ _ c.loop-p.invariant.later c.step.ensures.later
-
-pub returns-clause-stepped : goal.returns-clause-stepped
-returns-clause-stepped g c = λ start s room w.
-    let i = c.loop-p.invariant in
-    steps_up (reading_by _ g.K.Rank.manner) g.K.Rank.number g.K.Rank.counted start (g.K.Rank.number c.args.wanted) (g.K.Rank.number c.args.rank + 1) (g.K.Rank.number c.loop-p.rank + 1) s c.step.result (g.L.Links.seat _
-    c.step.new.p)
-    (c.step.ensures.stepped start s room (i.walks start s room w)) (omega (arith, i.up))
-
-pub step_by-requires-clause-pass : goal.step_by-requires-clause-pass
-step_by-requires-clause-pass g c = c.look_on.ensures.pass
-
-pub returns-in-Stays-clause-pass : goal.returns-in-Stays-clause-pass
-returns-in-Stays-clause-pass g c = c.step_by.ensures.pass
-
-pub returns-in-Stays-clause-later : goal.returns-in-Stays-clause-later
-returns-in-Stays-clause-later g c = goes_on _ _ _ (goes_on _ _ _ c.loop-p.invariant.later c.look_on.ensures.later) c.step_by.ensures.later
-
-pub release-requires-clause-pass : goal.release-requires-clause-pass
-release-requires-clause-pass g c = c.look_on.ensures.pass
-
-pub returns-in-Moved-clause-pass : goal.returns-in-Moved-clause-pass
-returns-in-Moved-clause-pass g c = c.release.ensures.pass
-
-pub step-requires-clause-pass : goal.step-requires-clause-pass
-step-requires-clause-pass g c = c.loop-p.invariant.pass
-
-pub returns-clause-pass : goal.returns-clause-pass
-returns-clause-pass g c = c.step.ensures.pass
+pub returns : goal.returns
+returns g c =
+    record {
+      later = goes_on _ _ _ c.loop-p.invariant.later c.step.ensures.later;
+      stepped = λ start s room w.
+          let i = c.loop-p.invariant in
+          steps_up (reading_by _ g.K.Rank.manner) g.K.Rank.number g.K.Rank.counted start (g.K.Rank.number c.args.wanted) (g.K.Rank.number c.args.rank + 1) (g.K.Rank.number c.loop-p.rank + 1) s c.step.result (g.L.Links.seat _
+          c.step.new.p)
+          (c.step.ensures.stepped start s room (i.walks start s room w)) (omega (arith, i.up));
+      pass = c.step.ensures.pass;
+    }
