@@ -1,5 +1,5 @@
 -- One turn after another, until one answers.
-use Rattle.std.proofs.Common.{[], append-nil, arith, subst, sym, Some, ℕ, ◌≡◌, ◌+◌}
+use Rattle.std.proofs.Common.{Bool, Err, Ok, Result, [], append-nil, arith, subst, sym, true, Some, ℕ, ◌≡◌, ◌+◌}
 use Rattle.orc_heap.proofs.Pieces.{goes_on}
 use Rattle.orc_heap.specs.Slots.{Slots}
 use Rattle.orc_ordered_search.specs.Causes.{HasWorn}
@@ -13,6 +13,10 @@ use Rattle.orc_list.specs.Turns.{MadeFew}
 use Rattle.orc_list.proofs.Making.{made_most, made_next, made_none, ok_some}
 use Rattle.orc_list.proofs.Tiring.{takes_next}
 use Rattle.orc_list.proofs.answer.call_turns.Goals as goal
+
+-- turns that are over gave no answer
+err_yes : {E : Type 0} (e : E) → ◌≡◌ {A = Result Bool E} (Err e) (Ok true) → ⊥
+err_yes e is = cc
 
 pub loop-init : goal.loop-init
 loop-init g c =
@@ -31,8 +35,16 @@ loop-preserved g c =
       few = made_next c.loop.counter _ _ _ i.tires.own e.answered.own i.tires.over.made.puts e.answered.over.made.puts i.few e.few;
     }
 
-pub call_turn-requires-clause-room : goal.call_turn-requires-clause-room
-call_turn-requires-clause-room g c = subst (λ (z : Slots). HasRoom z) (sym c.loop.invariant.tires.slots) c.requires.room
+pub call_turn-requires : goal.call_turn-requires
+call_turn-requires g c =
+    let i = c.loop.invariant in
+    record { pass = i.pass; root = c.requires.root; room = subst (λ (z : Slots). HasRoom z) (sym i.tires.slots) c.requires.room }
+
+pub returns-in-Some-clause-pass : goal.returns-in-Some-clause-pass
+returns-in-Some-clause-pass g c = c.in-Some.ensures.pass
+
+pub returns-in-Some-clause-later : goal.returns-in-Some-clause-later
+returns-in-Some-clause-later g c = goes_on _ _ _ c.loop.invariant.later c.in-Some.ensures.later
 
 pub returns-in-Some-clause-answered : goal.returns-in-Some-clause-answered
 returns-in-Some-clause-answered g c =
@@ -83,3 +95,12 @@ returns-clause-few g c =
     let d = c.args.links.now in
     let all : c.loop.counter ≡ c.args.turns = omega (arith, c.loop-test.false, c.loop.auto.counter-end) in
     subst (λ (k : ℕ). MadeFew k (g.L.Links.seat d c.args.p.now) (g.L.Links.seat d c.loop.p)) all c.loop.invariant.few
+
+pub returns-clause-pass : goal.returns-clause-pass
+returns-clause-pass g c = c.loop.invariant.pass
+
+pub returns-clause-later : goal.returns-clause-later
+returns-clause-later g c = c.loop.invariant.later
+
+pub returns-clause-off : goal.returns-clause-off
+returns-clause-off g c = λ call yes. absurd (err_yes _ yes)

@@ -1,6 +1,7 @@
 -- By how the turns ended; the node in hand is let go.
 use Rattle.std.proofs.Common.{List, Result, Bool, subst, sym, ◌∙◌}
 use Rattle.orc_heap.proofs.Parting.{part_goes_on}
+use Rattle.orc_heap.proofs.Pieces.{goes_on}
 use Rattle.orc_heap.specs.OwnEvents.{Puts}
 use Rattle.orc_heap.specs.declared.events.Event.{Event}
 use Rattle.orc_history.specs.declared.set.ListRefused.{ListRefused}
@@ -25,8 +26,13 @@ made g c =
     turns_puts _ c.args.key c.args.turns (λ yes. Added s.agent c.args.key yes) c.insert_turns-turn.result.1 s
     _ c.insert_turns-turn.result.0 c.insert_turns-turn.ensures.inserted
 
-pub insert_turns-turn-requires-clause-room : goal.insert_turns-turn-requires-clause-room
-insert_turns-turn-requires-clause-room g c = idle_room (g.L.Links.seat c.args.links.now c.args.p.now) c.requires.idle
+pub insert_turns-turn-requires : goal.insert_turns-turn-requires
+insert_turns-turn-requires g c =
+    let r = c.requires in
+    record { pass = r.pass; root = r.root; room = idle_room (g.L.Links.seat c.args.links.now c.args.p.now) r.idle; fresh = r.idle.fresh }
+
+pub let_go-requires-clause-pass : goal.let_go-requires-clause-pass
+let_go-requires-clause-pass g c = c.insert_turns-turn.ensures.pass
 
 pub let_go-requires-clause-held : goal.let_go-requires-clause-held
 let_go-requires-clause-held g c =
@@ -85,3 +91,9 @@ returns-clause-worn g c = λ why is.
     part_goes_on g.L.Links.agent_of s.agent (g.L.Links.worn d s.agent why) _ _
     _ (λ xs more from to h. g.met.L.Links.worn_stays d s.agent why xs more from to h)
     e.later c.let_go.ensures.later (e.worn why (turn_worn c.insert_turns-turn.result.0 why (sym c.answer_of.ensures ∙ is)))
+
+pub returns-clause-pass : goal.returns-clause-pass
+returns-clause-pass g c = c.let_go.ensures.pass
+
+pub returns-clause-later : goal.returns-clause-later
+returns-clause-later g c = goes_on _ _ _ c.insert_turns-turn.ensures.later c.let_go.ensures.later

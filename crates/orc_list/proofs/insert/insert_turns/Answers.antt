@@ -1,5 +1,6 @@
 -- One turn after another, until one answers.
-use Rattle.std.proofs.Common.{List, [], append-nil, arith, subst, ℕ, None, ◌+◌, ◌≡◌}
+use Rattle.std.proofs.Common.{List, [], append-nil, arith, subst, true, ℕ, None, ◌+◌, ◌≡◌}
+use Rattle.orc_fault.specs.declared.Spent.{Spent as SpentRow}
 use Rattle.orc_heap.proofs.Parting.{part_of_next}
 use Rattle.orc_heap.proofs.Pieces.{goes_on}
 use Rattle.orc_heap.specs.OwnEvents.{Puts}
@@ -8,6 +9,7 @@ use Rattle.orc_history.specs.declared.set.SetEntry.TheVariants.{Added}
 use Rattle.orc_chain_rule.specs.declared.chain.ChainNote.{ChainNote}
 use Rattle.orc_ordered_search.specs.Inserts.{Inserts, InsertsOn}
 use Rattle.orc_ordered_search.specs.declared.turn.InsertTurn.{InsertTurn}
+use Rattle.orc_ordered_search.specs.declared.turn.InsertTurn.TheVariants.{Answered, NoNode, Over, Spent}
 use Rattle.orc_ordered_search.proofs.Inserting.{inserts_done, inserts_next, inserts_none}
 use Rattle.orc_list.specs.Searches.{list_reading}
 use Rattle.orc_list.specs.Turns.{MadeFew}
@@ -15,9 +17,20 @@ use Rattle.orc_list.proofs.Inserting.{inserts_puts, leaves_next}
 use Rattle.orc_ordered_search.proofs.Absent.{absent_next}
 use Rattle.orc_list.proofs.Ordered.{list_ordering}
 use Rattle.orc_list.proofs.Making.{made_most, made_next, made_none}
-use Rattle.orc_list.proofs.insert.insert_turns.Given.{Over}
+use Rattle.orc_list.proofs.insert.insert_turns.Given.{Over as Generics}
 use Rattle.orc_list.proofs.insert.insert_turns.Goals.{In_default}
 use Rattle.orc_list.proofs.insert.insert_turns.Goals as goal
+
+-- turns that are over neither added the key nor were refused
+
+over_adds : (many : ℕ) → Over ≡ Answered true many → ⊥
+over_adds many is = cc
+
+over_lacks : Over ≡ NoNode → ⊥
+over_lacks is = cc
+
+over_wears : (why : SpentRow) → Over ≡ Spent why → ⊥
+over_wears why is = cc
 
 pub loop-init : goal.loop-init
 loop-init g c =
@@ -29,9 +42,10 @@ loop-init g c =
       few = made_none (g.L.Links.seat d c.args.p.now);
     }
 
-pub insert_turn-turn-requires-clause-keeps : goal.insert_turn-turn-requires-clause-keeps
-insert_turn-turn-requires-clause-keeps g c =
-    ((g.L.Links.seat _ c.args.p.now).slots, c.requires.room, c.loop.invariant.on.keeps)
+pub insert_turn-turn-requires : goal.insert_turn-turn-requires
+insert_turn-turn-requires g c =
+    let i = c.loop.invariant in
+    record { pass = i.pass; root = c.requires.root; keeps = ((g.L.Links.seat _ c.args.p.now).slots, c.requires.room, i.on.keeps) }
 
 pub loop-preserved : goal.loop-preserved
 loop-preserved g c =
@@ -52,7 +66,7 @@ loop-preserved g c =
     }
 
 -- what the last turn made
-last : (g : Over) (c : In_default g) → let d = c.args.links.now in
+last : (g : Generics) (c : In_default g) → let d = c.args.links.now in
     (own : List (Event ChainNote)) × Puts (g.L.Links.seat d c.loop.p) own (g.L.Links.seat d c.insert_turn-turn.new.p)
 last g c =
     let t = g.L.Links.seat _ c.loop.p in
@@ -127,3 +141,27 @@ returns-clause-few g c =
     let d = c.args.links.now in
     let all : c.loop.counter ≡ c.args.turns = omega (arith, c.loop-test.false, c.loop.auto.counter-end) in
     subst (λ (k : ℕ). MadeFew k (g.L.Links.seat d c.args.p.now) (g.L.Links.seat d c.loop.p)) all c.loop.invariant.few
+
+pub returns-in_default-clause-pass : goal.returns-in_default-clause-pass
+returns-in_default-clause-pass g c = c.insert_turn-turn.ensures.pass
+
+pub returns-in_default-clause-later : goal.returns-in_default-clause-later
+returns-in_default-clause-later g c = goes_on _ _ _ c.loop.invariant.later c.insert_turn-turn.ensures.later
+
+pub returns-clause-pass : goal.returns-clause-pass
+returns-clause-pass g c = c.loop.invariant.pass
+
+pub returns-clause-later : goal.returns-clause-later
+returns-clause-later g c = c.loop.invariant.later
+
+pub returns-clause-off : goal.returns-clause-off
+returns-clause-off g c = λ many is. absurd (over_adds many is)
+
+pub returns-clause-absent : goal.returns-clause-absent
+returns-clause-absent g c = λ is. absurd (over_lacks is)
+
+pub returns-clause-lacking : goal.returns-clause-lacking
+returns-clause-lacking g c = λ is. absurd (over_lacks is)
+
+pub returns-clause-worn : goal.returns-clause-worn
+returns-clause-worn g c = λ why is. absurd (over_wears why is)

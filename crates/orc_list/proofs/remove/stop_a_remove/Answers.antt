@@ -1,5 +1,6 @@
 -- One search, the mark if it found the key, and then all nodes are let go.
 use Rattle.std.proofs.Common.{true}
+use Rattle.orc_heap.proofs.Pieces.{goes_on}
 use Rattle.orc_heap.specs.declared.events.Place.TheVariants.{Root}
 use Rattle.orc_history.specs.declared.set.SetEntry.TheVariants.{Removed}
 use Rattle.orc_chain_rule.specs.declared.chain.ChainNote.TheVariants.{Entry}
@@ -31,10 +32,21 @@ present g c =
     c.in-Present.ensures.found (Root c.args.root) _ c.requires.room
     (root_begins _ c.args.root c.args.key _ c.requires.root.1 (g.met.L.Links.obeys _ _ c.requires.pass))
 
-pub search_chain-requires-clause-begins : goal.search_chain-requires-clause-begins
-search_chain-requires-clause-begins g c =
+pub search_chain-requires : goal.search_chain-requires
+search_chain-requires g c =
+    let r = c.requires in
     let s = g.L.Links.seat _ c.args.p.now in
-    (Root c.args.root, s, c.requires.room, root_begins _ c.args.root c.args.key s c.requires.root.1 (g.met.L.Links.obeys _ _ c.requires.pass))
+    record {
+      pass = r.pass;
+      root = r.root;
+      begins = (Root c.args.root, s, r.room, root_begins _ c.args.root c.args.key s r.root.1 (g.met.L.Links.obeys _ _ r.pass));
+    }
+
+pub returns-in-Over-clause-pass : goal.returns-in-Over-clause-pass
+returns-in-Over-clause-pass g c = c.in-Over.ensures.pass
+
+pub returns-in-Over-clause-later : goal.returns-in-Over-clause-later
+returns-in-Over-clause-later g c = c.in-Over.ensures.later
 
 pub returns-in-Over-clause-stopped : goal.returns-in-Over-clause-stopped
 returns-in-Over-clause-stopped g c =
@@ -80,3 +92,22 @@ returns-in-Present-clause-stopped g c =
     let all = g.met.L.Links.allowed _ _ e.pass in
     let gone = c.let_all_go-in-Present.ensures.gone _ (marked_hand (list_ordering _) found noted _ _ m all) in
     mark_stops found c.mark_node-marked.result _ _ m gone all
+
+pub let_all_go-requires-clause-pass : goal.let_all_go-requires-clause-pass
+let_all_go-requires-clause-pass g c = c.in-Absent.ensures.pass
+
+pub returns-in-Absent-clause-pass : goal.returns-in-Absent-clause-pass
+returns-in-Absent-clause-pass g c = c.let_all_go.ensures.pass
+
+pub returns-in-Absent-clause-later : goal.returns-in-Absent-clause-later
+returns-in-Absent-clause-later g c = goes_on _ _ _ c.in-Absent.ensures.later c.let_all_go.ensures.later
+
+pub let_all_go-requires-in-Present-clause-pass : goal.let_all_go-requires-in-Present-clause-pass
+let_all_go-requires-in-Present-clause-pass g c = c.mark_node-marked.ensures.pass
+
+pub returns-in-Present-clause-pass : goal.returns-in-Present-clause-pass
+returns-in-Present-clause-pass g c = c.let_all_go-in-Present.ensures.pass
+
+pub returns-in-Present-clause-later : goal.returns-in-Present-clause-later
+returns-in-Present-clause-later g c =
+    goes_on _ _ _ (goes_on _ _ _ c.in-Present.ensures.later c.mark_node-marked.ensures.later) c.let_all_go-in-Present.ensures.later
