@@ -51,35 +51,31 @@ pub change-requires-clause-allowed : goal.change-requires-clause-allowed
 change-requires-clause-allowed g c =
     put_may (filled g (goal.at.change-requires-clause-allowed g c).After-fill) c.args.tail.now c.agent-agent.result refl c.agent-agent.ensures
 
-pub returns-else-change-clause-linked : goal.returns-else-change-clause-linked
-returns-else-change-clause-linked g c =
-    let f = filled g (goal.at.returns-else-change-clause-linked g c).After-fill in
-    let e = c.change.ensures in
-    let d = c.args.links.now in
-    let missed = subst (λ (i : ℕ). Misses (Next i) null (g.L.Links.seat d c.fill.new.p) (g.L.Links.seat d c.change.new.p)) (tail_same f c.args.tail.now)
-    (Swings-missed e.swung c.if-change.false) in
-    link_missed f _ (g.met.L.Links.allowed _ _ e.pass) e.swung.slots (missed_fresh e.swung c.if-change.false) missed
+pub returns-then-change : goal.returns-then-change
+returns-then-change g c =
+    record {
+      linked = let f = filled g (goal.at.returns-then-change g c).After-fill in
+          let b = g.L.Links.seat _ c.fill.new.p in
+          let t = g.L.Links.seat _ c.change.new.p in
+          let e = c.change.ensures in
+          let agent = c.agent-agent.result in
+          let to = link_to (id_in b.slots c.args.node.now) in
+          let moved = subst (λ (i : ℕ). Puts b (event_of b (Move (Next i) null to) (Some (Entry (Put agent c.args.job c.value-at.result))) ∷ []) t)
+          (tail_same f c.args.tail.now) (Swings-moved e.swung c.if-change.true) in
+          link_made f t agent (g.met.L.Links.allowed _ _ e.pass) c.agent-agent.ensures e.swung.slots (Swings-fresh e.swung c.if-change.true) moved;
+      pass = c.change.ensures.pass;
+      later = goes_on _ _ _ c.value-at.ensures.later (goes_on _ _ _ c.fill.ensures.later c.change.ensures.later);
+    }
 
-pub returns-then-change-clause-linked : goal.returns-then-change-clause-linked
-returns-then-change-clause-linked g c =
-    let f = filled g (goal.at.returns-then-change-clause-linked g c).After-fill in
-    let b = g.L.Links.seat _ c.fill.new.p in
-    let t = g.L.Links.seat _ c.change.new.p in
-    let e = c.change.ensures in
-    let agent = c.agent-agent.result in
-    let to = link_to (id_in b.slots c.args.node.now) in
-    let moved = subst (λ (i : ℕ). Puts b (event_of b (Move (Next i) null to) (Some (Entry (Put agent c.args.job c.value-at.result))) ∷ []) t)
-    (tail_same f c.args.tail.now) (Swings-moved e.swung c.if-change.true) in
-    link_made f t agent (g.met.L.Links.allowed _ _ e.pass) c.agent-agent.ensures e.swung.slots (Swings-fresh e.swung c.if-change.true) moved
-
-pub returns-then-change-clause-pass : goal.returns-then-change-clause-pass
-returns-then-change-clause-pass g c = c.change.ensures.pass
-
-pub returns-then-change-clause-later : goal.returns-then-change-clause-later
-returns-then-change-clause-later g c = goes_on _ _ _ c.value-at.ensures.later (goes_on _ _ _ c.fill.ensures.later c.change.ensures.later)
-
-pub returns-else-change-clause-pass : goal.returns-else-change-clause-pass
-returns-else-change-clause-pass g c = c.change.ensures.pass
-
-pub returns-else-change-clause-later : goal.returns-else-change-clause-later
-returns-else-change-clause-later g c = goes_on _ _ _ c.value-at.ensures.later (goes_on _ _ _ c.fill.ensures.later c.change.ensures.later)
+pub returns-else-change : goal.returns-else-change
+returns-else-change g c =
+    record {
+      linked = let f = filled g (goal.at.returns-else-change g c).After-fill in
+          let e = c.change.ensures in
+          let d = c.args.links.now in
+          let missed = subst (λ (i : ℕ). Misses (Next i) null (g.L.Links.seat d c.fill.new.p) (g.L.Links.seat d c.change.new.p)) (tail_same f c.args.tail.now)
+          (Swings-missed e.swung c.if-change.false) in
+          link_missed f _ (g.met.L.Links.allowed _ _ e.pass) e.swung.slots (missed_fresh e.swung c.if-change.false) missed;
+      pass = c.change.ensures.pass;
+      later = goes_on _ _ _ c.value-at.ensures.later (goes_on _ _ _ c.fill.ensures.later c.change.ensures.later);
+    }

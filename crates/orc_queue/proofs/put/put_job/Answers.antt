@@ -29,13 +29,6 @@ pub returns-in-Full-clause-answered : goal.returns-in-Full-clause-answered
 returns-in-Full-clause-answered g c =
     put_full c.args.turns c.requires.idle c.in-Ok.ensures.given c.if-turns-eq0.false c.release.ensures.released c.in-Full.ensures.put
 
-pub returns-in-Over-clause-answered : goal.returns-in-Over-clause-answered
-returns-in-Over-clause-answered g c =
-    put_tired c.args.turns c.requires.idle c.in-Ok.ensures.given c.if-turns-eq0.false c.release.ensures.released c.in-Over.ensures.put
-
-pub returns-in-Over-clause-lacking : goal.returns-in-Over-clause-lacking
-returns-in-Over-clause-lacking g c = λ is. absurd (again_lacks is)
-
 pub put_turns-turn-requires-clause-pass : goal.put_turns-turn-requires-clause-pass
 put_turns-turn-requires-clause-pass g c = c.in-Ok.ensures.pass
 
@@ -60,8 +53,11 @@ returns-in-Full-clause-pass g c = c.release.ensures.pass
 pub returns-in-Full-clause-later : goal.returns-in-Full-clause-later
 returns-in-Full-clause-later g c = goes_on _ _ _ c.in-Ok.ensures.later (goes_on _ _ _ c.put_turns-turn.ensures.later c.release.ensures.later)
 
-pub returns-in-Over-clause-pass : goal.returns-in-Over-clause-pass
-returns-in-Over-clause-pass g c = c.release.ensures.pass
-
-pub returns-in-Over-clause-later : goal.returns-in-Over-clause-later
-returns-in-Over-clause-later g c = goes_on _ _ _ c.in-Ok.ensures.later (goes_on _ _ _ c.put_turns-turn.ensures.later c.release.ensures.later)
+pub returns-in-Over : goal.returns-in-Over
+returns-in-Over g c =
+    record {
+      answered = put_tired c.args.turns c.requires.idle c.in-Ok.ensures.given c.if-turns-eq0.false c.release.ensures.released c.in-Over.ensures.put;
+      lacking = λ is. absurd (again_lacks is);
+      pass = c.release.ensures.pass;
+      later = goes_on _ _ _ c.in-Ok.ensures.later (goes_on _ _ _ c.put_turns-turn.ensures.later c.release.ensures.later);
+    }

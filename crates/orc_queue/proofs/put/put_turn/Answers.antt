@@ -14,38 +14,35 @@ put_behind-turn-requires-clause-node g c = root_fresh c.in-Some.ensures.looked c
 pub put_behind-turn-requires-clause-slot : goal.put_behind-turn-requires-clause-slot
 put_behind-turn-requires-clause-slot g c = found_free c.in-Some.ensures.looked.node 3 (λ k. omega (arith, k)) c.requires.slots.1
 
-pub release-requires-clause-held : goal.release-requires-clause-held
-release-requires-clause-held g c =
-    let tail = id_in (g.L.Links.seat _ c.hold_root.new.p).slots c.in-Some.tail in
-    let turn = c.put_behind-turn.result in
-    found_kept c.in-Some.ensures.looked.node (behind_piece _ c.args.job tail c.args.node.now _ _ turn c.put_behind-turn.ensures.put).slots
-
-pub returns-in-Some-clause-put : goal.returns-in-Some-clause-put
-returns-in-Some-clause-put g c =
-    let d = c.args.links.now in
-    let e = c.put_behind-turn.ensures in
-    let kb = pass_known g.L.Links g.met.L.Links.opens g.met.L.Links.allowed g.met.L.Links.obeys d c.put_behind-turn.new.p c.requires.made e.pass in
-    turn_found c.args.job c.args.node.now c.in-Some.ensures.looked kb (g.met.L.Links.allowed d c.release.new.p c.release.ensures.pass)
-    c.requires.node.held (λ i is. g.met.L.Links.fresh_is d c.put_behind-turn.new.p i e.pass is) c.release.ensures.released
-    c.put_behind-turn.result e.put
-
-pub returns-in-None-clause-put : goal.returns-in-None-clause-put
-returns-in-None-clause-put g c = turn_moved c.args.job c.args.node.now c.in-None.ensures.looked c.requires.node
-
 pub put_behind-turn-requires-clause-pass : goal.put_behind-turn-requires-clause-pass
 put_behind-turn-requires-clause-pass g c = c.in-Some.ensures.pass
 
-pub release-requires-clause-pass : goal.release-requires-clause-pass
-release-requires-clause-pass g c = c.put_behind-turn.ensures.pass
+pub release-requires : goal.release-requires
+release-requires g c =
+    record {
+      held = let tail = id_in (g.L.Links.seat _ c.hold_root.new.p).slots c.in-Some.tail in
+          let turn = c.put_behind-turn.result in
+          found_kept c.in-Some.ensures.looked.node (behind_piece _ c.args.job tail c.args.node.now _ _ turn c.put_behind-turn.ensures.put).slots;
+      pass = c.put_behind-turn.ensures.pass;
+    }
 
-pub returns-in-Some-clause-pass : goal.returns-in-Some-clause-pass
-returns-in-Some-clause-pass g c = c.release.ensures.pass
+pub returns-in-Some : goal.returns-in-Some
+returns-in-Some g c =
+    record {
+      put = let d = c.args.links.now in
+          let e = c.put_behind-turn.ensures in
+          let kb = pass_known g.L.Links g.met.L.Links.opens g.met.L.Links.allowed g.met.L.Links.obeys d c.put_behind-turn.new.p c.requires.made e.pass in
+          turn_found c.args.job c.args.node.now c.in-Some.ensures.looked kb (g.met.L.Links.allowed d c.release.new.p c.release.ensures.pass)
+          c.requires.node.held (λ i is. g.met.L.Links.fresh_is d c.put_behind-turn.new.p i e.pass is) c.release.ensures.released
+          c.put_behind-turn.result e.put;
+      pass = c.release.ensures.pass;
+      later = goes_on _ _ _ c.in-Some.ensures.later (goes_on _ _ _ c.put_behind-turn.ensures.later c.release.ensures.later);
+    }
 
-pub returns-in-Some-clause-later : goal.returns-in-Some-clause-later
-returns-in-Some-clause-later g c = goes_on _ _ _ c.in-Some.ensures.later (goes_on _ _ _ c.put_behind-turn.ensures.later c.release.ensures.later)
-
-pub returns-in-None-clause-pass : goal.returns-in-None-clause-pass
-returns-in-None-clause-pass g c = c.in-None.ensures.pass
-
-pub returns-in-None-clause-later : goal.returns-in-None-clause-later
-returns-in-None-clause-later g c = c.in-None.ensures.later
+pub returns-in-None : goal.returns-in-None
+returns-in-None g c =
+    record {
+      put = turn_moved c.args.job c.args.node.now c.in-None.ensures.looked c.requires.node;
+      pass = c.in-None.ensures.pass;
+      later = c.in-None.ensures.later;
+    }

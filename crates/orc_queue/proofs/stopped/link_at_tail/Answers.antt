@@ -24,53 +24,10 @@ kept g c =
 pub link_node-turn-requires-clause-node : goal.link_node-turn-requires-clause-node
 link_node-turn-requires-clause-node g c = root_fresh c.in-Some.ensures.looked c.args.job c.args.node.now c.requires.node
 
-pub release-requires-clause-held : goal.release-requires-clause-held
-release-requires-clause-held g c =
-    let at = goal.at.release-requires-clause-held g c in
-    found_kept c.in-Some.ensures.looked.node (kept g at.After-link_node-turn).stops.piece.slots
-
-pub returns-in-Some-clause-stopped : goal.returns-in-Some-clause-stopped
-returns-in-Some-clause-stopped g c =
-    let at = goal.at.returns-in-Some-clause-stopped g c in
-    let f = c.in-Some.ensures.looked in
-    let k = (kept g at.After-link_node-turn).stops in
-    let q = puts_released _ _ _ k.piece.own k.piece.puts c.release.ensures.released.puts in
-    record {
-      piece = record {
-        own = _;
-        slots = found_released f.node k.piece.slots c.release.ensures.released;
-        puts = Puts-trans _ _ _ _ k.piece.own f.puts q;
-        entries_are = k.piece.entries_are ∙ ap (λ (x : ℕ). stop_entries x c.args.job c.link_node-turn.result) f.puts.agent;
-        no_give = omega (arith, k.piece.no_give);
-        few = omega (arith, k.piece.few);
-      };
-      keeps = k.keeps;
-    }
-
-pub returns-in-Some-clause-fresh : goal.returns-in-Some-clause-fresh
-returns-in-Some-clause-fresh g c =
-    let at = goal.at.returns-in-Some-clause-fresh g c in
-    let node = c.in-Some.ensures.looked.node in
-    let k = kept g at.After-link_node-turn in
-    let d = c.args.links.now in
-    let e = c.link_node-turn.ensures in
-    let all = g.met.L.Links.allowed _ _ e.pass in
-    let linked = linked_puts _ _ _ k.stops.piece.own k.stops.piece.puts all node.id node.linked in
-    let fresh = found_fresh node k.stops.piece.slots (λ i is. g.met.L.Links.fresh_is d c.link_node-turn.new.p i e.pass is) linked c.release.ensures.released in
-    elim k.fresh [ inl is ↦ inl (fresh ∙ (is ∙ c.in-Some.ensures.looked.fresh)) | inr is ↦ inr (fresh ∙ is) ]
-
 pub returns-in-None-clause-stopped : goal.returns-in-None-clause-stopped
 returns-in-None-clause-stopped g c =
     let f = c.in-None.ensures.looked in
     record { piece = record { own = _; slots = f.slots; puts = f.puts; entries_are = refl; no_give = refl; few = omega arith }; keeps = refl }
-
-pub returns-in-Some-clause-missed : goal.returns-in-Some-clause-missed
-returns-in-Some-clause-missed g c = λ other.
-    let at = goal.at.returns-in-Some-clause-missed g c in
-    let f = c.in-Some.ensures.looked in
-    let p = (kept g at.After-link_node-turn).stops.piece in
-    full_over _ _ _ _ _ _ p.own f.puts p.puts c.release.ensures.released.puts f.before f.after.all refl
-    (λ alone. link_full _ c.args.job _ c.args.node.now _ _ c.link_node-turn.result c.link_node-turn.ensures.linked other (root_still f alone))
 
 pub returns-in-None-clause-missed : goal.returns-in-None-clause-missed
 returns-in-None-clause-missed g c = λ other. moved_full c.in-None.ensures.looked
@@ -78,14 +35,50 @@ returns-in-None-clause-missed g c = λ other. moved_full c.in-None.ensures.looke
 pub link_node-turn-requires-clause-pass : goal.link_node-turn-requires-clause-pass
 link_node-turn-requires-clause-pass g c = c.in-Some.ensures.pass
 
-pub release-requires-clause-pass : goal.release-requires-clause-pass
-release-requires-clause-pass g c = c.link_node-turn.ensures.pass
+pub release-requires : goal.release-requires
+release-requires g c =
+    record {
+      held = let at = goal.at.release-requires g c in
+          found_kept c.in-Some.ensures.looked.node (kept g at.After-link_node-turn).stops.piece.slots;
+      pass = c.link_node-turn.ensures.pass;
+    }
 
-pub returns-in-Some-clause-pass : goal.returns-in-Some-clause-pass
-returns-in-Some-clause-pass g c = c.release.ensures.pass
-
-pub returns-in-Some-clause-later : goal.returns-in-Some-clause-later
-returns-in-Some-clause-later g c = goes_on _ _ _ c.in-Some.ensures.later (goes_on _ _ _ c.link_node-turn.ensures.later c.release.ensures.later)
+pub returns-in-Some : goal.returns-in-Some
+returns-in-Some g c =
+    record {
+      stopped = let at = goal.at.returns-in-Some g c in
+          let f = c.in-Some.ensures.looked in
+          let k = (kept g at.After-link_node-turn).stops in
+          let q = puts_released _ _ _ k.piece.own k.piece.puts c.release.ensures.released.puts in
+          record {
+            piece = record {
+              own = _;
+              slots = found_released f.node k.piece.slots c.release.ensures.released;
+              puts = Puts-trans _ _ _ _ k.piece.own f.puts q;
+              entries_are = k.piece.entries_are ∙ ap (λ (x : ℕ). stop_entries x c.args.job c.link_node-turn.result) f.puts.agent;
+              no_give = omega (arith, k.piece.no_give);
+              few = omega (arith, k.piece.few);
+            };
+            keeps = k.keeps;
+          };
+      fresh = let at = goal.at.returns-in-Some g c in
+          let node = c.in-Some.ensures.looked.node in
+          let k = kept g at.After-link_node-turn in
+          let d = c.args.links.now in
+          let e = c.link_node-turn.ensures in
+          let all = g.met.L.Links.allowed _ _ e.pass in
+          let linked = linked_puts _ _ _ k.stops.piece.own k.stops.piece.puts all node.id node.linked in
+          let fresh = found_fresh node k.stops.piece.slots (λ i is. g.met.L.Links.fresh_is d c.link_node-turn.new.p i e.pass is) linked c.release.ensures.released in
+          elim k.fresh [ inl is ↦ inl (fresh ∙ (is ∙ c.in-Some.ensures.looked.fresh)) | inr is ↦ inr (fresh ∙ is) ];
+      missed = λ other.
+          let at = goal.at.returns-in-Some g c in
+          let f = c.in-Some.ensures.looked in
+          let p = (kept g at.After-link_node-turn).stops.piece in
+          full_over _ _ _ _ _ _ p.own f.puts p.puts c.release.ensures.released.puts f.before f.after.all refl
+          (λ alone. link_full _ c.args.job _ c.args.node.now _ _ c.link_node-turn.result c.link_node-turn.ensures.linked other (root_still f alone));
+      pass = c.release.ensures.pass;
+      later = goes_on _ _ _ c.in-Some.ensures.later (goes_on _ _ _ c.link_node-turn.ensures.later c.release.ensures.later);
+    }
 
 pub returns-in-None-clause-pass : goal.returns-in-None-clause-pass
 returns-in-None-clause-pass g c = c.in-None.ensures.pass

@@ -22,26 +22,6 @@ same-requires-clause-allowed g c =
     rw c.agent-agent.ensures
     (empty_allowed _ a.agent (id_in a.slots c.args.head.now) a.seen f.after.holds f.after.dummy.begun (null_named _ _ a 0 c.args.head.now f c.requires.named))
 
-pub returns-then-same-clause-took : goal.returns-then-same-clause-took
-returns-then-same-clause-took g c =
-    let f = c.in-Nothing.ensures.looked in
-    let d = c.args.links.now in
-    behind_empty (g.L.Links.numbers d) _ _ (g.L.Links.seat d c.hold_next.new.p) (g.L.Links.seat d c.same.new.p) c.requires.named.linked f.puts f.after.all
-    f.slots f.fresh (end_empty _ _ c.args.head c.agent-agent.result c.same.result c.agent-agent.ensures c.same.ensures.tested c.if-same.true)
-
-pub returns-else-same-clause-took : goal.returns-else-same-clause-took
-returns-else-same-clause-took g c =
-    let f = c.in-Nothing.ensures.looked in
-    let e = c.same.ensures in
-    let d = c.args.links.now in
-    let n = g.L.Links.numbers d in
-    let a = g.L.Links.seat d c.hold_next.new.p in
-    let t = g.L.Links.seat d c.same.new.p in
-    let linked = (null_named _ _ a 0 c.args.head.now f c.requires.named).linked in
-    let lost = end_lost n a t c.args.head _ c.same.result linked (g.met.L.Links.allowed _ _ e.pass) e.tested c.if-same.false in
-    behind_lost n _ _ a t c.requires.named.linked f.puts f.after.all f.slots f.fresh
-    (subst (λ (z : Slots). HasStopped n 1 (Next (id_in z c.args.head.now)) null (λ own. ⊥) a t) f.slots lost)
-
 pub take_next-turn-requires : goal.take_next-turn-requires
 take_next-turn-requires g c =
     let f = c.in-Node.ensures.looked in
@@ -56,52 +36,65 @@ take_next-turn-requires g c =
       successor = next_link _ _ _ _ _ _ c.requires.held f;
     }
 
-pub release-requires-clause-held : goal.release-requires-clause-held
-release-requires-clause-held g c =
-    let a = g.L.Links.seat _ c.hold_next.new.p in
-    let next = id_in a.slots c.in-Node.next in
-    found_kept c.in-Node.ensures.looked.node
-    (next_piece _ (id_in a.slots c.args.head.now) next a _ c.take_next-turn.result c.take_next-turn.ensures.took).slots
-
-pub returns-in-Node-clause-took : goal.returns-in-Node-clause-took
-returns-in-Node-clause-took g c =
-    let d = c.args.links.now in
-    let a = g.L.Links.seat d c.hold_next.new.p in
-    let b = g.L.Links.seat d c.take_next-turn.new.p in
-    let e = c.take_next-turn.ensures in
-    let untouched = g.met.L.Links.fresh_is d in
-    next_turn (g.L.Links.numbers d) _ a b _ 2 c.args.head.now c.in-Node.next c.requires.held c.in-Node.ensures.looked (g.met.L.Links.allowed _ _ e.pass)
-    (λ i is. untouched c.take_next-turn.new.p i e.pass is) c.release.ensures.released c.take_next-turn.result e.took
-
-pub returns-in-Differs-clause-took : goal.returns-in-Differs-clause-took
-returns-in-Differs-clause-took g c = behind_differs _ c.in-Differs.ensures.looked c.requires.named.linked
-
 pub same-requires-clause-pass : goal.same-requires-clause-pass
 same-requires-clause-pass g c = c.in-Nothing.ensures.pass
 
-pub release-requires-clause-pass : goal.release-requires-clause-pass
-release-requires-clause-pass g c = c.take_next-turn.ensures.pass
+pub release-requires : goal.release-requires
+release-requires g c =
+    record {
+      held = let a = g.L.Links.seat _ c.hold_next.new.p in
+          let next = id_in a.slots c.in-Node.next in
+          found_kept c.in-Node.ensures.looked.node
+          (next_piece _ (id_in a.slots c.args.head.now) next a _ c.take_next-turn.result c.take_next-turn.ensures.took).slots;
+      pass = c.take_next-turn.ensures.pass;
+    }
 
-pub returns-then-same-clause-pass : goal.returns-then-same-clause-pass
-returns-then-same-clause-pass g c = c.same.ensures.pass
+pub returns-then-same : goal.returns-then-same
+returns-then-same g c =
+    record {
+      took = let f = c.in-Nothing.ensures.looked in
+          let d = c.args.links.now in
+          behind_empty (g.L.Links.numbers d) _ _ (g.L.Links.seat d c.hold_next.new.p) (g.L.Links.seat d c.same.new.p) c.requires.named.linked f.puts f.after.all
+          f.slots f.fresh (end_empty _ _ c.args.head c.agent-agent.result c.same.result c.agent-agent.ensures c.same.ensures.tested c.if-same.true);
+      pass = c.same.ensures.pass;
+      later = goes_on _ _ _ c.in-Nothing.ensures.later c.same.ensures.later;
+    }
 
-pub returns-then-same-clause-later : goal.returns-then-same-clause-later
-returns-then-same-clause-later g c = goes_on _ _ _ c.in-Nothing.ensures.later c.same.ensures.later
+pub returns-else-same : goal.returns-else-same
+returns-else-same g c =
+    record {
+      took = let f = c.in-Nothing.ensures.looked in
+          let e = c.same.ensures in
+          let d = c.args.links.now in
+          let n = g.L.Links.numbers d in
+          let a = g.L.Links.seat d c.hold_next.new.p in
+          let t = g.L.Links.seat d c.same.new.p in
+          let linked = (null_named _ _ a 0 c.args.head.now f c.requires.named).linked in
+          let lost = end_lost n a t c.args.head _ c.same.result linked (g.met.L.Links.allowed _ _ e.pass) e.tested c.if-same.false in
+          behind_lost n _ _ a t c.requires.named.linked f.puts f.after.all f.slots f.fresh
+          (subst (λ (z : Slots). HasStopped n 1 (Next (id_in z c.args.head.now)) null (λ own. ⊥) a t) f.slots lost);
+      pass = c.same.ensures.pass;
+      later = goes_on _ _ _ c.in-Nothing.ensures.later c.same.ensures.later;
+    }
 
-pub returns-else-same-clause-pass : goal.returns-else-same-clause-pass
-returns-else-same-clause-pass g c = c.same.ensures.pass
+pub returns-in-Node : goal.returns-in-Node
+returns-in-Node g c =
+    record {
+      took = let d = c.args.links.now in
+          let a = g.L.Links.seat d c.hold_next.new.p in
+          let b = g.L.Links.seat d c.take_next-turn.new.p in
+          let e = c.take_next-turn.ensures in
+          let untouched = g.met.L.Links.fresh_is d in
+          next_turn (g.L.Links.numbers d) _ a b _ 2 c.args.head.now c.in-Node.next c.requires.held c.in-Node.ensures.looked (g.met.L.Links.allowed _ _ e.pass)
+          (λ i is. untouched c.take_next-turn.new.p i e.pass is) c.release.ensures.released c.take_next-turn.result e.took;
+      pass = c.release.ensures.pass;
+      later = goes_on _ _ _ c.in-Node.ensures.later (goes_on _ _ _ c.take_next-turn.ensures.later c.release.ensures.later);
+    }
 
-pub returns-else-same-clause-later : goal.returns-else-same-clause-later
-returns-else-same-clause-later g c = goes_on _ _ _ c.in-Nothing.ensures.later c.same.ensures.later
-
-pub returns-in-Node-clause-pass : goal.returns-in-Node-clause-pass
-returns-in-Node-clause-pass g c = c.release.ensures.pass
-
-pub returns-in-Node-clause-later : goal.returns-in-Node-clause-later
-returns-in-Node-clause-later g c = goes_on _ _ _ c.in-Node.ensures.later (goes_on _ _ _ c.take_next-turn.ensures.later c.release.ensures.later)
-
-pub returns-in-Differs-clause-pass : goal.returns-in-Differs-clause-pass
-returns-in-Differs-clause-pass g c = c.in-Differs.ensures.pass
-
-pub returns-in-Differs-clause-later : goal.returns-in-Differs-clause-later
-returns-in-Differs-clause-later g c = c.in-Differs.ensures.later
+pub returns-in-Differs : goal.returns-in-Differs
+returns-in-Differs g c =
+    record {
+      took = behind_differs _ c.in-Differs.ensures.looked c.requires.named.linked;
+      pass = c.in-Differs.ensures.pass;
+      later = c.in-Differs.ensures.later;
+    }

@@ -30,16 +30,6 @@ help_tail-requires-clause-successor g c =
     held_link_puts _ _ _ _ (Tests-found e.tested c.if-same.true) (g.met.L.Links.allowed _ _ e.pass) c.args.head.now
     c.args.next.now e.tested.slots c.requires.successor
 
-pub returns-then-same-clause-took : goal.returns-then-same-clause-took
-returns-then-same-clause-took g c =
-    let a = g.L.Links.seat _ c.same.new.p in
-    let b = g.L.Links.seat _ c.help_tail.new.p in
-    let e = c.same.ensures in
-    let h = c.help_tail.ensures in
-    let helped = subst (λ (z : Slots). Helps (id_in z c.args.head.now) (id_in z c.args.next.now) a b) e.tested.slots h.helped in
-    past_helped _ _ _ _ _ _ a b (Tests-found e.tested c.if-same.true) (g.met.L.Links.allowed _ _ e.pass)
-    (g.met.L.Links.allowed _ _ h.pass) e.tested.slots e.tested.fresh helped
-
 -- the tail has left the head, and the head still leads to the successor
 past : (g : Over) (c : After-value-at g) → let d = c.args.links.now in let a = g.L.Links.seat d c.same.new.p in let n = g.L.Links.numbers d in
     IsLeftBehind (heap_of n a) (id_in a.slots c.args.head.now)
@@ -84,40 +74,6 @@ change-requires g c =
           (past g at).1;
     }
 
-pub returns-then-change-clause-took : goal.returns-then-change-clause-took
-returns-then-change-clause-took g c =
-    let r = read g (goal.at.returns-then-change-clause-took g c).After-value-at in
-    let d = c.args.links.now in
-    let n = g.L.Links.numbers d in
-    let s = g.L.Links.seat d c.args.p.now in
-    let a = g.L.Links.seat d c.same.new.p in
-    let b = g.L.Links.seat d c.value-at.new.p in
-    let t = g.L.Links.seat d c.change.new.p in
-    let next = c.args.next in
-    let e = c.change.ensures in
-    let test = c.same.ensures in
-    let linked = subst (λ (i : ℕ). IsLinkedNode (heap_of n b) i) (sym (ap (λ (z : Slots). id_in z next.now) r.nothing.slots))
-    (job_linked (heap_of n b) (id_in a.slots next.now) r.job _ r.holds) in
-    let took = head_swung n a b t c.args.head next c.agent-agent.result c.value-job.result _ c.change.result c.agent-agent.ensures r.nothing
-    (g.met.L.Links.allowed _ _ e.pass) e.swung c.if-change.true
-    (linked_not_fresh n b (id_in b.slots next.now) (λ i is. g.met.L.Links.fresh_is d c.value-at.new.p i c.value-at.ensures.pass is) linked) in
-    past_taken n (id_in s.slots c.args.head.now) (id_in s.slots next.now) s a t _ (Tests-missed test.tested c.if-same.false).puts
-    (g.met.L.Links.allowed _ _ test.pass) test.tested.slots test.tested.fresh refl refl refl (omega arith) (TakeDone _ _) took
-
-pub returns-else-change-clause-took : goal.returns-else-change-clause-took
-returns-else-change-clause-took g c =
-    let r = read g (goal.at.returns-else-change-clause-took g c).After-value-at in
-    let n = g.L.Links.numbers _ in
-    let s = g.L.Links.seat _ c.args.p.now in
-    let a = g.L.Links.seat _ c.same.new.p in
-    let t = g.L.Links.seat _ c.change.new.p in
-    let e = c.change.ensures in
-    let test = c.same.ensures in
-    let lost = head_missed n a _ t c.args.head c.args.next _ c.change.result r.nothing (g.met.L.Links.allowed _ _ e.pass) e.swung c.if-change.false in
-    past_taken n (id_in s.slots c.args.head.now) (id_in s.slots c.args.next.now) s a t _ (Tests-missed test.tested c.if-same.false).puts
-    (g.met.L.Links.allowed _ _ test.pass) test.tested.slots test.tested.fresh refl refl refl (omega arith) TakeOver
-    (subst (λ (z : Slots). TakesFrom n (id_in z c.args.head.now) a TakeOver t) test.tested.slots lost)
-
 pub help_tail-requires-clause-pass : goal.help_tail-requires-clause-pass
 help_tail-requires-clause-pass g c = c.same.ensures.pass
 
@@ -127,22 +83,58 @@ value-job-requires-clause-pass g c = c.same.ensures.pass
 pub value-at-requires-clause-pass : goal.value-at-requires-clause-pass
 value-at-requires-clause-pass g c = c.value-job.ensures.pass
 
-pub returns-then-same-clause-pass : goal.returns-then-same-clause-pass
-returns-then-same-clause-pass g c = c.help_tail.ensures.pass
+pub returns-then-same : goal.returns-then-same
+returns-then-same g c =
+    record {
+      took = let a = g.L.Links.seat _ c.same.new.p in
+          let b = g.L.Links.seat _ c.help_tail.new.p in
+          let e = c.same.ensures in
+          let h = c.help_tail.ensures in
+          let helped = subst (λ (z : Slots). Helps (id_in z c.args.head.now) (id_in z c.args.next.now) a b) e.tested.slots h.helped in
+          past_helped _ _ _ _ _ _ a b (Tests-found e.tested c.if-same.true) (g.met.L.Links.allowed _ _ e.pass)
+          (g.met.L.Links.allowed _ _ h.pass) e.tested.slots e.tested.fresh helped;
+      pass = c.help_tail.ensures.pass;
+      later = goes_on _ _ _ c.same.ensures.later c.help_tail.ensures.later;
+    }
 
-pub returns-then-same-clause-later : goal.returns-then-same-clause-later
-returns-then-same-clause-later g c = goes_on _ _ _ c.same.ensures.later c.help_tail.ensures.later
+pub returns-then-change : goal.returns-then-change
+returns-then-change g c =
+    record {
+      took = let r = read g (goal.at.returns-then-change g c).After-value-at in
+          let d = c.args.links.now in
+          let n = g.L.Links.numbers d in
+          let s = g.L.Links.seat d c.args.p.now in
+          let a = g.L.Links.seat d c.same.new.p in
+          let b = g.L.Links.seat d c.value-at.new.p in
+          let t = g.L.Links.seat d c.change.new.p in
+          let next = c.args.next in
+          let e = c.change.ensures in
+          let test = c.same.ensures in
+          let linked = subst (λ (i : ℕ). IsLinkedNode (heap_of n b) i) (sym (ap (λ (z : Slots). id_in z next.now) r.nothing.slots))
+          (job_linked (heap_of n b) (id_in a.slots next.now) r.job _ r.holds) in
+          let took = head_swung n a b t c.args.head next c.agent-agent.result c.value-job.result _ c.change.result c.agent-agent.ensures r.nothing
+          (g.met.L.Links.allowed _ _ e.pass) e.swung c.if-change.true
+          (linked_not_fresh n b (id_in b.slots next.now) (λ i is. g.met.L.Links.fresh_is d c.value-at.new.p i c.value-at.ensures.pass is) linked) in
+          past_taken n (id_in s.slots c.args.head.now) (id_in s.slots next.now) s a t _ (Tests-missed test.tested c.if-same.false).puts
+          (g.met.L.Links.allowed _ _ test.pass) test.tested.slots test.tested.fresh refl refl refl (omega arith) (TakeDone _ _) took;
+      pass = c.change.ensures.pass;
+      later = goes_on _ _ _ c.same.ensures.later (goes_on _ _ _ c.value-job.ensures.later (goes_on _ _ _ c.value-at.ensures.later c.change.ensures.later));
+    }
 
-pub returns-then-change-clause-pass : goal.returns-then-change-clause-pass
-returns-then-change-clause-pass g c = c.change.ensures.pass
-
-pub returns-then-change-clause-later : goal.returns-then-change-clause-later
-returns-then-change-clause-later g c =
-    goes_on _ _ _ c.same.ensures.later (goes_on _ _ _ c.value-job.ensures.later (goes_on _ _ _ c.value-at.ensures.later c.change.ensures.later))
-
-pub returns-else-change-clause-pass : goal.returns-else-change-clause-pass
-returns-else-change-clause-pass g c = c.change.ensures.pass
-
-pub returns-else-change-clause-later : goal.returns-else-change-clause-later
-returns-else-change-clause-later g c =
-    goes_on _ _ _ c.same.ensures.later (goes_on _ _ _ c.value-job.ensures.later (goes_on _ _ _ c.value-at.ensures.later c.change.ensures.later))
+pub returns-else-change : goal.returns-else-change
+returns-else-change g c =
+    record {
+      took = let r = read g (goal.at.returns-else-change g c).After-value-at in
+          let n = g.L.Links.numbers _ in
+          let s = g.L.Links.seat _ c.args.p.now in
+          let a = g.L.Links.seat _ c.same.new.p in
+          let t = g.L.Links.seat _ c.change.new.p in
+          let e = c.change.ensures in
+          let test = c.same.ensures in
+          let lost = head_missed n a _ t c.args.head c.args.next _ c.change.result r.nothing (g.met.L.Links.allowed _ _ e.pass) e.swung c.if-change.false in
+          past_taken n (id_in s.slots c.args.head.now) (id_in s.slots c.args.next.now) s a t _ (Tests-missed test.tested c.if-same.false).puts
+          (g.met.L.Links.allowed _ _ test.pass) test.tested.slots test.tested.fresh refl refl refl (omega arith) TakeOver
+          (subst (λ (z : Slots). TakesFrom n (id_in z c.args.head.now) a TakeOver t) test.tested.slots lost);
+      pass = c.change.ensures.pass;
+      later = goes_on _ _ _ c.same.ensures.later (goes_on _ _ _ c.value-job.ensures.later (goes_on _ _ _ c.value-at.ensures.later c.change.ensures.later));
+    }
