@@ -170,78 +170,58 @@ impl Refused {
     }
 }
 
-static KINDS: [&str; 6] = ["queue", "list", "set", "split", "cell", "sorted"];
+// What an option takes: one of these words, a number from the second to the third, and without it the first, or nothing.
+#[derive(Clone, Copy)]
+enum Takes {
+    OneOf(&'static [&'static str]),
+    Number(&'static str, u32, u32),
+    Nothing,
+}
 
-static DOMAINS: [&str; 2] = ["plain", "reclaiming"];
-
-static MIXES: [&str; 4] = ["pairs", "apart", "90/5/5", "34/33/33"];
-
-static STOPS: [&str; 4] = ["first", "tail", "marked", "staged"];
-
-// The options with a number: the word, the number without it, the least and the greatest.
-const NUMBERS: [(&str, &str, u32, u32); 8] = [
-    ("agents", "1", 1, 16),
-    ("rows", "65535", 2, 65535),
-    ("roots", "16", 1, 257),
-    ("keys", "1000", 1, 1000000),
-    ("threads", "4", 1, 16),
-    ("calls", "60000", 0, 4294967295),
-    ("turns", "64", 1, 65535),
-    ("seed", "1", 1, 4294967295),
+// The options.
+const OPTIONS: [(&str, Takes); 15] = [
+    (
+        "container",
+        Takes::OneOf(&["queue", "list", "set", "split", "cell", "sorted"]),
+    ),
+    ("domain", Takes::OneOf(&["plain", "reclaiming"])),
+    (
+        "mix",
+        Takes::OneOf(&["pairs", "apart", "90/5/5", "34/33/33"]),
+    ),
+    ("stop", Takes::OneOf(&["first", "tail", "marked", "staged"])),
+    ("agents", Takes::Number("1", 1, 16)),
+    ("rows", Takes::Number("65535", 2, 65535)),
+    ("roots", Takes::Number("16", 1, 257)),
+    ("keys", Takes::Number("1000", 1, 1000000)),
+    ("threads", Takes::Number("4", 1, 16)),
+    ("calls", Takes::Number("60000", 0, 4294967295)),
+    ("turns", Takes::Number("64", 1, 65535)),
+    ("seed", Takes::Number("1", 1, 4294967295)),
+    ("stall", Takes::Nothing),
+    ("whole", Takes::Nothing),
+    ("untimed", Takes::Nothing),
 ];
 
-const FLAGS: [&str; 3] = ["stall", "whole", "untimed"];
-
-// Adds an option with one of several words.
-fn with_choice<'a>(
-    alloc: Global,
-    command: Command<'a>,
-    id: &'a str,
-    names: &'a [&'a str],
-) -> Result<Command<'a>, AllocError> {
+// An option that takes this.
+fn option<'a>(alloc: Global, id: &'a str, takes: Takes) -> Arg<'a> {
     let option = Arg::new(alloc, id).long(id);
-    command.arg(option.value_parser(ValueParser::Names(names)))
-}
-
-// Adds the options that name what is driven and where an agent is stopped.
-fn with_choices<'a>(alloc: Global, command: Command<'a>) -> Result<Command<'a>, AllocError> {
-    let command = with_choice(alloc, command, "container", KINDS.as_slice())?;
-    let command = with_choice(alloc, command, "domain", DOMAINS.as_slice())?;
-    let command = with_choice(alloc, command, "mix", MIXES.as_slice())?;
-    with_choice(alloc, command, "stop", STOPS.as_slice())
-}
-
-// An option with a number in a range.
-fn number_option<'a>(alloc: Global, id: &'a str, default: &'a str, low: u32, high: u32) -> Arg<'a> {
-    Arg::new(alloc, id)
-        .long(id)
-        .value_parser(ValueParser::Signed(low as i64, high as i64))
-        .default_value(default)
-}
-
-// Adds the options that say how large what is driven is, and how much is called.
-fn with_numbers<'a>(alloc: Global, mut command: Command<'a>) -> Result<Command<'a>, AllocError> {
-    for (id, default, low, high) in NUMBERS {
-        command = command.arg(number_option(alloc, id, default, low, high))?;
+    match takes {
+        Takes::OneOf(words) => option.value_parser(ValueParser::Names(words)),
+        Takes::Number(default, low, high) => option
+            .value_parser(ValueParser::Signed(low as i64, high as i64))
+            .default_value(default),
+        Takes::Nothing => option.action(ArgAction::SetTrue),
     }
-    Ok(command)
-}
-
-// Adds the options without a value.
-fn with_flags<'a>(alloc: Global, mut command: Command<'a>) -> Result<Command<'a>, AllocError> {
-    for id in FLAGS {
-        let option = Arg::new(alloc, id).long(id);
-        command = command.arg(option.action(ArgAction::SetTrue))?;
-    }
-    Ok(command)
 }
 
 // The command with its options.
 fn command<'a>(alloc: Global) -> Result<Command<'a>, AllocError> {
-    let command = Command::new(alloc, "stress").no_binary_name(true);
-    let command = with_choices(alloc, command)?;
-    let command = with_numbers(alloc, command)?;
-    with_flags(alloc, command)
+    let mut command = Command::new(alloc, "stress").no_binary_name(true);
+    for (id, takes) in OPTIONS {
+        command = command.arg(option(alloc, id, takes))?;
+    }
+    Ok(command)
 }
 
 // The number of an option.
