@@ -1,5 +1,5 @@
 -- Passes that stay ready.
-use Rattle.std.proofs.Common.{List, [], ap, ap₂, arith, length, refl, subst, sym, zero, suc, ℕ, ◌+◌, ◌++◌, ◌<◌, ◌∙◌, ◌∷◌, ◌≡◌}
+use Rattle.std.proofs.Common.{List, [], ap, ap₂, append-nil, arith, length, refl, subst, sym, zero, suc, ℕ, ◌+◌, ◌++◌, ◌<◌, ◌∙◌, ◌∷◌, ◌≡◌}
 use Rattle.std.proofs.lemmas.Bool.{ltb-false, ltb-true}
 use Rattle.std.specs.Prelude.{All, Bool, false, if◌then◌else◌, nat_lt, slice_index_or, true, ◌*◌, ◌-◌, ◌≤◌}
 use Rattle.std.specs.List.{AllByRecursion}
@@ -17,6 +17,10 @@ all_front P (y ∷ ys) x h = (h.0, all_front P ys x h.1)
 pub all_last : {X : Type 0} (P : X → Type 0) (xs : List X) (x : X) → AllByRecursion P (xs ++ x ∷ []) → P x
 all_last P [] x h = h.0
 all_last P (y ∷ ys) x h = all_last P ys x h.1
+
+-- what holds of all holds of the one that stood last
+pub last_of : {X : Type 0} (P : X → Type 0) (all front : List X) (x : X) → AllByRecursion P all → all ≡ front ++ x ∷ [] → P x
+last_of P all front x h is = all_last P front x (subst (AllByRecursion P) is h)
 
 -- the calls of one agent are few
 picked_few : (works : Bool) (calls most : ℕ) → calls ≤ most → (if works then calls else 0) ≤ most
@@ -120,6 +124,10 @@ module _ {P : Type 0} (ready : P → Type 0) (agent : P → ℕ) where
   -- passes that nobody used
   pub each_stays : (xs : List P) → AllByRecursion ready xs → Stay ready agent xs xs
   each_stays xs h = record { all = all_same xs h }
+
+  -- of passes none was taken
+  pub none_stays : (old new : List P) → AllByRecursion ready old → old ≡ new ++ [] → Stay ready agent old new
+  none_stays old new h is = subst (λ (xs : List P). Stay ready agent old xs) (is ∙ append-nil new) (each_stays old h)
 
   -- the last one was used
   pub last_stays : (old new ws : List P) (x y : P) → AllByRecursion ready old → old ≡ ws ++ x ∷ [] → new ≡ ws ++ y ∷ [] → Stays ready agent x y

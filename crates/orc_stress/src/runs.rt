@@ -191,7 +191,6 @@ fn see_pairs<C: Container>(container: &C, p: &mut C::Pass, pairs: &PairLog) -> R
 }
 
 // Puts in what is there at the beginning, with the last pass.
-#[tactic(auto, using(crate::proofs::Staying::last_stays, crate::proofs::Staying::each_stays))]
 fn begin<C: Container>(container: &C, passes: &mut Vec<C::Pass>, plan: &Plan) -> Items
     requires ready { AllByRecursion (C.ready container.now) passes.old.items }
     ensures stay { Stay (C.ready container.now) (C.agent_of container.now) passes.old.items passes.new.items }
@@ -211,7 +210,6 @@ fn begin<C: Container>(container: &C, passes: &mut Vec<C::Pass>, plan: &Plan) ->
 }
 
 // Looks at what is left, with the last pass.
-#[tactic(auto, using(crate::proofs::Staying::last_stays, crate::proofs::Staying::each_stays))]
 fn finish<C: Container>(
     container: &C,
     passes: &mut Vec<C::Pass>,
@@ -244,7 +242,6 @@ fn finish<C: Container>(
 /// # Errors
 ///
 /// Where memory is refused, before the first call.
-#[tactic(auto, using(crate::proofs::Staying::stay_ready, crate::proofs::Staying::stay_twice, crate::proofs::Staying::stay_parts))]
 pub fn drive<R: Threads + Clock + Sync, C: Container + Sync>(
     rt: &R,
     alloc: Global,
