@@ -3,7 +3,7 @@
 use crate::load::Mix;
 use crate::runs::Driven;
 use crate::settings::{Domain, Kind, Settings};
-use crate::tally::Items;
+use crate::tally::{Answers, Items};
 use std::io;
 
 /// What a domain at rest counted.
@@ -56,6 +56,22 @@ fn print_speed<R: Print>(
     figure(rt, settings, "answers a second", answered, speed)
 }
 
+// How many calls these are.
+fn calls_in(answers: &Answers) -> u128 {
+    let mut calls = 0u128;
+    for count in [
+        answers.ok,
+        answers.empty,
+        answers.again,
+        answers.no_node,
+        answers.spent,
+        answers.positions,
+    ] {
+        calls = calls.wrapping_add(u128::from(count));
+    }
+    calls
+}
+
 /// Prints a run's figures, one a line: what was driven, of what, on how many threads, the number, and its share in percent. The
 /// share of calls a second is that of the calls that were answered; a take that found nothing isn't counted among those.
 pub fn print_figures<R: Print>(
@@ -65,30 +81,26 @@ pub fn print_figures<R: Print>(
     counts: &Counts,
 ) -> io::Result<()> {
     let answers = &driven.tally.answers;
-    let named = [
-        ("Ok", answers.ok),
-        ("found nothing", answers.empty),
-        ("Again", answers.again),
-        ("NoNode", answers.no_node),
-        ("Spent", answers.spent),
-        ("Positions", answers.positions),
-    ];
-    let mut calls = 0u128;
-    for (_, count) in named {
-        calls = calls.wrapping_add(u128::from(count));
-    }
+    let calls = calls_in(answers);
     if settings.times {
         print_speed(rt, settings, driven, calls)?;
     }
-    for (name, count) in named {
-        figure(rt, settings, name, u128::from(count), calls)?;
-    }
     let rows = u128::from(settings.rows);
-    let backlog = u128::from(driven.tally.backlog);
-    figure(rt, settings, "largest backlog", backlog, rows)?;
-    let bound = u128::from(settings.bound());
-    figure(rt, settings, "bound of the backlog", bound, rows)?;
-    figure(rt, settings, "nodes out", u128::from(counts.linked), rows)
+    let figures = [
+        ("Ok", answers.ok, calls),
+        ("found nothing", answers.empty, calls),
+        ("Again", answers.again, calls),
+        ("NoNode", answers.no_node, calls),
+        ("Spent", answers.spent, calls),
+        ("Positions", answers.positions, calls),
+        ("largest backlog", u64::from(driven.tally.backlog), rows),
+        ("bound of the backlog", u64::from(settings.bound()), rows),
+        ("nodes out", u64::from(counts.linked), rows),
+    ];
+    for (name, count, whole) in figures {
+        figure(rt, settings, name, u128::from(count), whole)?;
+    }
+    Ok(())
 }
 
 // What is wrong, in a line; answers whether nothing is.
@@ -114,18 +126,13 @@ fn rows_fit(settings: &Settings, driven: &Driven, counts: &Counts) -> bool {
     }
 }
 
-/// Prints what is wrong with a run, and answers whether nothing is.
-pub fn judge<R: Print>(
-    rt: &R,
-    settings: &Settings,
-    driven: &Driven,
-    counts: &Counts,
-) -> io::Result<bool> {
+// What has to hold of a run, each with what is said where it doesn't.
+fn demands(settings: &Settings, driven: &Driven, counts: &Counts) -> [(bool, &'static str); 11] {
     let tally = &driven.tally;
     let mut out = tally.taken;
     out.join(&driven.rest.items);
     let mix = settings.plan.load.mix;
-    let judged = [
+    [
         (
             out == tally.put,
             "what came out or is left isn't what went in",
@@ -170,9 +177,18 @@ pub fn judge<R: Print>(
             rows_fit(settings, driven, counts),
             "the rows that are out aren't those that what is left takes",
         ),
-    ];
+    ]
+}
+
+/// Prints what is wrong with a run, and answers whether nothing is.
+pub fn judge<R: Print>(
+    rt: &R,
+    settings: &Settings,
+    driven: &Driven,
+    counts: &Counts,
+) -> io::Result<bool> {
     let mut right = true;
-    for (holds, what) in judged {
+    for (holds, what) in demands(settings, driven, counts) {
         right = complain(rt, holds, what)? && right;
     }
     Ok(right)
