@@ -302,6 +302,17 @@ fn threads_of(matches: &ArgMatches<'_>, container: Kind) -> u32
     }
 }
 
+// The calls of each agent.
+fn load_in(matches: &ArgMatches<'_>, mix: Mix) -> Load {
+    Load {
+        mix,
+        calls: number_of(matches, "calls", 0, 4294967295),
+        keys: number_of(matches, "keys", 1, 1000000),
+        seed: number_of(matches, "seed", 1, 4294967295),
+        whole: matches.get_flag("whole"),
+    }
+}
+
 // The settings of these matches.
 fn settings_in(matches: &ArgMatches<'_>) -> Result<Settings, Refused> {
     let container = container_of(matches.get_str("container"));
@@ -317,13 +328,6 @@ fn settings_in(matches: &ArgMatches<'_>) -> Result<Settings, Refused> {
     if working > 16 {
         return Err(Refused::Agents);
     }
-    let load = Load {
-        mix,
-        calls: number_of(matches, "calls", 0, 4294967295),
-        keys: number_of(matches, "keys", 1, 1000000),
-        seed: number_of(matches, "seed", 1, 4294967295),
-        whole: matches.get_flag("whole"),
-    };
     Ok(Settings {
         container,
         domain,
@@ -337,7 +341,7 @@ fn settings_in(matches: &ArgMatches<'_>) -> Result<Settings, Refused> {
             threads,
             stalls,
             sweeps: domain == Domain::Reclaiming && container != Kind::Sorted,
-            load,
+            load: load_in(matches, mix),
         },
     })
 }
