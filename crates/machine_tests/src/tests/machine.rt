@@ -24,33 +24,116 @@ const NONE_OUT: Census = Census {
     linked: 0,
 };
 
+// A step of each kind that agent 0 may not make once it is enrolled.
+static REFUSED: [Op; 27] = [
+    Op::Enroll,
+    Op::GateLook { row: 2 },
+    Op::GateTake { row: 0 },
+    Op::Fill {
+        row: 0,
+        which: 0,
+        value: 1,
+    },
+    Op::Read { row: 0, which: 2 },
+    Op::LinkLoad {
+        place: Word::Next(0),
+        slot: None,
+    },
+    Op::LinkLoad {
+        place: ROOT_0,
+        slot: Some(8),
+    },
+    Op::LinkLoad {
+        place: Word::Gate(0),
+        slot: None,
+    },
+    Op::Publish { slot: 0, row: 0 },
+    Op::Clear { slot: 1 },
+    Op::Arm { row: 0 },
+    Op::LinkCas {
+        place: Word::Root(1),
+        from: NULL,
+        to: NULL,
+    },
+    Op::LinkStore {
+        row: 0,
+        number: 0,
+        link: NULL,
+    },
+    Op::Inc { row: 0 },
+    Op::Dec { row: 0 },
+    Op::SetRetired {
+        row: 0,
+        sequence: 0,
+    },
+    Op::CounterLoad {
+        row: u32::MAX,
+        how: CounterUse::Check,
+    },
+    Op::CounterLoad {
+        row: 0,
+        how: CounterUse::Start,
+    },
+    Op::CounterLoad {
+        row: 0,
+        how: CounterUse::End,
+    },
+    Op::Unretire { row: 0 },
+    Op::SlotLook { k: 16 },
+    Op::Hand { k: 0 },
+    Op::TakeIn { slot: 8 },
+    Op::Free { row: 0 },
+    Op::MoveOn { slot: 1, row: 0 },
+    Op::HandoverLook { slot: 8 },
+    Op::DecHeld { row: 0 },
+];
+
 // Row 0 is linked by agent 0, held by agent 1, unlinked, and found held by a scan of agent 0: 32 steps.
 fn found_held(rt: &impl Abort, alloc: Global) -> Result<State, Fail> {
     let shape = Shape::new(2, 1, 2, 8)?;
     let mut state = State::new(alloc, &shape)?;
-    let enrolled = (
-        step(&mut state, 0, Op::Enroll)?,
-        step(&mut state, 1, Op::Enroll)?,
-    );
-    assert_eq!(rt; enrolled, (0, 1));
-    link(&mut state, 0)?;
-    assert_eq!(rt; words_of_row_0(&state), (3, 20_971_521, 2));
-    assert_eq!(rt; record_of(&state, 0), (SlotUse::Held(0), None, None, None));
-    hold(&mut state, 0, 2)?;
-    unlink(&mut state, 0)?;
-    let_go(&mut state)?;
-    assert_eq!(rt; words_of_row_0(&state), (3, 46_137_344, 0));
-    assert_eq!(rt; record_of(&state, 0), (SlotUse::Empty, None, None, None));
-    start(&mut state, 0, 0)?;
-    look_at_slots(&mut state, 0, 0, 11)?;
+    hold_and_unlink(rt, &mut state)?;
+    find_held(rt, &mut state)?;
+    Ok(state)
+}
+
+// Row 0 is linked by agent 0, held by agent 1, and unlinked.
+fn hold_and_unlink(rt: &impl Abort, state: &mut State) -> Result<(), NotAllowed> {
+    check_steps(rt, state, &[(0, Op::Enroll, Ok(0)), (1, Op::Enroll, Ok(1))]);
+    link(state, 0)?;
+    check_row_0(rt, state, (3, 20_971_521, 2), SlotUse::Held(0));
+    hold(state, 0, 2)?;
+    unlink(state, 0)?;
+    let_go(state)?;
+    check_row_0(rt, state, (3, 46_137_344, 0), SlotUse::Empty);
+    Ok(())
+}
+
+// A scan of agent 0 finds row 0 held.
+fn find_held(rt: &impl Abort, state: &mut State) -> Result<(), NotAllowed> {
+    start(state, 0, 0)?;
+    look_at_slots(state, 0, 0, 11)?;
     let found = Scan {
         row: 0,
         word: 46_137_344,
         place: 10,
         found: true,
     };
-    assert_eq!(rt; scan_of(&state, 0), Some(found));
-    Ok(state)
+    assert_eq!(rt; scan_of(state, 0), Some(found));
+    Ok(())
+}
+
+// Steps of agents have these answers.
+fn check_steps(rt: &impl Abort, state: &mut State, steps: &[(u32, Op, Result<u64, NotAllowed>)]) {
+    for (agent, op, answer) in steps {
+        assert_eq!(rt; step(state, *agent, *op), *answer);
+    }
+}
+
+// Row 0 has these words, agent 0 uses its slot 1 so, and nothing else stands in its record.
+fn check_row_0(rt: &impl Abort, state: &State, words: (u64, u64, u64), slot: SlotUse) {
+    assert_eq!(rt; words_of_row_0(state), words);
+    assert_eq!(rt; record_of(state, 0), (slot, None, None, None));
 }
 
 // Row 0's gate and counter, and root 0.
@@ -107,29 +190,44 @@ fn first_of(state: &State, agent: u32) -> Option<u32> {
 #[test]
 fn handed_over_taken_in_and_freed(rt: HostRuntime) -> Result<(), Fail> {
     let mut state = found_held(&rt, rt.alloc())?;
-    assert_eq!(rt; step(&mut state, 0, Op::Hand { k: 10 })?, 0);
+    hand_over_and_take_in(&rt, &mut state);
+    scan_and_free(&mut state)?;
+    assert_eq!(rt; words_of_row_0(&state), (2, 37_748_736, 0));
+    assert_eq!(rt; census(&state), NONE_OUT);
+    Ok(())
+}
+
+// Row 0 is handed over by agent 0, and taken in by agent 1.
+fn hand_over_and_take_in(rt: &impl Abort, state: &mut State) {
+    check_steps(rt, state, &[(0, Op::Hand { k: 10 }, Ok(0))]);
     assert_eq!(rt;
-        (word_of(&state, Word::Handover(1, 2)), scan_of(&state, 0)),
+        (word_of(state, Word::Handover(1, 2)), scan_of(state, 0)),
         (1, None)
     );
-    assert_eq!(rt; step(&mut state, 1, Op::Clear { slot: 2 })?, 0);
-    assert_eq!(rt; step(&mut state, 1, Op::TakeIn { slot: 2 })?, 1);
+    check_steps(
+        rt,
+        state,
+        &[
+            (1, Op::Clear { slot: 2 }, Ok(0)),
+            (1, Op::TakeIn { slot: 2 }, Ok(1)),
+        ],
+    );
     let retired = Census {
         out: 1,
         retired: 1,
         listed: 1,
         ..NONE_OUT
     };
-    assert_eq!(rt; census(&state), retired);
-    assert_eq!(rt;
-        (entries_of(&state, 1, 0), entries_of(&state, 1, 1)),
-        (1, 0)
-    );
-    assert_eq!(rt; (first_of(&state, 0), first_of(&state, 1)), (None, Some(0)));
-    scan_and_free(&mut state)?;
-    assert_eq!(rt; words_of_row_0(&state), (2, 37_748_736, 0));
-    assert_eq!(rt; census(&state), NONE_OUT);
-    Ok(())
+    assert_eq!(rt; census(state), retired);
+    assert_eq!(rt; (entries_of(state, 1, 0), entries_of(state, 1, 1)), (1, 0));
+    assert_eq!(rt; (first_of(state, 0), first_of(state, 1)), (None, Some(0)));
+}
+
+// None of these steps of an agent is allowed.
+fn check_refused(rt: &impl Abort, state: &mut State, agent: u32, ops: &[Op]) {
+    for op in ops {
+        assert_eq!(rt; step(state, agent, *op), Err(NotAllowed));
+    }
 }
 
 #[test]
@@ -137,76 +235,9 @@ fn a_refused_step_of_each_kind(rt: HostRuntime) -> Result<(), Fail> {
     let shape = Shape::new(2, 1, 2, 8)?;
     let mut state = State::new(rt.alloc(), &shape)?;
     let _ = step(&mut state, 0, Op::Enroll)?;
-    let next_0 = Word::Next(0);
-    for op in [
-        Op::Enroll,
-        Op::GateLook { row: 2 },
-        Op::GateTake { row: 0 },
-        Op::Fill {
-            row: 0,
-            which: 0,
-            value: 1,
-        },
-        Op::Read { row: 0, which: 2 },
-        Op::LinkLoad {
-            place: next_0,
-            slot: None,
-        },
-        Op::LinkLoad {
-            place: ROOT_0,
-            slot: Some(8),
-        },
-        Op::LinkLoad {
-            place: Word::Gate(0),
-            slot: None,
-        },
-        Op::Publish { slot: 0, row: 0 },
-        Op::Clear { slot: 1 },
-        Op::Arm { row: 0 },
-        Op::LinkCas {
-            place: Word::Root(1),
-            from: NULL,
-            to: NULL,
-        },
-        Op::LinkStore {
-            row: 0,
-            number: 0,
-            link: NULL,
-        },
-        Op::Inc { row: 0 },
-        Op::Dec { row: 0 },
-        Op::SetRetired {
-            row: 0,
-            sequence: 0,
-        },
-        Op::CounterLoad {
-            row: u32::MAX,
-            how: CounterUse::Check,
-        },
-        Op::CounterLoad {
-            row: 0,
-            how: CounterUse::Start,
-        },
-        Op::CounterLoad {
-            row: 0,
-            how: CounterUse::End,
-        },
-        Op::Unretire { row: 0 },
-        Op::SlotLook { k: 16 },
-        Op::Hand { k: 0 },
-        Op::TakeIn { slot: 8 },
-        Op::Free { row: 0 },
-        Op::MoveOn { slot: 1, row: 0 },
-        Op::HandoverLook { slot: 8 },
-        Op::DecHeld { row: 0 },
-    ] {
-        assert_eq!(rt; step(&mut state, 0, op), Err(NotAllowed));
-    }
+    check_refused(&rt, &mut state, 0, REFUSED.as_slice());
     for agent in [1, 2] {
-        assert_eq!(rt;
-            step(&mut state, agent, Op::GateLook { row: 0 }),
-            Err(NotAllowed)
-        );
+        check_refused(&rt, &mut state, agent, &[Op::GateLook { row: 0 }]);
     }
     assert_eq!(rt; word_of(&state, ROOT_0), 0);
     Ok(())

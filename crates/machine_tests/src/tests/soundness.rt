@@ -52,30 +52,37 @@ fn row_0(rt: &impl Abort, state: &State) -> (u32, bool, u32, u32) {
     )
 }
 
+// Row 0 of a sound state has so many links and places, is held or not, and so long is the backlog.
+fn check_row_0(rt: &impl Abort, state: &State, wanted: (u32, bool, u32, u32)) {
+    assert_eq!(rt; row_0(rt, state), wanted);
+}
+
 #[test]
 fn a_row_is_linked_retired_handed_over_and_freed(rt: HostRuntime) -> Result<(), Fail> {
     let mut state = enrolled(&rt, rt.alloc(), 2, 1)?;
-    link(&mut state, 0)?;
-    assert_eq!(rt; row_0(&rt, &state), (1, true, 0, 0));
-    hold(&mut state, 0, 2)?;
-    unlink(&mut state, 0)?;
+    link_retire_and_free(&rt, &mut state)?;
+    Ok(())
+}
+
+// Row 0 is linked, retired, handed over, taken in and freed.
+fn link_retire_and_free(rt: &impl Abort, state: &mut State) -> Result<(), NotAllowed> {
+    link(state, 0)?;
+    check_row_0(rt, state, (1, true, 0, 0));
+    hold(state, 0, 2)?;
+    unlink(state, 0)?;
     // 16 steps: unlinked, held by both agents, in agent 0's work list
-    assert_eq!(rt; row_0(&rt, &state), (0, true, 1, 0));
-    hand_over(&mut state, 0, 10)?;
+    check_row_0(rt, state, (0, true, 1, 0));
+    hand_over(state, 0, 10)?;
     // 33 steps: in a handover word
-    assert_eq!(rt; row_0(&rt, &state), (0, true, 1, 1));
-    take_in(&mut state, 2)?;
+    check_row_0(rt, state, (0, true, 1, 1));
+    take_in(state, 2)?;
     // 35 steps: held by nobody, in agent 1's work list
-    assert_eq!(rt; row_0(&rt, &state), (0, false, 1, 0));
-    scan_and_free(&mut state)?;
+    check_row_0(rt, state, (0, false, 1, 0));
+    scan_and_free(state)?;
     // 56 steps
-    assert_eq!(rt; row_0(&rt, &state), (0, false, 0, 0));
+    check_row_0(rt, state, (0, false, 0, 0));
     assert_eq!(rt;
-        (
-            linked_of(&state, 1),
-            is_held(&state, 1),
-            tokens_of(&state, 1)
-        ),
+        (linked_of(state, 1), is_held(state, 1), tokens_of(state, 1)),
         (0, false, 0)
     );
     Ok(())

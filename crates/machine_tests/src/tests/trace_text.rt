@@ -11,7 +11,8 @@ ghost use Rattle.orc_trace_text.specs.{
 
 use orc_core::{CounterUse, Op};
 use orc_trace_text::*;
-use orc_words::{RowLink, Word};
+use orc_words::{RowLink, Shape, Word};
+use std::process::Abort;
 use std::test::Fail;
 
 // Places, links and steps.
@@ -65,9 +66,13 @@ fn words()
     ensures none { words_left None ≡ [] }
 {}
 
-// A link to this row, or to none.
-fn link_with_mark(to: Option<u32>, mark: bool) -> RowLink {
-    RowLink { to, mark }
+// The op of the first of these lines, a step of this agent, and the lines behind it.
+fn step_of<'a>(rt: &impl Abort, shape: &Shape, lines: &'a [u8], agent: u32) -> (Op, &'a [u8]) {
+    let Some((found, op, rest)) = first_step(shape, lines) else {
+        panic!(rt; "a step of agent {agent}")
+    };
+    assert_eq!(rt; found, agent);
+    (op, rest)
 }
 
 #[test]
@@ -77,33 +82,59 @@ fn a_trace_is_read_line_by_line(rt: HostRuntime) -> Result<(), Fail> {
         panic!(rt; "a shape line")
     };
     assert_eq!(rt; shape.agents(), 3);
-    let Some((0, Op::Enroll, rest)) = first_step(&shape, lines) else {
-        panic!(rt; "enroll")
-    };
-    let load = first_step(&shape, rest);
-    let Some((2, Op::LinkLoad { place, slot }, rest)) = load else {
-        panic!(rt; "load")
-    };
-    assert!(rt; matches!((place, slot), (Word::Side(1), Some(7))));
-    let cas = first_step(&shape, rest);
-    let Some((1, Op::LinkCas { place, from, to }, rest)) = cas else {
-        panic!(rt; "cas")
-    };
-    assert!(rt; matches!(place, Word::Root(0)));
-    assert_eq!(rt;
-        (from, to),
-        (link_with_mark(None, false), link_with_mark(Some(1), true))
+    let (op, rest) = step_of(&rt, &shape, lines, 0);
+    assert!(rt; matches!(op, Op::Enroll));
+    let (op, rest) = step_of(&rt, &shape, rest, 2);
+    assert!(rt;
+        matches!(
+            op,
+            Op::LinkLoad {
+                place: Word::Side(1),
+                slot: Some(7)
+            }
+        )
     );
-    let end = first_step(&shape, rest);
-    let Some((1, Op::CounterLoad { row, how }, rest)) = end else {
-        panic!(rt; "end")
-    };
-    assert!(rt; matches!((row, how), (0, CounterUse::End)));
-    let side = first_step(&shape, rest);
-    let Some((0, Op::LinkStore { row, number, link }, rest)) = side else {
-        panic!(rt; "side")
-    };
-    assert_eq!(rt; (row, number, link), (0, 1, link_with_mark(Some(1), false)));
+    let (op, rest) = step_of(&rt, &shape, rest, 1);
+    assert!(rt;
+        matches!(
+            op,
+            Op::LinkCas {
+                place: Word::Root(0),
+                from: RowLink {
+                    to: None,
+                    mark: false
+                },
+                to: RowLink {
+                    to: Some(1),
+                    mark: true
+                }
+            }
+        )
+    );
+    let (op, rest) = step_of(&rt, &shape, rest, 1);
+    assert!(rt;
+        matches!(
+            op,
+            Op::CounterLoad {
+                row: 0,
+                how: CounterUse::End
+            }
+        )
+    );
+    let (op, rest) = step_of(&rt, &shape, rest, 0);
+    assert!(rt;
+        matches!(
+            op,
+            Op::LinkStore {
+                row: 0,
+                number: 1,
+                link: RowLink {
+                    to: Some(1),
+                    mark: false
+                }
+            }
+        )
+    );
     assert_eq!(rt; rest.len(), 0);
     Ok(())
 }

@@ -150,35 +150,38 @@ fn a_hold_behind_the_scan_is_not_freed(rt: HostRuntime) -> Result<(), Fail> {
     )
 }
 
-// Agent 0 links and unlinks a row that agent 1 holds, and hands it over to it. Each piece of the lines stands before the number
-// of the row or of the slot.
+// Agent 0 links and unlinks a row that agent 1 holds: each piece of the lines, and whether the number of the slot stands behind it,
+// or that of the row.
+static HANDED: [(&str, bool); 19] = [
+    ("0 look ", false),
+    ("\n0 count ", false),
+    ("\n0 take ", false),
+    ("\n0 publish 1 ", false),
+    ("\n0 count ", false),
+    ("\n0 cas r", false),
+    (" - ", false),
+    ("\n0 inc ", false),
+    ("\n1 load r", false),
+    ("\n1 publish ", true),
+    (" ", false),
+    ("\n1 load r", false),
+    (" ", true),
+    ("\n0 cas r", false),
+    (" ", false),
+    (" -\n0 arm ", false),
+    ("\n0 dec ", false),
+    ("\n0 set ", false),
+    (
+        " 2\n0 clear 0\n0 takein 0\n0 clear 1\n0 takein 1\n0 start ",
+        false,
+    ),
+];
+
+// Agent 0 links and unlinks a row that agent 1 holds, and hands it over to it.
 fn push_handed(text: &mut String, row: u32) -> Result<(), AllocError> {
     let number = u64::from(row);
-    let slot = number + 1;
-    for (before, name) in [
-        ("0 look ", number),
-        ("\n0 count ", number),
-        ("\n0 take ", number),
-        ("\n0 publish 1 ", number),
-        ("\n0 count ", number),
-        ("\n0 cas r", number),
-        (" - ", number),
-        ("\n0 inc ", number),
-        ("\n1 load r", number),
-        ("\n1 publish ", slot),
-        (" ", number),
-        ("\n1 load r", number),
-        (" ", slot),
-        ("\n0 cas r", number),
-        (" ", number),
-        (" -\n0 arm ", number),
-        ("\n0 dec ", number),
-        ("\n0 set ", number),
-        (
-            " 2\n0 clear 0\n0 takein 0\n0 clear 1\n0 takein 1\n0 start ",
-            number,
-        ),
-    ] {
+    for (before, of_slot) in HANDED.as_slice() {
+        let name = if *of_slot { number + 1 } else { number };
         write!(text, "{before}{name}")?;
     }
     text.push_str("\n")?;

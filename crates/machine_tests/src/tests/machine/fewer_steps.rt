@@ -7,18 +7,20 @@ use crate::tests::playing::link_to;
 #[test]
 fn a_slot_moves_on(rt: HostRuntime) -> Result<(), Fail> {
     let mut state = found_held(&rt, rt.alloc())?;
-    for (agent, op, answer) in [
-        (1, Op::MoveOn { slot: 2, row: 1 }, Ok(2)),
-        (0, Op::Hand { k: 10 }, Ok(0)),
-        (1, Op::HandoverLook { slot: 2 }, Err(NotAllowed)),
-        (1, Op::TakeIn { slot: 2 }, Err(NotAllowed)),
-        (1, Op::Clear { slot: 2 }, Ok(0)),
-        (1, Op::HandoverLook { slot: 2 }, Ok(1)),
-        (1, Op::TakeIn { slot: 2 }, Ok(1)),
-        (1, Op::HandoverLook { slot: 2 }, Ok(0)),
-    ] {
-        assert_eq!(rt; step(&mut state, agent, op), answer);
-    }
+    check_steps(
+        &rt,
+        &mut state,
+        &[
+            (1, Op::MoveOn { slot: 2, row: 1 }, Ok(2)),
+            (0, Op::Hand { k: 10 }, Ok(0)),
+            (1, Op::HandoverLook { slot: 2 }, Err(NotAllowed)),
+            (1, Op::TakeIn { slot: 2 }, Err(NotAllowed)),
+            (1, Op::Clear { slot: 2 }, Ok(0)),
+            (1, Op::HandoverLook { slot: 2 }, Ok(1)),
+            (1, Op::TakeIn { slot: 2 }, Ok(1)),
+            (1, Op::HandoverLook { slot: 2 }, Ok(0)),
+        ],
+    );
     assert_eq!(rt; first_of(&state, 1), Some(0));
     Ok(())
 }
@@ -35,14 +37,20 @@ fn a_decrement_under_a_hold(rt: HostRuntime) -> Result<(), Fail> {
         from: link_to(0),
         to: NULL,
     };
-    assert_eq!(rt; step(&mut state, 0, swing)?, 1);
-    assert_eq!(rt; step(&mut state, 0, Op::Dec { row: 0 }), Err(NotAllowed));
-    assert_eq!(rt; step(&mut state, 0, Op::DecHeld { row: 0 })?, 20_971_521);
     let set = Op::SetRetired {
         row: 0,
         sequence: 2,
     };
-    assert_eq!(rt; step(&mut state, 0, set)?, 1);
+    check_steps(
+        &rt,
+        &mut state,
+        &[
+            (0, swing, Ok(1)),
+            (0, Op::Dec { row: 0 }, Err(NotAllowed)),
+            (0, Op::DecHeld { row: 0 }, Ok(20_971_521)),
+            (0, set, Ok(1)),
+        ],
+    );
     assert_eq!(rt; words_of_row_0(&state), (3, 46_137_344, 0));
     Ok(())
 }

@@ -97,25 +97,28 @@ fn take_out_the_second(state: &mut State) -> Result<(), NotAllowed> {
 fn a_row_with_two_links(rt: HostRuntime) -> Result<(), Fail> {
     let shape = Shape::with_links(2, 1, 1, 8, 2)?;
     let mut state = State::new(rt.alloc(), &shape)?;
-    link_row_0_thrice(&mut state)?;
+    take_out_both(&rt, &mut state)?;
+    Ok(())
+}
+
+// Row 1 links row 0 twice, and both links are taken out.
+fn take_out_both(rt: &impl Abort, state: &mut State) -> Result<(), NotAllowed> {
+    link_row_0_thrice(state)?;
     let two_out = Census {
         out: 2,
         linked: 1,
         ..NONE_OUT
     };
-    assert_eq!(rt; census(&state), two_out);
-    assert_eq!(rt; words_of_row_0(&state), (3, 54_525_955, 2));
-    take_out_the_first(&mut state)?;
-    assert_eq!(rt;
-        step(&mut state, 0, Op::Unretire { row: 1 }).err(),
-        Some(NotAllowed)
-    );
-    take_out_the_second(&mut state)?;
+    assert_eq!(rt; census(state), two_out);
+    assert_eq!(rt; words_of_row_0(state), (3, 54_525_955, 2));
+    take_out_the_first(state)?;
+    check_steps(rt, state, &[(0, Op::Unretire { row: 1 }, Err(NotAllowed))]);
+    take_out_the_second(state)?;
     let one_out = Census {
         out: 1,
         linked: 1,
         ..NONE_OUT
     };
-    assert_eq!(rt; census(&state), one_out);
+    assert_eq!(rt; census(state), one_out);
     Ok(())
 }
