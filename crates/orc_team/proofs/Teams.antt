@@ -1,10 +1,16 @@
 -- Lists of workers, popped from the end and pushed at the end.
 use denote.Param.Members.{Shared}
-use Rattle.std.proofs.Common.{◌≡◌, Bool, false, true, List, [], ◌∷◌, ◌++◌, ap, length, refl, suc, sym, ◌∙◌, subst, append_assoc}
+use Rattle.std.proofs.Common.{◌≡◌, Bool, false, true, List, [], ◌∷◌, ◌++◌, ap, length, refl, suc, sym, ◌∙◌, subst, append_assoc, arith}
+use Rattle.std.proofs.lemmas.List.{append-nil}
 use Rattle.std.specs.List.{AllByRecursion}
 use Rattle.orc_history.specs.Lists.{Pairwise}
 use Rattle.orc_team.specs.Team.{Team, Worked}
 use Rattle.orc_board.proofs.Workers.{Pairwise-snoc}
+
+-- none that waited
+pub Team-none : {X : Type 0} (R : X → X → Type 0) (waiting before : List X) → length waiting ≡ 0 → Team R waiting before before
+Team-none R [] before none = record { new = []; is = sym (append-nil before); each = tt }
+Team-none R (x ∷ xs) before none = absurd (omega (arith, none))
 
 -- one that waited last
 pub Team-more : {X : Type 0} (R : X → X → Type 0) (waiting before after : List X) (x y : X)
