@@ -32,48 +32,6 @@ loop-size-init g c = record {
   held = λ s own q same. record { own = own; quiet = q; slots = same };
 }
 
-pub begin_at-requires-clause-size : goal.begin_at-requires-clause-size
-begin_at-requires-clause-size g c = (c.loop-size.invariant.size, omega (arith, c.loop-size-test.true))
-
-pub begin_at-requires-clause-begins : goal.begin_at-requires-clause-begins
-begin_at-requires-clause-begins g c = c.loop-size.invariant.begins
-
-pub returns-in-Some-clause-begun : goal.returns-in-Some-clause-begun
-returns-in-Some-clause-begun g c = λ s own q slots.
-    let n = g.L.Links.numbers _ in
-    let i = c.loop-size.invariant in
-    let e = c.in-Some.ensures in
-    let s0 = g.L.Links.seat _ c.args.p.now in
-    let t = g.L.Links.seat _ c.loop-size.p in
-    let u = g.L.Links.seat _ c.begin_at.new.p in
-    let grows = seen_on g.L.Links g.met.L.Links.steps_add g.met.L.Links.seen_is _ c.loop-size.p c.begin_at.new.p i.pass e.pass e.later in
-    let k = i.held s own q slots in
-    let first = puts_grow s s0 own q.puts in
-    let whole = goes_on _ _ _ i.grew grows in
-    let v = node_value c.args.new in
-    begins_later n c.args.new c.loop-size.size c.args.size i.by s u
-    (λ sees has.
-    let sees_t = own_sooner s t u (puts_grow s t k.own k.quiet.puts) grows sees in
-    let sees_s0 = own_sooner s s0 u first whole sees in
-    let last = own_later s t u (puts_grow s t k.own k.quiet.puts) grows k.quiet.puts.agent sees in
-    let heap : heap_of n u ≡ heap_of n s0 = few_heap n (root_loads (bucket_of v c.loop-size.size)) t u (e.few c.in-Some.begun refl) last
-    ∙ (own_heap n s t k.own k.quiet sees_t ∙ sym (own_heap n s s0 own q sees_s0)) in
-    (i.still (subst (λ (h : Heap). HasStart h (bucket_of v c.args.size)) heap has) (own_later s s0 t first i.grew q.puts.agent sees_t)).0)
-    c.in-Some.begun (e.begun s k.own k.quiet k.slots)
-
-pub returns-in-Some-clause-few : goal.returns-in-Some-clause-few
-returns-in-Some-clause-few g c = λ has sees.
-    let d = c.args.links.now in
-    let i = c.loop-size.invariant in
-    let s0 = g.L.Links.seat d c.args.p.now in
-    let t = g.L.Links.seat d c.loop-size.p in
-    let u = g.L.Links.seat d c.begin_at.new.p in
-    let grows = seen_on g.L.Links g.met.L.Links.steps_add g.met.L.Links.seen_is d c.loop-size.p c.begin_at.new.p i.pass c.in-Some.ensures.pass c.in-Some.ensures.later in
-    let v = node_value c.args.new in
-    let (same, seen) = i.still has (own_sooner s0 t u i.grew grows sees) in
-    few_same (root_loads (bucket_of v c.loop-size.size)) (root_loads (bucket_of v c.args.size)) s0 t u i.grew grows i.agent seen
-    (ap (λ (x : ℕ). root_loads x) (sym same)) (c.in-Some.ensures.few c.in-Some.begun refl) sees
-
 pub loop-size-smaller : goal.loop-size-smaller
 loop-size-smaller g c = omega (arith, c.loop-size-test.true)
 
@@ -114,39 +72,85 @@ loop-size-preserved g c =
       held = λ s own q same. (let k = i.held s own q same in e.begun s k.own k.quiet k.slots);
     }
 
-pub returns-clause-begun : goal.returns-clause-begun
-returns-clause-begun g c = λ s own q same.
-    let n = g.L.Links.numbers _ in
-    let i = c.loop-size.invariant in
-    let s0 = g.L.Links.seat _ c.args.p.now in
-    let t = g.L.Links.seat _ c.loop-size.p in
-    let k = i.held s own q same in
-    let first = puts_grow s s0 own q.puts in
-    let v = node_value c.args.new in
-    let one : c.loop-size.size ≡ 1 = omega (arith, c.loop-size-test.false, size_some _ c.loop-size.size i.size) in
-    from_root n c.args.new s t k.own k.quiet k.slots c.args.size
-    (λ sees has.
-    let heap : heap_of n t ≡ heap_of n s0 = own_heap n s t k.own k.quiet sees ∙ sym (own_heap n s s0 own q (own_sooner s s0 t first i.grew sees)) in
-    let (bucket, seen) = i.still (subst (λ (h : Heap). HasStart h (bucket_of v c.args.size)) heap has) (own_later s s0 t first i.grew q.puts.agent sees) in
-    let zero : v % 1 ≡ 0 = omega arith in
-    bucket ∙ (ap (λ (x : ℕ). v % x) one ∙ zero))
+pub begin_at-requires : goal.begin_at-requires
+begin_at-requires g c =
+    record {
+      size = (c.loop-size.invariant.size, omega (arith, c.loop-size-test.true));
+      begins = c.loop-size.invariant.begins;
+      pass = c.loop-size.invariant.pass;
+      room = c.loop-size.invariant.room;
+    }
 
-pub returns-clause-few : goal.returns-clause-few
-returns-clause-few g c = λ has.
-    let v = node_value c.args.new in
-    few_none (root_loads (bucket_of v c.args.size)) _ _
-    (λ sees. (c.loop-size.invariant.still has sees).1)
+pub returns : goal.returns
+returns g c =
+    record {
+      begun = λ s own q same.
+          let n = g.L.Links.numbers _ in
+          let i = c.loop-size.invariant in
+          let s0 = g.L.Links.seat _ c.args.p.now in
+          let t = g.L.Links.seat _ c.loop-size.p in
+          let k = i.held s own q same in
+          let first = puts_grow s s0 own q.puts in
+          let v = node_value c.args.new in
+          let one : c.loop-size.size ≡ 1 = omega (arith, c.loop-size-test.false, size_some _ c.loop-size.size i.size) in
+          from_root n c.args.new s t k.own k.quiet k.slots c.args.size
+          (λ sees has.
+          let heap : heap_of n t ≡ heap_of n s0 = own_heap n s t k.own k.quiet sees ∙ sym (own_heap n s s0 own q (own_sooner s s0 t first i.grew sees)) in
+          let (bucket, seen) = i.still (subst (λ (h : Heap). HasStart h (bucket_of v c.args.size)) heap has) (own_later s s0 t first i.grew q.puts.agent sees) in
+          let zero : v % 1 ≡ 0 = omega arith in
+          bucket ∙ (ap (λ (x : ℕ). v % x) one ∙ zero));
+      few = λ has.
+          let v = node_value c.args.new in
+          few_none (root_loads (bucket_of v c.args.size)) _ _
+          (λ sees. (c.loop-size.invariant.still has sees).1);
+      tries = λ k low.
+          let (j, high, made) = c.loop-size.invariant.levels k low in
+          omega (arith, made);
+      pass = c.loop-size.invariant.pass;
+      later = c.loop-size.invariant.later;
+      agent = c.loop-size.invariant.agent;
+    }
 
-pub returns-in-Some-clause-agent : goal.returns-in-Some-clause-agent
-returns-in-Some-clause-agent g c = c.in-Some.ensures.agent ∙ c.loop-size.invariant.agent
-
-pub returns-in-Some-clause-tries : goal.returns-in-Some-clause-tries
-returns-in-Some-clause-tries g c = λ k low.
-    let (j, high, made) = c.loop-size.invariant.levels k low in
-    let (less, is, half) = half_level c.loop-size.size j (omega (arith, c.loop-size-test.true)) high in
-    omega (arith, made, c.in-Some.ensures.tries, is)
-
-pub returns-clause-tries : goal.returns-clause-tries
-returns-clause-tries g c = λ k low.
-    let (j, high, made) = c.loop-size.invariant.levels k low in
-    omega (arith, made)
+pub returns-in-Some : goal.returns-in-Some
+returns-in-Some g c =
+    record {
+      begun = λ s own q slots.
+          let n = g.L.Links.numbers _ in
+          let i = c.loop-size.invariant in
+          let e = c.in-Some.ensures in
+          let s0 = g.L.Links.seat _ c.args.p.now in
+          let t = g.L.Links.seat _ c.loop-size.p in
+          let u = g.L.Links.seat _ c.begin_at.new.p in
+          let grows = seen_on g.L.Links g.met.L.Links.steps_add g.met.L.Links.seen_is _ c.loop-size.p c.begin_at.new.p i.pass e.pass e.later in
+          let k = i.held s own q slots in
+          let first = puts_grow s s0 own q.puts in
+          let whole = goes_on _ _ _ i.grew grows in
+          let v = node_value c.args.new in
+          begins_later n c.args.new c.loop-size.size c.args.size i.by s u
+          (λ sees has.
+          let sees_t = own_sooner s t u (puts_grow s t k.own k.quiet.puts) grows sees in
+          let sees_s0 = own_sooner s s0 u first whole sees in
+          let last = own_later s t u (puts_grow s t k.own k.quiet.puts) grows k.quiet.puts.agent sees in
+          let heap : heap_of n u ≡ heap_of n s0 = few_heap n (root_loads (bucket_of v c.loop-size.size)) t u (e.few c.in-Some.begun refl) last
+          ∙ (own_heap n s t k.own k.quiet sees_t ∙ sym (own_heap n s s0 own q sees_s0)) in
+          (i.still (subst (λ (h : Heap). HasStart h (bucket_of v c.args.size)) heap has) (own_later s s0 t first i.grew q.puts.agent sees_t)).0)
+          c.in-Some.begun (e.begun s k.own k.quiet k.slots);
+      few = λ has sees.
+          let d = c.args.links.now in
+          let i = c.loop-size.invariant in
+          let s0 = g.L.Links.seat d c.args.p.now in
+          let t = g.L.Links.seat d c.loop-size.p in
+          let u = g.L.Links.seat d c.begin_at.new.p in
+          let grows = seen_on g.L.Links g.met.L.Links.steps_add g.met.L.Links.seen_is d c.loop-size.p c.begin_at.new.p i.pass c.in-Some.ensures.pass c.in-Some.ensures.later in
+          let v = node_value c.args.new in
+          let (same, seen) = i.still has (own_sooner s0 t u i.grew grows sees) in
+          few_same (root_loads (bucket_of v c.loop-size.size)) (root_loads (bucket_of v c.args.size)) s0 t u i.grew grows i.agent seen
+          (ap (λ (x : ℕ). root_loads x) (sym same)) (c.in-Some.ensures.few c.in-Some.begun refl) sees;
+      agent = c.in-Some.ensures.agent ∙ c.loop-size.invariant.agent;
+      tries = λ k low.
+          let (j, high, made) = c.loop-size.invariant.levels k low in
+          let (less, is, half) = half_level c.loop-size.size j (omega (arith, c.loop-size-test.true)) high in
+          omega (arith, made, c.in-Some.ensures.tries, is);
+      pass = c.in-Some.ensures.pass;
+      later = goes_on _ _ _ c.loop-size.invariant.later c.in-Some.ensures.later;
+    }

@@ -14,9 +14,6 @@ pub loop-init : goal.loop-init
 loop-init g c =
     record { pass = c.requires.pass; later = ([], append-nil _); tires = tires_none (split_reading _) _; tries = omega arith }
 
-pub read_size-requires-clause-room : goal.read_size-requires-clause-room
-read_size-requires-clause-room g c = subst (λ (z : Slots). HasRoom z) (sym c.loop.invariant.tires.slots) c.requires.room
-
 pub loop-preserved : goal.loop-preserved
 loop-preserved g c =
     let r = split_reading _ in
@@ -29,20 +26,32 @@ loop-preserved g c =
       tries = omega (arith, i.tries, e.tries);
     }
 
-pub returns-in-Some-clause-read : goal.returns-in-Some-clause-read
-returns-in-Some-clause-read g c =
-    let all = g.met.L.Links.allowed _ _ c.loop.invariant.pass in
-    let some = subst (λ (k : ℕ). 1 ≤ k) c.requires.most.0 c.requires.most.1 in
-    ((λ zero. omega (arith, zero, c.loop-test.true)), size_found _ c.loop.counter c.in-Some.size _ _ _ some all c.loop.invariant.tires c.in-Some.ensures.read)
+pub read_size-requires : goal.read_size-requires
+read_size-requires g c =
+    record {
+      room = subst (λ (z : Slots). HasRoom z) (sym c.loop.invariant.tires.slots) c.requires.room;
+      pass = c.loop.invariant.pass;
+      most = c.requires.most;
+    }
 
-pub returns-in-Some-clause-tries : goal.returns-in-Some-clause-tries
-returns-in-Some-clause-tries g c = omega (arith, c.loop.invariant.tries, c.in-Some.ensures.tries, c.loop-test.true)
+pub returns : goal.returns
+returns g c =
+    record {
+      tries = omega (arith, c.loop.invariant.tries, c.loop.auto.counter-end);
+      read = let d = c.args.links.now in
+          let all : c.loop.counter ≡ c.args.turns = omega (arith, c.loop-test.false, c.loop.auto.counter-end) in
+          subst (λ (k : ℕ). Tires (split_reading (g.L.Links.numbers d)) k (g.L.Links.seat d c.args.p.now) (g.L.Links.seat d c.loop.p)) all c.loop.invariant.tires;
+      pass = c.loop.invariant.pass;
+      later = c.loop.invariant.later;
+    }
 
-pub returns-clause-tries : goal.returns-clause-tries
-returns-clause-tries g c = omega (arith, c.loop.invariant.tries, c.loop.auto.counter-end)
-
-pub returns-clause-read : goal.returns-clause-read
-returns-clause-read g c =
-    let d = c.args.links.now in
-    let all : c.loop.counter ≡ c.args.turns = omega (arith, c.loop-test.false, c.loop.auto.counter-end) in
-    subst (λ (k : ℕ). Tires (split_reading (g.L.Links.numbers d)) k (g.L.Links.seat d c.args.p.now) (g.L.Links.seat d c.loop.p)) all c.loop.invariant.tires
+pub returns-in-Some : goal.returns-in-Some
+returns-in-Some g c =
+    record {
+      read = let all = g.met.L.Links.allowed _ _ c.loop.invariant.pass in
+          let some = subst (λ (k : ℕ). 1 ≤ k) c.requires.most.0 c.requires.most.1 in
+          ((λ zero. omega (arith, zero, c.loop-test.true)), size_found _ c.loop.counter c.in-Some.size _ _ _ some all c.loop.invariant.tires c.in-Some.ensures.read);
+      tries = omega (arith, c.loop.invariant.tries, c.in-Some.ensures.tries, c.loop-test.true);
+      pass = c.in-Some.ensures.pass;
+      later = goes_on _ _ _ c.loop.invariant.later c.in-Some.ensures.later;
+    }
