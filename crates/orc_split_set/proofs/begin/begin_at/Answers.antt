@@ -10,27 +10,6 @@ use Rattle.orc_split_set.proofs.Sizes.{looks_none, looks_some}
 use Rattle.orc_split_set.proofs.FewEvents.{look_made}
 use Rattle.orc_split_set.proofs.begin.begin_at.Goals as goal
 
-pub returns-in-Stable-default-Some-clause-begun : goal.returns-in-Stable-default-Some-clause-begun
-returns-in-Stable-default-Some-clause-begun g c = λ s own q same.
-    let x = c.in-Stable-default-Some in
-    root_at _ c.args.new s _ own q same _ c.value.result c.args.size c.from.result x.field-0 x.dummy (g.met.L.Links.obeys _ _ c.requires.pass)
-    (g.met.L.Links.allowed _ _ x.ensures.pass) c.requires.room c.requires.size.0 c.requires.size.1 c.requires.begins c.value.ensures
-    c.from.ensures (omega (arith, c.if-bucket-size.false)) (looks_some _ 2 x.field-0 x.field-1 x.dummy _ _ x.field-1-is x.ensures.looked)
-
-pub returns-in-Stable-default-None-clause-begun : goal.returns-in-Stable-default-None-clause-begun
-returns-in-Stable-default-None-clause-begun g c = λ s own q same.
-    let x = c.in-Stable-default-None in
-    root_null _ c.args.new s _ own q same _ _ x.field-0 (looks_none _ 2 x.field-0 x.field-1 _ _ x.field-1-is x.ensures.looked)
-
-pub returns-in-Moved-clause-begun : goal.returns-in-Moved-clause-begun
-returns-in-Moved-clause-begun g c = λ s own q same.
-    root_moved _ c.args.new s _ own q same _ _ c.in-Moved.ensures.looked (g.met.L.Links.allowed _ _ c.in-Moved.ensures.pass)
-
-pub returns-in-Stable-default-None-clause-held : goal.returns-in-Stable-default-None-clause-held
-returns-in-Stable-default-None-clause-held g c = λ none.
-    let x = c.in-Stable-default-None in
-    (looks_none _ 2 x.field-0 x.field-1 _ _ x.field-1-is x.ensures.looked).tells.1
-
 bucket_is : (value other size most : ℕ) → value ≡ other → most ≡ size → value % most ≡ bucket_of other size
 bucket_is value other size most one two = ap (λ (x : ℕ). x % most) one ∙ ap (λ (x : ℕ). other % x) two
 
@@ -39,66 +18,70 @@ returns-then-bucket-size-clause-none g c = λ is has k.
     let same = bucket_is c.value.result (node_value c.args.new) c.args.size c.from.result c.value.ensures c.from.ensures in
     (half_same _ (node_value c.args.new) c.args.size c.requires.size.0 c.requires.size.1 (omega (arith, c.if-bucket-size.true, same)), none_new _ _ refl k)
 
-pub returns-in-Stable-default-Some-clause-agent : goal.returns-in-Stable-default-Some-clause-agent
-returns-in-Stable-default-Some-clause-agent g c =
-    look_agent _ _ _ _ c.in-Stable-default-Some.ensures.looked
+pub look-requires : goal.look-requires
+look-requires g c = record {
+  pass = c.requires.pass;
+  place = omega (arith, c.from.ensures, c.requires.size.0.0, c.requires.size.1);
+  slot = c.requires.room.two;
+}
 
-pub returns-in-Stable-default-None-clause-agent : goal.returns-in-Stable-default-None-clause-agent
-returns-in-Stable-default-None-clause-agent g c =
-    look_agent _ _ _ _ c.in-Stable-default-None.ensures.looked
+pub returns-in-Stable-default-Some : goal.returns-in-Stable-default-Some
+returns-in-Stable-default-Some g c =
+    record {
+      begun = λ s own q same.
+          let x = c.in-Stable-default-Some in
+          root_at _ c.args.new s _ own q same _ c.value.result c.args.size c.from.result x.field-0 x.dummy (g.met.L.Links.obeys _ _ c.requires.pass)
+          (g.met.L.Links.allowed _ _ x.ensures.pass) c.requires.room c.requires.size.0 c.requires.size.1 c.requires.begins c.value.ensures
+          c.from.ensures (omega (arith, c.if-bucket-size.false)) (looks_some _ 2 x.field-0 x.field-1 x.dummy _ _ x.field-1-is x.ensures.looked);
+      agent = look_agent _ _ _ _ c.in-Stable-default-Some.ensures.looked;
+      few = λ begun is.
+          let same = bucket_is c.value.result (node_value c.args.new) c.args.size c.from.result c.value.ensures c.from.ensures in
+          root_few (bucket_of (node_value c.args.new) c.args.size) _ _ _ _
+          (omega (arith, c.if-bucket-size.false, same, c.requires.size.1)) c.in-Stable-default-Some.ensures.looked;
+      tries = look_made _ 2 _ _ _ c.in-Stable-default-Some.ensures.looked;
+      pass = c.in-Stable-default-Some.ensures.pass;
+      later = c.in-Stable-default-Some.ensures.later;
+      held = λ is. cc;
+      none = λ is has k. cc;
+    }
 
-pub returns-in-Moved-clause-agent : goal.returns-in-Moved-clause-agent
-returns-in-Moved-clause-agent g c =
-    look_agent _ _ _ _ c.in-Moved.ensures.looked
+pub returns-in-Stable-default-None : goal.returns-in-Stable-default-None
+returns-in-Stable-default-None g c =
+    record {
+      begun = λ s own q same.
+          let x = c.in-Stable-default-None in
+          root_null _ c.args.new s _ own q same _ _ x.field-0 (looks_none _ 2 x.field-0 x.field-1 _ _ x.field-1-is x.ensures.looked);
+      held = λ none.
+          let x = c.in-Stable-default-None in
+          (looks_none _ 2 x.field-0 x.field-1 _ _ x.field-1-is x.ensures.looked).tells.1;
+      agent = look_agent _ _ _ _ c.in-Stable-default-None.ensures.looked;
+      none = λ is has k.
+          let x = c.in-Stable-default-None in
+          let b = bucket_of (node_value c.args.new) c.args.size in
+          let same : c.value.result % c.from.result ≡ b =
+          bucket_is c.value.result (node_value c.args.new) c.args.size c.from.result c.value.ensures c.from.ensures in
+          let looks = looks_from _ (Root b) 2 _ _ _ (ap Root same) (looks_none _ 2 x.field-0 x.field-1 _ _ x.field-1-is x.ensures.looked) in
+          absurd (start_shown _ _ _ b x.field-0 (omega (arith, c.if-bucket-size.false, same, c.requires.size.1)) looks
+          (g.met.L.Links.allowed _ _ x.ensures.pass) has k);
+      tries = look_made _ 2 _ _ _ c.in-Stable-default-None.ensures.looked;
+      pass = c.in-Stable-default-None.ensures.pass;
+      later = c.in-Stable-default-None.ensures.later;
+      few = λ begun is. cc;
+    }
 
-pub returns-in-Stable-default-Some-clause-few : goal.returns-in-Stable-default-Some-clause-few
-returns-in-Stable-default-Some-clause-few g c = λ begun is.
-    let same = bucket_is c.value.result (node_value c.args.new) c.args.size c.from.result c.value.ensures c.from.ensures in
-    root_few (bucket_of (node_value c.args.new) c.args.size) _ _ _ _
-    (omega (arith, c.if-bucket-size.false, same, c.requires.size.1)) c.in-Stable-default-Some.ensures.looked
-
-pub returns-in-Moved-clause-few : goal.returns-in-Moved-clause-few
-returns-in-Moved-clause-few g c = λ begun is.
-    let same = bucket_is c.value.result (node_value c.args.new) c.args.size c.from.result c.value.ensures c.from.ensures in
-    root_few (bucket_of (node_value c.args.new) c.args.size) _ _ _ _
-    (omega (arith, c.if-bucket-size.false, same, c.requires.size.1)) c.in-Moved.ensures.looked
-
-pub returns-in-Stable-default-None-clause-none : goal.returns-in-Stable-default-None-clause-none
-returns-in-Stable-default-None-clause-none g c = λ is has k.
-    let x = c.in-Stable-default-None in
-    let b = bucket_of (node_value c.args.new) c.args.size in
-    let same : c.value.result % c.from.result ≡ b =
-    bucket_is c.value.result (node_value c.args.new) c.args.size c.from.result c.value.ensures c.from.ensures in
-    let looks = looks_from _ (Root b) 2 _ _ _ (ap Root same) (looks_none _ 2 x.field-0 x.field-1 _ _ x.field-1-is x.ensures.looked) in
-    absurd (start_shown _ _ _ b x.field-0 (omega (arith, c.if-bucket-size.false, same, c.requires.size.1)) looks
-    (g.met.L.Links.allowed _ _ x.ensures.pass) has k)
-
-pub returns-in-Stable-default-Some-clause-tries : goal.returns-in-Stable-default-Some-clause-tries
-returns-in-Stable-default-Some-clause-tries g c =
-    look_made _ 2 _ _ _ c.in-Stable-default-Some.ensures.looked
-
-pub returns-in-Stable-default-None-clause-tries : goal.returns-in-Stable-default-None-clause-tries
-returns-in-Stable-default-None-clause-tries g c =
-    look_made _ 2 _ _ _ c.in-Stable-default-None.ensures.looked
-
-pub returns-in-Moved-clause-tries : goal.returns-in-Moved-clause-tries
-returns-in-Moved-clause-tries g c =
-    look_made _ 2 _ _ _ c.in-Moved.ensures.looked
-
-pub returns-in-Stable-default-Some-clause-pass : goal.returns-in-Stable-default-Some-clause-pass
-returns-in-Stable-default-Some-clause-pass g c = c.in-Stable-default-Some.ensures.pass
-
-pub returns-in-Stable-default-Some-clause-later : goal.returns-in-Stable-default-Some-clause-later
-returns-in-Stable-default-Some-clause-later g c = c.in-Stable-default-Some.ensures.later
-
-pub returns-in-Stable-default-None-clause-pass : goal.returns-in-Stable-default-None-clause-pass
-returns-in-Stable-default-None-clause-pass g c = c.in-Stable-default-None.ensures.pass
-
-pub returns-in-Stable-default-None-clause-later : goal.returns-in-Stable-default-None-clause-later
-returns-in-Stable-default-None-clause-later g c = c.in-Stable-default-None.ensures.later
-
-pub returns-in-Moved-clause-pass : goal.returns-in-Moved-clause-pass
-returns-in-Moved-clause-pass g c = c.in-Moved.ensures.pass
-
-pub returns-in-Moved-clause-later : goal.returns-in-Moved-clause-later
-returns-in-Moved-clause-later g c = c.in-Moved.ensures.later
+pub returns-in-Moved : goal.returns-in-Moved
+returns-in-Moved g c =
+    record {
+      begun = λ s own q same.
+          root_moved _ c.args.new s _ own q same _ _ c.in-Moved.ensures.looked (g.met.L.Links.allowed _ _ c.in-Moved.ensures.pass);
+      agent = look_agent _ _ _ _ c.in-Moved.ensures.looked;
+      few = λ begun is.
+          let same = bucket_is c.value.result (node_value c.args.new) c.args.size c.from.result c.value.ensures c.from.ensures in
+          root_few (bucket_of (node_value c.args.new) c.args.size) _ _ _ _
+          (omega (arith, c.if-bucket-size.false, same, c.requires.size.1)) c.in-Moved.ensures.looked;
+      tries = look_made _ 2 _ _ _ c.in-Moved.ensures.looked;
+      pass = c.in-Moved.ensures.pass;
+      later = c.in-Moved.ensures.later;
+      held = λ is. cc;
+      none = λ is has k. cc;
+    }

@@ -1,5 +1,5 @@
 -- By what the search found, and by what came of the new dummy.
-use Rattle.std.proofs.Common.{refl, subst, sym, ◌∙◌}
+use Rattle.std.proofs.Common.{arith, refl, subst, sym, ◌∙◌}
 use Rattle.orc_heap.proofs.Pieces.{goes_on}
 use Rattle.orc_heap.specs.declared.events.Place.TheVariants.{Root}
 use Rattle.orc_ordered_search.proofs.Adding.{absent_hand_on, give_free}
@@ -46,162 +46,154 @@ new_dummy g c =
     (x.ensures.found (Root 0) _ (idle_room _ c.requires.idle).room (begins_first _ c.args.bucket _)) (idle_room _ c.requires.idle)
     c.in-Ok.dummy _ c.from.ensures e.given (g.met.L.Links.allowed _ _ e.pass)
 
-pub search_for-requires-clause-begins : goal.search_for-requires-clause-begins
-search_for-requires-clause-begins g c =
-    let s = g.L.Links.seat _ c.args.p.now in
-    (Root 0, s, (idle_room s c.requires.idle).room, begins_first _ c.args.bucket s)
+pub give-requires : goal.give-requires
+give-requires g c =
+    record {
+      slot = let s = g.L.Links.seat c.args.links.now c.args.p.now in
+          let x = c.in-Absent in
+          let t = g.L.Links.seat c.args.links.now c.search_for.new.p in
+          give_free (split_ordering (g.L.Links.numbers c.args.links.now)) (Root 0) (dummy_place c.args.bucket) x.passed c.args.bucket 0 x.left x.first x.right s t t
+          (absent g (goal.at.give-requires g c).In-Absent) (idle_room s c.requires.idle).one;
+      no_other = (absent g (goal.at.give-requires g c).In-Absent).behind.quiet.fresh ∙ c.requires.idle.fresh;
+      pass = c.in-Absent.ensures.pass;
+    }
 
-pub returns-in-Over-clause-stopped : goal.returns-in-Over-clause-stopped
-returns-in-Over-clause-stopped g c =
-    let over = (c.in-Over.ensures.found (Root 0) _ (idle_room _ c.requires.idle).room (begins_first _ c.args.bucket _)).0 in
-    moved_stops _ c.args.bucket _ _ (moved_roots _ c.args.bucket _ _ over c.requires.idle.fresh)
+pub release-requires : goal.release-requires
+release-requires g c =
+    record {
+      held = let s = g.L.Links.seat c.args.links.now c.args.p.now in
+          let x = c.in-Absent in
+          let h = new_dummy g (goal.at.release-requires g c).In-Ok in
+          turn_held _ c.args.bucket x.left x.first x.right c.in-Ok.dummy s _ _ h c.add_node-done.result
+          (dummy_added _ c.args.bucket c.in-Absent.left c.in-Absent.first c.in-Absent.right c.in-Ok.dummy s _ _ h c.requires.bucket.0 c.requires.bucket.1 _ _ refl
+          c.add_node-done.ensures.added);
+      pass = c.add_node-done.ensures.pass;
+    }
 
-pub give-requires-clause-slot : goal.give-requires-clause-slot
-give-requires-clause-slot g c =
-    let s = g.L.Links.seat c.args.links.now c.args.p.now in
-    let x = c.in-Absent in
-    let t = g.L.Links.seat c.args.links.now c.search_for.new.p in
-    give_free (split_ordering (g.L.Links.numbers c.args.links.now)) (Root 0) (dummy_place c.args.bucket) x.passed c.args.bucket 0 x.left x.first x.right s t t
-    (absent g (goal.at.give-requires-clause-slot g c).In-Absent) (idle_room s c.requires.idle).one
+pub let_all_go-requires : goal.let_all_go-requires
+let_all_go-requires g c =
+    record {
+      hands = let s = g.L.Links.seat c.args.links.now c.args.p.now in
+          let x = c.in-Absent in
+          let e = c.in-Err.ensures in (
+            s.slots,
+            absent_hand_on (split_ordering _) (Root 0) (dummy_place c.args.bucket) x.passed c.args.bucket 0 x.left x.first x.right s _ _
+                (absent g (goal.at.let_all_go-requires g c).In-Absent) (idle_room s c.requires.idle).one e.none (g.met.L.Links.allowed _ _ e.pass),
+          );
+      pass = c.in-Err.ensures.pass;
+    }
 
-pub give-requires-clause-no_other : goal.give-requires-clause-no_other
-give-requires-clause-no_other g c =
-    (absent g (goal.at.give-requires-clause-no_other g c).In-Absent).behind.quiet.fresh ∙ c.requires.idle.fresh
+pub let_all_go-requires-in-Present : goal.let_all_go-requires-in-Present
+let_all_go-requires-in-Present g c =
+    record {
+      hands = let s = g.L.Links.seat _ c.args.p.now in
+          let x = c.in-Present in (
+            s.slots,
+            present_hand (split_ordering _) (Root 0) (dummy_place c.args.bucket) x.passed x.left x.first s _ x.node
+                x.next (present g (goal.at.let_all_go-requires-in-Present g c).In-Present),
+          );
+      pass = c.in-Present.ensures.pass;
+    }
 
-pub add_node-done-requires-clause-adds : goal.add_node-done-requires-clause-adds
-add_node-done-requires-clause-adds g c =
-    let s = g.L.Links.seat c.args.links.now c.args.p.now in
-    let x = c.in-Absent in
-    let h = new_dummy g (goal.at.add_node-done-requires-clause-adds g c).In-Ok in
-    dummy_to_add _ c.args.bucket x.left x.first x.right c.in-Ok.dummy s _ h c.requires.bucket.0 c.requires.bucket.1
+pub returns-in-Ok : goal.returns-in-Ok
+returns-in-Ok g c =
+    record {
+      stopped = let s = g.L.Links.seat c.args.links.now c.args.p.now in
+          let x = c.in-Absent in
+          let h = new_dummy g (goal.at.returns-in-Ok g c).In-Ok in
+          let n = g.L.Links.numbers c.args.links.now in
+          let u = g.L.Links.seat c.args.links.now c.give.new.p in
+          let v = g.L.Links.seat c.args.links.now c.add_node-done.new.p in
+          let w = g.L.Links.seat c.args.links.now c.release.new.p in
+          let k = c.add_node-done.ensures in
+          let to_add = dummy_to_add n c.args.bucket x.left x.first x.right c.in-Ok.dummy s u h c.requires.bucket.0 c.requires.bucket.1 in
+          let all = g.met.L.Links.allowed _ _ k.pass in
+          let grows = seen_on g.L.Links g.met.L.Links.steps_add g.met.L.Links.seen_is _ c.give.new.p c.add_node-done.new.p c.in-Ok.ensures.pass k.pass k.later in
+          subst (λ (turn : InsertTurn). StopsUnnamed n c.args.bucket s turn w) (sym c.turn_of.ensures)
+          (turn_stops n c.args.bucket x.passed x.left x.first x.right c.in-Ok.dummy s u v w h c.add_node-done.result
+          (dummy_added _ c.args.bucket c.in-Absent.left c.in-Absent.first c.in-Absent.right c.in-Ok.dummy s _ _ h c.requires.bucket.0 c.requires.bucket.1 _ _ refl
+          c.add_node-done.ensures.added)
+          (release_goes c.in-Ok.dummy v w c.release.ensures.released) grows (g.met.L.Links.allowed _ _ c.release.ensures.pass)
+          (g.met.L.Links.obeys _ _ c.release.ensures.pass)
+          (λ is. linked_new n c.args.bucket h.adds.id _ _ _ _ u v (k.linked to_add is) all s h.adds.own h.adds.puts (g.met.L.Links.obeys _ _ k.pass))
+          (λ is. linked_unnamed n c.args.bucket h.adds.id _ _ _ _ u v (k.linked to_add is) all c.requires.bucket.0 c.requires.bucket.1));
+      lacking = λ is. absurd (turn_node c.in-Absent.passed c.add_node-done.result (sym c.turn_of.ensures ∙ is));
+      worn = λ why is.
+          let q = (absent g (goal.at.returns-in-Ok g c).In-Absent).behind.quiet in
+          let e = c.in-Ok.ensures in
+          let k = c.add_node-done.ensures in
+          let w = k.worn why (turn_spent c.in-Absent.passed c.add_node-done.result why (sym c.turn_of.ensures ∙ is)) in
+          told_later g.L.Links g.met.L.Links.steps_add g.met.L.Links.seen_is c.args.links.now c.args.p.now c.search_for.new.p _ _ c.requires.pass
+          c.in-Absent.ensures.pass q.puts q.some c.in-Absent.ensures.later (goes_on _ _ _ e.later (goes_on _ _ _ k.later c.release.ensures.later)) (RootedSpent why)
+          (told_wider g.L.Links g.met.L.Links.lacking_stays g.met.L.Links.worn_stays c.args.links.now c.search_for.new.p c.give.new.p c.add_node-done.new.p c.release.new.p
+          e.given.puts.agent e.later c.release.ensures.later (RootedSpent why) w);
+      pass = c.release.ensures.pass;
+      later = goes_on _ _ _ c.in-Absent.ensures.later (goes_on _ _ _ c.in-Ok.ensures.later (goes_on _ _ _ c.add_node-done.ensures.later c.release.ensures.later));
+    }
 
-pub release-requires-clause-held : goal.release-requires-clause-held
-release-requires-clause-held g c =
-    let s = g.L.Links.seat c.args.links.now c.args.p.now in
-    let x = c.in-Absent in
-    let h = new_dummy g (goal.at.release-requires-clause-held g c).In-Ok in
-    turn_held _ c.args.bucket x.left x.first x.right c.in-Ok.dummy s _ _ h c.add_node-done.result
-    (dummy_added _ c.args.bucket c.in-Absent.left c.in-Absent.first c.in-Absent.right c.in-Ok.dummy s _ _ h c.requires.bucket.0 c.requires.bucket.1 _ _ refl
-    c.add_node-done.ensures.added)
+pub search_for-requires : goal.search_for-requires
+search_for-requires g c =
+    record {
+      begins = let s = g.L.Links.seat _ c.args.p.now in
+          (Root 0, s, (idle_room s c.requires.idle).room, begins_first _ c.args.bucket s);
+      pass = c.requires.pass;
+      roots = omega (arith, c.requires.bucket.1);
+    }
 
-pub returns-in-Ok-clause-stopped : goal.returns-in-Ok-clause-stopped
-returns-in-Ok-clause-stopped g c =
-    let s = g.L.Links.seat c.args.links.now c.args.p.now in
-    let x = c.in-Absent in
-    let h = new_dummy g (goal.at.returns-in-Ok-clause-stopped g c).In-Ok in
-    let n = g.L.Links.numbers c.args.links.now in
-    let u = g.L.Links.seat c.args.links.now c.give.new.p in
-    let v = g.L.Links.seat c.args.links.now c.add_node-done.new.p in
-    let w = g.L.Links.seat c.args.links.now c.release.new.p in
-    let k = c.add_node-done.ensures in
-    let to_add = dummy_to_add n c.args.bucket x.left x.first x.right c.in-Ok.dummy s u h c.requires.bucket.0 c.requires.bucket.1 in
-    let all = g.met.L.Links.allowed _ _ k.pass in
-    let grows = seen_on g.L.Links g.met.L.Links.steps_add g.met.L.Links.seen_is _ c.give.new.p c.add_node-done.new.p c.in-Ok.ensures.pass k.pass k.later in
-    subst (λ (turn : InsertTurn). StopsUnnamed n c.args.bucket s turn w) (sym c.turn_of.ensures)
-    (turn_stops n c.args.bucket x.passed x.left x.first x.right c.in-Ok.dummy s u v w h c.add_node-done.result
-    (dummy_added _ c.args.bucket c.in-Absent.left c.in-Absent.first c.in-Absent.right c.in-Ok.dummy s _ _ h c.requires.bucket.0 c.requires.bucket.1 _ _ refl
-    c.add_node-done.ensures.added)
-    (release_goes c.in-Ok.dummy v w c.release.ensures.released) grows (g.met.L.Links.allowed _ _ c.release.ensures.pass)
-    (g.met.L.Links.obeys _ _ c.release.ensures.pass)
-    (λ is. linked_new n c.args.bucket h.adds.id _ _ _ _ u v (k.linked to_add is) all s h.adds.own h.adds.puts (g.met.L.Links.obeys _ _ k.pass))
-    (λ is. linked_unnamed n c.args.bucket h.adds.id _ _ _ _ u v (k.linked to_add is) all c.requires.bucket.0 c.requires.bucket.1))
+pub add_node-done-requires : goal.add_node-done-requires
+add_node-done-requires g c =
+    record {
+      adds = let s = g.L.Links.seat c.args.links.now c.args.p.now in
+          let x = c.in-Absent in
+          let h = new_dummy g (goal.at.add_node-done-requires g c).In-Ok in
+          dummy_to_add _ c.args.bucket x.left x.first x.right c.in-Ok.dummy s _ h c.requires.bucket.0 c.requires.bucket.1;
+      pass = c.in-Ok.ensures.pass;
+      root = omega (arith, c.requires.bucket.1);
+    }
 
-pub returns-in-Ok-clause-lacking : goal.returns-in-Ok-clause-lacking
-returns-in-Ok-clause-lacking g c = λ is. absurd (turn_node c.in-Absent.passed c.add_node-done.result (sym c.turn_of.ensures ∙ is))
+pub returns-in-Over : goal.returns-in-Over
+returns-in-Over g c =
+    record {
+      stopped = let over = (c.in-Over.ensures.found (Root 0) _ (idle_room _ c.requires.idle).room (begins_first _ c.args.bucket _)).0 in
+          moved_stops _ c.args.bucket _ _ (moved_roots _ c.args.bucket _ _ over c.requires.idle.fresh);
+      pass = c.in-Over.ensures.pass;
+      later = c.in-Over.ensures.later;
+      lacking = λ is. cc;
+      worn = λ why is. cc;
+    }
 
-pub returns-in-Ok-clause-worn : goal.returns-in-Ok-clause-worn
-returns-in-Ok-clause-worn g c = λ why is.
-    let q = (absent g (goal.at.returns-in-Ok-clause-worn g c).In-Absent).behind.quiet in
-    let e = c.in-Ok.ensures in
-    let k = c.add_node-done.ensures in
-    let w = k.worn why (turn_spent c.in-Absent.passed c.add_node-done.result why (sym c.turn_of.ensures ∙ is)) in
-    told_later g.L.Links g.met.L.Links.steps_add g.met.L.Links.seen_is c.args.links.now c.args.p.now c.search_for.new.p _ _ c.requires.pass
-    c.in-Absent.ensures.pass q.puts q.some c.in-Absent.ensures.later (goes_on _ _ _ e.later (goes_on _ _ _ k.later c.release.ensures.later)) (RootedSpent why)
-    (told_wider g.L.Links g.met.L.Links.lacking_stays g.met.L.Links.worn_stays c.args.links.now c.search_for.new.p c.give.new.p c.add_node-done.new.p c.release.new.p
-    e.given.puts.agent e.later c.release.ensures.later (RootedSpent why) w)
+pub returns-in-Present : goal.returns-in-Present
+returns-in-Present g c =
+    record {
+      stopped = let f = present g (goal.at.returns-in-Present g c).In-Present in
+          let s = g.L.Links.seat _ c.args.p.now in
+          let x = c.in-Present in
+          let hand = present_hand (split_ordering _) (Root 0) (dummy_place c.args.bucket) x.passed x.left x.first s _ x.node x.next f in
+          found_stops _ c.args.bucket (Root 0) x.passed x.left x.first x.node x.next s _ _ f (c.let_all_go-in-Present.ensures.gone s.slots hand) c.requires.idle.fresh
+          (g.met.L.Links.allowed _ _ c.let_all_go-in-Present.ensures.pass);
+      pass = c.let_all_go-in-Present.ensures.pass;
+      later = goes_on _ _ _ c.in-Present.ensures.later c.let_all_go-in-Present.ensures.later;
+      lacking = λ is. cc;
+      worn = λ why is. cc;
+    }
 
-pub let_all_go-requires-clause-hands : goal.let_all_go-requires-clause-hands
-let_all_go-requires-clause-hands g c =
-    let s = g.L.Links.seat c.args.links.now c.args.p.now in
-    let x = c.in-Absent in
-    let e = c.in-Err.ensures in (
-      s.slots,
-      absent_hand_on (split_ordering _) (Root 0) (dummy_place c.args.bucket) x.passed c.args.bucket 0 x.left x.first x.right s _ _
-          (absent g (goal.at.let_all_go-requires-clause-hands g c).In-Absent) (idle_room s c.requires.idle).one e.none (g.met.L.Links.allowed _ _ e.pass),
-    )
-
-pub returns-in-Err-clause-stopped : goal.returns-in-Err-clause-stopped
-returns-in-Err-clause-stopped g c =
-    let s = g.L.Links.seat c.args.links.now c.args.p.now in
-    let x = c.in-Absent in
-    let e = c.in-Err.ensures in
-    lacking_stops _ c.args.bucket s _ (no_dummy _ c.args.bucket (Root 0) x.passed x.left x.first x.right s _ _ _
-    (absent g (goal.at.returns-in-Err-clause-stopped g c).In-Absent) (idle_room s c.requires.idle) c.requires.idle.fresh e.none (g.met.L.Links.allowed _ _ e.pass)
-    (c.let_all_go.ensures.gone s.slots))
-
-pub returns-in-Err-clause-lacking : goal.returns-in-Err-clause-lacking
-returns-in-Err-clause-lacking g c = λ is.
-    let q = (absent g (goal.at.returns-in-Err-clause-lacking g c).In-Absent).behind.quiet in
-    let e = c.in-Err.ensures in
-    let gone = c.let_all_go.ensures in
-    told_later g.L.Links g.met.L.Links.steps_add g.met.L.Links.seen_is c.args.links.now c.args.p.now c.search_for.new.p _ _ c.requires.pass
-    c.in-Absent.ensures.pass q.puts q.some c.in-Absent.ensures.later (goes_on _ _ _ e.later gone.later) NoNode
-    (told_refused g.L.Links g.met.L.Links.lacking_stays g.met.L.Links.worn_stays c.args.links.now c.search_for.new.p c.give.new.p c.let_all_go.new.p e.later gone.later e.lacking)
-
-pub let_all_go-requires-in-Present-clause-hands : goal.let_all_go-requires-in-Present-clause-hands
-let_all_go-requires-in-Present-clause-hands g c =
-    let s = g.L.Links.seat _ c.args.p.now in
-    let x = c.in-Present in (
-      s.slots,
-      present_hand (split_ordering _) (Root 0) (dummy_place c.args.bucket) x.passed x.left x.first s _ x.node
-          x.next (present g (goal.at.let_all_go-requires-in-Present-clause-hands g c).In-Present),
-    )
-
-pub returns-in-Present-clause-stopped : goal.returns-in-Present-clause-stopped
-returns-in-Present-clause-stopped g c =
-    let f = present g (goal.at.returns-in-Present-clause-stopped g c).In-Present in
-    let s = g.L.Links.seat _ c.args.p.now in
-    let x = c.in-Present in
-    let hand = present_hand (split_ordering _) (Root 0) (dummy_place c.args.bucket) x.passed x.left x.first s _ x.node x.next f in
-    found_stops _ c.args.bucket (Root 0) x.passed x.left x.first x.node x.next s _ _ f (c.let_all_go-in-Present.ensures.gone s.slots hand) c.requires.idle.fresh
-    (g.met.L.Links.allowed _ _ c.let_all_go-in-Present.ensures.pass)
-
-pub give-requires-clause-pass : goal.give-requires-clause-pass
-give-requires-clause-pass g c = c.in-Absent.ensures.pass
-
-pub add_node-done-requires-clause-pass : goal.add_node-done-requires-clause-pass
-add_node-done-requires-clause-pass g c = c.in-Ok.ensures.pass
-
-pub release-requires-clause-pass : goal.release-requires-clause-pass
-release-requires-clause-pass g c = c.add_node-done.ensures.pass
-
-pub let_all_go-requires-clause-pass : goal.let_all_go-requires-clause-pass
-let_all_go-requires-clause-pass g c = c.in-Err.ensures.pass
-
-pub let_all_go-requires-in-Present-clause-pass : goal.let_all_go-requires-in-Present-clause-pass
-let_all_go-requires-in-Present-clause-pass g c = c.in-Present.ensures.pass
-
-pub returns-in-Over-clause-pass : goal.returns-in-Over-clause-pass
-returns-in-Over-clause-pass g c = c.in-Over.ensures.pass
-
-pub returns-in-Over-clause-later : goal.returns-in-Over-clause-later
-returns-in-Over-clause-later g c = c.in-Over.ensures.later
-
-pub returns-in-Ok-clause-pass : goal.returns-in-Ok-clause-pass
-returns-in-Ok-clause-pass g c = c.release.ensures.pass
-
-pub returns-in-Ok-clause-later : goal.returns-in-Ok-clause-later
-returns-in-Ok-clause-later g c =
-    goes_on _ _ _ c.in-Absent.ensures.later (goes_on _ _ _ c.in-Ok.ensures.later (goes_on _ _ _ c.add_node-done.ensures.later c.release.ensures.later))
-
-pub returns-in-Err-clause-pass : goal.returns-in-Err-clause-pass
-returns-in-Err-clause-pass g c = c.let_all_go.ensures.pass
-
-pub returns-in-Err-clause-later : goal.returns-in-Err-clause-later
-returns-in-Err-clause-later g c = goes_on _ _ _ c.in-Absent.ensures.later (goes_on _ _ _ c.in-Err.ensures.later c.let_all_go.ensures.later)
-
-pub returns-in-Present-clause-pass : goal.returns-in-Present-clause-pass
-returns-in-Present-clause-pass g c = c.let_all_go-in-Present.ensures.pass
-
-pub returns-in-Present-clause-later : goal.returns-in-Present-clause-later
-returns-in-Present-clause-later g c = goes_on _ _ _ c.in-Present.ensures.later c.let_all_go-in-Present.ensures.later
+pub returns-in-Err : goal.returns-in-Err
+returns-in-Err g c =
+    record {
+      stopped = let s = g.L.Links.seat c.args.links.now c.args.p.now in
+          let x = c.in-Absent in
+          let e = c.in-Err.ensures in
+          lacking_stops _ c.args.bucket s _ (no_dummy _ c.args.bucket (Root 0) x.passed x.left x.first x.right s _ _ _
+          (absent g (goal.at.returns-in-Err g c).In-Absent) (idle_room s c.requires.idle) c.requires.idle.fresh e.none (g.met.L.Links.allowed _ _ e.pass)
+          (c.let_all_go.ensures.gone s.slots));
+      lacking = λ is.
+          let q = (absent g (goal.at.returns-in-Err g c).In-Absent).behind.quiet in
+          let e = c.in-Err.ensures in
+          let gone = c.let_all_go.ensures in
+          told_later g.L.Links g.met.L.Links.steps_add g.met.L.Links.seen_is c.args.links.now c.args.p.now c.search_for.new.p _ _ c.requires.pass
+          c.in-Absent.ensures.pass q.puts q.some c.in-Absent.ensures.later (goes_on _ _ _ e.later gone.later) NoNode
+          (told_refused g.L.Links g.met.L.Links.lacking_stays g.met.L.Links.worn_stays c.args.links.now c.search_for.new.p c.give.new.p c.let_all_go.new.p e.later gone.later e.lacking);
+      pass = c.let_all_go.ensures.pass;
+      later = goes_on _ _ _ c.in-Absent.ensures.later (goes_on _ _ _ c.in-Err.ensures.later c.let_all_go.ensures.later);
+      worn = λ why is. cc;
+    }

@@ -27,11 +27,28 @@ use Rattle.orc_split_set.specs.declared.bucket.Rooted.{Rooted}
 use Rattle.orc_split_set.specs.declared.bucket.Rooted.TheVariants.{NoNode as RootedNoNode, Spent as RootedSpent}
 use Rattle.orc_split_set.proofs.set.SplitSetSharedSet.insert.Goals as goal
 
-pub grow_after-grown-requires-clause-idle : goal.grow_after-grown-requires-clause-idle
-grow_after-grown-requires-clause-idle g c =
+pub prepare-rooted-requires : goal.prepare-rooted-requires
+prepare-rooted-requires g c =
+    let rooted = c.args.self.now.rooted in
+    record { pass = c.requires.usable.0; most = (omega (arith, rooted.1), rooted.0); idle = c.requires.usable.1 }
+
+pub insert_key-turn-requires : goal.insert_key-turn-requires
+insert_key-turn-requires g c =
+    let rooted = c.args.self.now.rooted in
+    let before = c.prepare-rooted.ensures in
+    record { pass = before.pass; most = (omega (arith, rooted.1), rooted.0); idle = call_idle before.prepared.call c.requires.usable.1 }
+
+pub grow_after-grown-requires : goal.grow_after-grown-requires
+grow_after-grown-requires g c =
+    let rooted = c.args.self.now.rooted in
     let t0 = g.L.Links.seat c.args.self.now.links c.prepare-rooted.new.p in
-    (insert_keeps (split_reading _) (λ answer. Added t0.agent c.args.key answer) c.args.turns t0 _ (answer_by c.insert_key-turn.result)
-    c.insert_key-turn.ensures.inserted (call_idle c.prepare-rooted.ensures.prepared.call c.requires.usable.1)).0
+    let done = c.insert_key-turn.ensures in
+    record {
+      pass = done.pass;
+      most = (omega (arith, rooted.1), rooted.0);
+      idle = (insert_keeps (split_reading _) (λ answer. Added t0.agent c.args.key answer) c.args.turns t0 _ (answer_by c.insert_key-turn.result)
+          done.inserted (call_idle c.prepare-rooted.ensures.prepared.call c.requires.usable.1)).0;
+    }
 
 pub returns : goal.returns
 returns g c =
