@@ -40,3 +40,9 @@ returns-clause-quiet g c =
     subst (λ ps. IsNoLonger c.args.domain.now ps after) c.as_mut_slice.ensures.value c.drain_all.ensures.longest in
     rw (with_items_is c.args.passes.now after (search (rules, places)))
     (nothing_more c.args.domain.now before after all.belong heard (some_passes c.args.domain.now before all) longest)
+
+pub returns-clause-all : goal.returns-clause-all
+returns-clause-all g c = rw (with_items_is c.args.passes.now c.drain_all.new.passes (search (rules, places))) c.drain_all.ensures.all
+
+pub returns-clause-own : goal.returns-clause-own
+returns-clause-own g c = rw (with_items_is c.args.passes.now c.drain_all.new.passes (search (rules, places))) c.drain_all.ensures.own
