@@ -54,7 +54,7 @@ module _ {D N : Type 0} {d : discipline.Ghosts D N} {m : machine.Ghosts Plain N 
     (domain : PlainDomain D N) (p q : PlainPass D N (PlainShape N) PlainOp (PlainStep N) (Unit {0}) (Unit {0}) d m)
   where
     -- what a pass of the domain has seen is what its board tells
-    events_later : IsPassOf domain p → IsPassOf domain q → IsPrefix (shows domain.board p.pass).events (shows domain.board q.pass).events
+    pub events_later : IsPassOf domain p → IsPassOf domain q → IsPrefix (shows domain.board p.pass).events (shows domain.board q.pass).events
         → IsPrefix (journal_of p) (journal_of q)
     events_later h k = subst (λ (z : Bounds × Bounds). IsPrefix (shows_by z.0 p.pass).events (shows_by z.1 q.pass).events)
         (λ i. (sym h.shape i, sym k.shape i))

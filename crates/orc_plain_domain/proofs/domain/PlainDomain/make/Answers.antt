@@ -39,3 +39,12 @@ returns-clause-next g c =
     (each_at (record { board = board }) c.in_ok-passes.passes.items c.in_ok-board.passes.items c.in_ok-passes.ensures.long c.in_ok-passes.ensures.same
     (λ i q. (shows board q).agent ≡ i) c.in_ok-board.ensures.agents)
     (c.in_ok-passes.ensures.long ∙ c.in_ok-board.ensures.passes) (omega (arith, some))
+
+pub make-requires : goal.make-requires
+make-requires g c = record { holds = c.requires.holds; seed = c.requires.seed }
+
+pub returns-clause-bounds : goal.returns-clause-bounds
+returns-clause-bounds g c = c.in_ok-board.ensures.bounds
+
+pub returns-clause-passes : goal.returns-clause-passes
+returns-clause-passes g c = c.in_ok-passes.ensures.long ∙ c.in_ok-board.ensures.passes

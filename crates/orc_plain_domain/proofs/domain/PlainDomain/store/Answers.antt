@@ -1,11 +1,12 @@
-use Rattle.std.proofs.Common.{◌≢◌, ◌<◌, ◌∙◌, Some, ap, sym, subst}
+use Rattle.std.proofs.Common.{◌≢◌, ◌<◌, ◌∙◌, Some, ap, refl, sym, subst}
 use Rattle.orc_plain_board.specs.Calls.{KnowsTarget}
 use Rattle.orc_plain_board.specs.Views.{shows}
 use Rattle.orc_words.specs.declared.packed.RowLink.{RowLink}
 use Rattle.orc_plain_domain.specs.Passes.{domain_bounds}
 use Rattle.orc_plain_domain.proofs.OneStep.{aims, may_aim}
 use Rattle.orc_plain_domain.proofs.OneStep.{fresh_is}
-use Rattle.orc_plain_domain.proofs.Growing.{still_adds}
+use Rattle.orc_plain_domain.proofs.Growing.{adds_grow, still_adds}
+use Rattle.orc_plain_domain.proofs.Looking.{events_later}
 use Rattle.orc_plain_domain.proofs.Naming.{hold_below, target_known, target_other, target_plain}
 use Rattle.orc_plain_domain.proofs.domain.PlainDomain.store.Goals as goal
 
@@ -48,3 +49,19 @@ returns-clause-aimed g c =
     aims c.args.self.now c.args.p.now c.requires.pass c.link_store.new.p c.link_store.ensures.belongs c.args.fresh.now c.row.result c.args.number c.row.ensures
     c.requires.may.fresh c.args.to c.target_link-link.result c.requires.may.target c.target_link-link.ensures
     c.link_store.ensures.replaces.adds c.link_store.ensures.fresh
+
+pub link_store-requires-clause-belongs : goal.link_store-requires-clause-belongs
+link_store-requires-clause-belongs g c = c.requires.pass.board
+
+pub link_store-requires-clause-number : goal.link_store-requires-clause-number
+link_store-requires-clause-number g c = c.requires.number
+
+pub returns-clause-later : goal.returns-clause-later
+returns-clause-later g c =
+    let adds = c.link_store.ensures.replaces.adds in
+    events_later c.args.self.now c.args.p.now _ c.requires.pass
+    (still_adds c.args.self.now c.args.p.now c.requires.pass c.link_store.new.p c.link_store.ensures.belongs _ adds)
+    (adds_grow (domain_bounds c.args.self.now) _ _ _ _ adds).events
+
+pub returns-clause-next : goal.returns-clause-next
+returns-clause-next g c = refl

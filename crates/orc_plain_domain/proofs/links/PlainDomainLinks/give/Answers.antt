@@ -1,5 +1,6 @@
-use Rattle.std.proofs.Common.{◌%◌, ◌+◌, ◌≡◌, ◌∙◌, ap, arith, refl, subst, sym}
+use Rattle.std.proofs.Common.{Some, ℕ, ◌%◌, ◌+◌, ◌≡◌, ◌∙◌, ap, arith, refl, subst, sym}
 use Rattle.orc_heap.proofs.Pieces.{goes_on}
+use Rattle.orc_heap.specs.Heap.{new_node}
 use Rattle.orc_heap.specs.Slots.{Hold}
 use Rattle.orc_any_domain.specs.Rows.{IsListed}
 use Rattle.orc_plain_domain.specs.Passes.{domain_bounds, rows_of}
@@ -7,6 +8,7 @@ use Rattle.orc_plain_board.specs.Views.{shows}
 use Rattle.orc_plain_domain.specs.Calls.{Loses}
 use Rattle.orc_any_domain.specs.Turns.{IsNext}
 use Rattle.orc_plain_domain.proofs.Giving.{gives, tried_all, tried_next, tried_none, tried_one}
+use Rattle.orc_plain_domain.proofs.Looking.{events_later}
 use Rattle.orc_plain_domain.proofs.links.PlainDomainLinks.give.Goals as goal
 
 pub loop-offset-init : goal.loop-offset-init
@@ -54,3 +56,41 @@ returns-then-take-clause-next g c =
 
 pub returns-clause-same_next : goal.returns-clause-same_next
 returns-clause-same_next g c = c.loop-offset.invariant.same_next
+
+pub take-requires : goal.take-requires
+take-requires g c =
+    let i = c.loop-offset.invariant in
+    record { pass = i.pass; row = omega (arith, c.around-row.ensures, i.inside.0, i.inside.1); fresh = i.fresh }
+
+pub furnish-requires : goal.furnish-requires
+furnish-requires g c =
+    let i = c.loop-offset.invariant in
+    let took = c.if-take.ensures.took in
+    record {
+      pass = c.take.ensures.pass;
+      row = omega (arith, c.around-row.ensures, i.inside.0, i.inside.1);
+      fresh = took.fresh;
+      slot = c.requires.slot.below;
+      node = took.node ∙ ap (λ (a : ℕ). Some (new_node a)) (sym took.puts.agent);
+    }
+
+pub returns-clause-pass : goal.returns-clause-pass
+returns-clause-pass g c = c.loop-offset.invariant.pass
+
+pub returns-clause-later : goal.returns-clause-later
+returns-clause-later g c =
+    let i = c.loop-offset.invariant in
+    events_later c.args.self.now c.args.p.now c.loop-offset.p c.requires.pass i.pass (i.only.puts.part, sym i.only.puts.is)
+
+pub returns-clause-none : goal.returns-clause-none
+returns-clause-none g c = c.loop-offset.invariant.only
+
+pub returns-then-take-clause-pass : goal.returns-then-take-clause-pass
+returns-then-take-clause-pass g c = c.furnish.ensures.pass
+
+pub returns-then-take-clause-later : goal.returns-then-take-clause-later
+returns-then-take-clause-later g c =
+    let given = gives c.args.self.now c.args.p.now c.loop-offset.p c.take.new.p c.rows-rows.result c.args.p.now.next c.loop-offset.offset
+    c.loop-offset.invariant c.take.ensures.pass c.take.ensures.same _ c.if-take.ensures.took c.furnish.new.p c.args.slot c.args.first c.args.second
+    c.furnish.ensures.furnished c.furnish.result c.furnish.ensures.hold in
+    events_later c.args.self.now c.args.p.now c.furnish.new.p c.requires.pass c.furnish.ensures.pass (given.puts.part, sym given.puts.is)
