@@ -50,14 +50,17 @@ rooms_set : (room : ℕ) (agents : List Agent) (a : ℕ) (d : Agent) → EachWit
 rooms_set room agents a d h new x l true t = let e = eqb-true x a t in rw (e, get_or-set_same agents a d (nobody room) (rw e at l)) (new (rw e at l))
 rooms_set room agents a d h new x l false t = rw (get_or-set_other agents a x d (nobody room) (λ p. false≢true (sym t ∙ eq-eqb x a p))) (h x l)
 
+-- after a step each work list has the room that it had
+pub step_rooms : (m : Machine) (a : ℕ) (op : Op) → EachWithRoom m.bounds.rows m.agents → EachWithRoom m.bounds.rows (step m a op).agents
+step_rooms m a op rooms x l =
+    rooms_set m.bounds.rows m.agents a _ rooms (λ h. after_room op (record_at m a) _ ∙ rooms a h) x (rw (length-set m.agents a _) at l) (x == a) refl
+
 step_whole : (m : Machine) (a : ℕ) (op : Op) → IsWhole m → IsWhole (step m a op)
 step_whole m a op whole = record {
   shape = whole.shape;
   words = length-set m.words _ _ ∙ whole.words;
   agents = length-set m.agents a _ ∙ whole.agents;
-  rooms = λ x l.
-      rooms_set m.bounds.rows m.agents a _ whole.rooms (λ h. after_room op (record_at m a) _ ∙ whole.rooms a h) x (rw (length-set m.agents a _) at l)
-      (x == a) refl;
+  rooms = step_rooms m a op whole.rooms;
 }
 
 new_whole : (b : Bounds) → IsShape b → IsWhole (new_machine b)
