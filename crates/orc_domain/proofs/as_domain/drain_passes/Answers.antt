@@ -3,7 +3,7 @@ use Rattle.std.proofs.Common.{All, rules, subst, sym}
 use Rattle.std.proofs.lemmas.List.{places, with_items_is}
 use mathlib.Core.List.{IsPrefix}
 use Rattle.orc_domain.proofs.Resting.{all_passes}
-use Rattle.orc_domain.specs.Ends.{AreAll, AreIdle, whole_journal}
+use Rattle.orc_domain.specs.Ends.{AddsNoEvents, AreAll, AreIdle, whole_journal}
 use Rattle.orc_domain.specs.Passes.{journal_of}
 use Rattle.orc_domain.proofs.as_domain.drain_passes.Goals as goal
 
@@ -15,7 +15,16 @@ pub drain_all-requires-clause-idle : goal.drain_all-requires-clause-idle
 drain_all-requires-clause-idle g c =
     subst (AreIdle c.args.domain.now) (sym c.as_mut_slice.ensures.value) (λ i p low. (c.requires.each i p low).1)
 
-pub returns-clause-heard : goal.returns-clause-heard
-returns-clause-heard g c =
-    rw (with_items_is c.args.passes.now c.drain_all.new.passes (search (rules, places)))
-    (subst (λ ps. All (λ p. IsPrefix (journal_of p) (whole_journal c.drain_all.new.passes)) ps) c.as_mut_slice.ensures.value c.drain_all.ensures.heard)
+pub returns : goal.returns
+returns g c =
+    let d = c.args.domain.now in
+    let new = c.drain_all.new.passes in
+    let value = c.as_mut_slice.ensures.value in
+    rw (with_items_is c.args.passes.now new (search (rules, places))) (record {
+      all = c.drain_all.ensures.all;
+      own = c.drain_all.ensures.own;
+      rest = c.drain_all.ensures.rest;
+      later = subst (λ ps. IsPrefix (whole_journal ps) (whole_journal new)) value c.drain_all.ensures.later;
+      heard = subst (λ ps. All (λ p. IsPrefix (journal_of p) (whole_journal new)) ps) value c.drain_all.ensures.heard;
+      quiet = subst (λ ps. AddsNoEvents d ps new) value c.drain_all.ensures.quiet;
+    })

@@ -3,6 +3,7 @@ use Rattle.std.specs.Borrow.{Bor}
 use Rattle.orc_core.specs.Allowed.{may_target}
 use Rattle.orc_core.specs.RecordParts.{names}
 use Rattle.orc_any_domain.specs.Names.{target_link}
+use Rattle.orc_machine_rest.proofs.TakenIn.{done_later}
 use Rattle.orc_heap.specs.Seats.{HoldsFresh, HoldsTarget}
 use Rattle.orc_heap.specs.Slots.{Hold}
 use Rattle.orc_machine_board.specs.Licences.{AimAllowed}
@@ -96,3 +97,51 @@ pub returns-clause-taken_in : goal.returns-clause-taken_in
 returns-clause-taken_in g c =
     leaves_both (stage_of c.requires.pass.board) (stage_of c.check.ensures.belongs) c.check.ensures.checks (stage_of c.store-2.ensures.belongs)
     c.check.ensures.checks.leaves c.store-2.ensures.leaves
+
+pub returns-clause-pass : goal.returns-clause-pass
+returns-clause-pass g c =
+    pass_of c.store-2.ensures.belongs (record { ready = c.store-2.ensures.ready; untouched = c.store-2.ensures.untouched }) c.requires.pass.inside
+
+pub returns-clause-later : goal.returns-clause-later
+returns-clause-later g c =
+    let leaves = leaves_both (stage_of c.requires.pass.board) (stage_of c.check.ensures.belongs) c.check.ensures.checks (stage_of c.store-2.ensures.belongs)
+    c.check.ensures.checks.leaves c.store-2.ensures.leaves in
+    done_later _ _ _ leaves.ops leaves.done
+
+pub returns-in_default-clause-pass : goal.returns-in_default-clause-pass
+returns-in_default-clause-pass g c =
+    pass_of c.store.ensures.belongs (record { ready = c.store.ensures.ready; untouched = c.store.ensures.untouched }) c.requires.pass.inside
+
+pub returns-in_default-clause-later : goal.returns-in_default-clause-later
+returns-in_default-clause-later g c = done_later _ _ _ c.store.ensures.leaves.ops c.store.ensures.leaves.done
+
+pub returns-in_default-clause-taken_in : goal.returns-in_default-clause-taken_in
+returns-in_default-clause-taken_in g c = c.store.ensures.leaves
+
+pub returns-in_err-check-clause-later : goal.returns-in_err-check-clause-later
+returns-in_err-check-clause-later g c = let idle = c.check.ensures.checks in (idle.more, sym idle.journal)
+
+pub returns-in_err-check-clause-taken_in : goal.returns-in_err-check-clause-taken_in
+returns-in_err-check-clause-taken_in g c = c.check.ensures.checks.leaves
+
+pub check-requires-clause-belongs : goal.check-requires-clause-belongs
+check-requires-clause-belongs g c = c.requires.pass.board
+
+pub check-requires-clause-ready : goal.check-requires-clause-ready
+check-requires-clause-ready g c = c.requires.pass.ready
+
+pub store-requires-clause-belongs : goal.store-requires-clause-belongs
+store-requires-clause-belongs g c = c.requires.pass.board
+
+pub store-requires-clause-ready : goal.store-requires-clause-ready
+store-requires-clause-ready g c = c.requires.pass.ready
+
+pub store-requires-clause-untouched : goal.store-requires-clause-untouched
+store-requires-clause-untouched g c = c.requires.pass.untouched
+
+pub store-requires-2-clause-belongs : goal.store-requires-2-clause-belongs
+store-requires-2-clause-belongs g c = c.check.ensures.belongs
+
+pub store-requires-2-clause-ready : goal.store-requires-2-clause-ready
+store-requires-2-clause-ready g c =
+    (read_between (stage_of c.requires.pass.board) (stage_of c.check.ensures.belongs) c.check.ensures.checks (between_of c.requires.pass)).ready

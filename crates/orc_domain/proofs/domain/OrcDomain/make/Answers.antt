@@ -1,5 +1,6 @@
-use Rattle.std.proofs.Common.{arith, ◌∙◌, ◌≡◌}
+use Rattle.std.proofs.Common.{ap, arith, ◌∙◌, ◌≡◌}
 use Rattle.orc_any_domain.proofs.FirstRows.{first_rows}
+use Rattle.orc_heap.specs.Seeds.{opening_events}
 use Rattle.orc_machine_board.specs.Views.{shows}
 use Rattle.orc_words.specs.Bounds.{bounds_of}
 use Rattle.orc_domain.proofs.Making.{all_belong, all_idle, each_at, opening_seen}
@@ -37,3 +38,18 @@ returns-clause-next g c =
     c.in_ok-passes.ensures.same
     (λ i q. (shows q).agent ≡ i) c.in_ok-board.ensures.agents)
     (c.in_ok-passes.ensures.long ∙ c.in_ok-board.ensures.passes) (omega (arith, some))
+
+pub returns-clause-bounds : goal.returns-clause-bounds
+returns-clause-bounds g c = c.in_ok-board.ensures.bounds
+
+pub returns-clause-seed : goal.returns-clause-seed
+returns-clause-seed g c = c.in_ok-board.ensures.seed
+
+pub returns-clause-opening : goal.returns-clause-opening
+returns-clause-opening g c = ap opening_events c.in_ok-board.ensures.seed
+
+pub returns-clause-passes : goal.returns-clause-passes
+returns-clause-passes g c = c.in_ok-passes.ensures.long ∙ c.in_ok-board.ensures.passes
+
+pub make-requires : goal.make-requires
+make-requires g c = c.requires

@@ -1,3 +1,4 @@
+use Rattle.std.proofs.Common.{refl}
 use Rattle.orc_domain.proofs.Looking.{Begun, Starts, begin_can, look_null, null_ends}
 use Rattle.orc_domain.proofs.Protected.{Followed, held, held_so, in_held, may_protect, went_off, went_so}
 use Rattle.orc_domain.proofs.Ending.{between_of, ends_later, pass_of, stage_of}
@@ -76,3 +77,24 @@ returns-then-same-clause-taken_in g c = (held_so (followed g (goal.at.returns-th
 
 pub returns-then-same-clause-later : goal.returns-then-same-clause-later
 returns-then-same-clause-later g c = ends_later (held_so (followed g (goal.at.returns-then-same-clause-later g c).After-protect-same) c.if-same.true)
+
+pub returns-in_default-clause-later : goal.returns-in_default-clause-later
+returns-in_default-clause-later g c = ends_later (null_ends (starts g (goal.at.returns-in_default-clause-later g c).After-load-one))
+
+pub load-one-requires-clause-belongs : goal.load-one-requires-clause-belongs
+load-one-requires-clause-belongs g c = c.requires.pass.board
+
+pub protect-same-requires-clause-belongs : goal.protect-same-requires-clause-belongs
+protect-same-requires-clause-belongs g c = c.load-one.ensures.belongs
+
+pub protect-same-requires-clause-known : goal.protect-same-requires-clause-known
+protect-same-requires-clause-known g c = c.load-one.ensures.link
+
+pub returns-clause-next : goal.returns-clause-next
+returns-clause-next g c = refl
+
+pub returns-then-same-clause-next : goal.returns-then-same-clause-next
+returns-then-same-clause-next g c = refl
+
+pub returns-in_default-clause-next : goal.returns-in_default-clause-next
+returns-in_default-clause-next g c = refl

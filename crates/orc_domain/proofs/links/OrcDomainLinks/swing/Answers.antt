@@ -1,4 +1,7 @@
-use Rattle.std.proofs.Common.{refl, sym}
+use Rattle.std.proofs.Common.{refl, subst, sym}
+use Rattle.orc_heap.specs.Seats.{HoldsPlace, HoldsWant}
+use Rattle.orc_machine_rest.proofs.TakenIn.{done_later}
+use Rattle.orc_domain.specs.Passes.{domain_numbers}
 use Rattle.orc_domain.proofs.Ending.{between_of, pass_of, stage_of}
 use Rattle.orc_domain.proofs.Swinging.{leaves_both, move_on, read_between, read_untouched, swings_both}
 use Rattle.orc_domain.proofs.links.OrcDomainLinks.swing.Goals as goal
@@ -62,3 +65,25 @@ returns-clause-worn g c = tt
 
 pub returns-clause-next : goal.returns-clause-next
 returns-clause-next g c = refl
+
+pub returns-clause-pass : goal.returns-clause-pass
+returns-clause-pass g c =
+    pass_of c.exchange-done.ensures.belongs (record { ready = c.exchange-done.ensures.ready; untouched = c.exchange-done.ensures.untouched }) c.requires.pass.inside
+
+pub returns-clause-later : goal.returns-clause-later
+returns-clause-later g c =
+    let leaves = leaves_both (stage_of c.requires.pass.board) (stage_of c.prepare.ensures.belongs) c.prepare.ensures.checks (stage_of c.exchange-done.ensures.belongs)
+    c.prepare.ensures.checks.leaves c.exchange-done.ensures.leaves in
+    done_later _ _ _ leaves.ops leaves.done
+
+pub exchange-done-requires-clause-ready : goal.exchange-done-requires-clause-ready
+exchange-done-requires-clause-ready g c =
+    (read_between (stage_of c.requires.pass.board) (stage_of c.prepare.ensures.belongs) c.prepare.ensures.checks (between_of c.requires.pass)).ready
+
+pub exchange-done-requires-clause-place : goal.exchange-done-requires-clause-place
+exchange-done-requires-clause-place g c =
+    subst (λ slots. HoldsPlace (domain_numbers c.args.self.now) slots c.args.place.now) (sym c.prepare.ensures.checks.only.slots) c.requires.place
+
+pub exchange-done-requires-clause-links : goal.exchange-done-requires-clause-links
+exchange-done-requires-clause-links g c =
+    subst (λ slots. HoldsWant slots c.args.from.now × HoldsWant slots c.args.to.now) (sym c.prepare.ensures.checks.only.slots) c.requires.links
