@@ -2,6 +2,6 @@
 # Times 50,000,000 loads of a root's link by `link_load`, and as many of a bare atomic word, on one thread.
 # What they found is printed on standard output, the times on standard error.
 set -euo pipefail
-cd "$(dirname "$0")/../crates/boards_bench"
-rt run >/dev/null 2>&1
-out/boards_bench plain
+cd "$(dirname "$0")/.."
+python3 crates/build.py boards_bench boards_bench 2>/dev/null
+crates/boards_bench/out/boards_bench plain

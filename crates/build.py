@@ -1,12 +1,13 @@
 #!/usr/bin/env python3
-"""build.py NAME CRATE: proves and builds the program of this crate, which users call NAME, with the libraries below it.
+"""build.py NAME CRATE: proves and builds the program, or the static library, of this crate, which users call NAME, with the
+libraries below it.
 
 Lower libraries come first, and as many side by side as there are processors and memory, the longest chain before others. What
 is built is kept, so that a call that was stopped is gone on with. On standard error it says how far it is: by one line that
 is renewed on a terminal, else by a line for each crate. The status is 0, or 70 where the program could not be built.
 
-A run of rt locks each crate that it reads. So each library is built in a folder of its own, with the sources of the crates
-below it and what was built of them, and moved to its crate's out/ once it is proved."""
+Each crate is built in a folder of its own, with its sources, those of the crates below it and what was built of them, and what is
+built of it is moved to its out/ once it is proved: the statements of a library, for those above it, lie in out/statements."""
 
 import contextlib
 import fcntl
@@ -23,16 +24,18 @@ import time
 TOP = os.path.dirname(os.path.dirname(os.path.abspath(__file__)))
 PARTS = ('src', 'specs', 'proofs')
 FAILED = 70
-# rt, run so that it sums up a crate's sources once for each sum over those above it.
-RT = [sys.executable, f'{TOP}/crates/run_rt.py', shutil.which('rt') or 'rt']
+# What proves and builds one crate.
+PROVE = [sys.executable, f'{TOP}/crates/prove.py', shutil.which('rt') or 'rt']
+# Where what was built of a library lies, and where it is built and read.
+KEPT, MADE = 'out/statements', 'out/rlib'
 # How long proofs take, as measured: seconds for each byte of code, whatever the bytes of its proofs, where each crate counts some bytes
 # more than it has. What is measured here counts beside it, as much as its bytes are to those of the last number.
 SECONDS_A_BYTE = 0.002
 BYTES_A_CRATE = 10000
 BYTES_MEASURED = 100000
-# Each further job of a library reads all that it stands on once more: the dearest ones took longer so, and slowed those beside them.
-ONE_JOB = ['--jobs', '1']
-# Memory for a check that has just begun, and how long it counts as such.
+# The most jobs of one crate: each further one reads once more what the crate stands on.
+MOST_JOBS = 4
+# Memory for each job of a check that has just begun, and how long it counts as such.
 MEMORY, YOUNG = 2_000_000_000, 60
 
 
@@ -74,9 +77,9 @@ def folder_of(name):
     return f'{TOP}/crates/{name}'
 
 
-def sources(name):
+def sources(name, top=TOP):
     for part in PARTS:
-        for at, folders, files in os.walk(f'{folder_of(name)}/{part}'):
+        for at, folders, files in os.walk(f'{top}/crates/{name}/{part}'):
             folders.sort()
             yield from (f'{at}/{file}' for file in sorted(files))
 
@@ -88,14 +91,14 @@ def size(name):
 
 
 @functools.lru_cache(maxsize=None)
-def mark(name):
-    """A sum of all that the crate's library is built from."""
+def mark(name, top=TOP):
+    """A sum of all that the crate is built from, here or in the folder that it was built in, when that was first asked for."""
     found = hashlib.sha256(f'{kit()}\n{LINES[name]}\n'.encode())
-    for file in sources(name):
+    for file in sources(name, top):
         with open(file, 'rb') as it:
-            found.update(f'{file[len(TOP):]} {hashlib.sha256(it.read()).hexdigest()}\n'.encode())
+            found.update(f'{file[len(top):]} {hashlib.sha256(it.read()).hexdigest()}\n'.encode())
     for it in USES[name]:
-        found.update(mark(it).encode())
+        found.update(mark(it, top).encode())
     return found.hexdigest()
 
 
@@ -105,8 +108,7 @@ def kit():
 
 
 def is_built(name):
-    built = f'{folder_of(name)}/out/rlib'
-    return os.path.isfile(f'{built}/stamp') and text_of(f'{built}/mark') == mark(name)
+    return text_of(f'{folder_of(name)}/{KEPT}/mark') == mark(name)
 
 
 @contextlib.contextmanager
@@ -132,14 +134,9 @@ def link_or_copy(one, other):
         shutil.copy2(one, other)
 
 
-def link_or_copy_proof(one, other):
-    """What was proved is replaced; rt's other notes on it are written anew in place."""
-    (link_or_copy if one.endswith('.oantt') else shutil.copy2)(one, other)
-
-
-def copy_folder(one, other, copy=link_or_copy):
-    if os.path.isdir(one) and not os.path.isdir(other):
-        shutil.copytree(one, other, symlinks=True, copy_function=copy)
+def copy_folder(one, other):
+    if os.path.isdir(one):
+        shutil.copytree(one, other, symlinks=True, copy_function=link_or_copy)
 
 
 def workplace():
@@ -156,40 +153,33 @@ WORKPLACE = workplace()
 
 
 def prepare(name):
-    """Makes the folder that a library is built in; what an earlier call had proved of it there stays."""
+    """Makes the folder that a crate is built in."""
     place = f'{WORKPLACE}/{name}'
-    own = f'{place}/crates/{name}'
-    os.makedirs(f'{own}/out', mode=0o700, exist_ok=True)
-    with locked(own, f'waiting for an earlier build of {name} to end'):
-        for it in os.listdir(f'{place}/crates'):
-            for part in PARTS if it == name else ('.',):
-                shutil.rmtree(os.path.normpath(f'{place}/crates/{it}/{part}'), ignore_errors=True)
-        if not os.path.isfile(f'{own}/out/rlib/stamp'):
-            shutil.rmtree(f'{own}/out/rlib', ignore_errors=True)
-        with open(f'{place}/crates.txt', 'w', encoding='utf-8') as file:
-            file.writelines(f'{LINES[it]}\n' for it in sorted({name, *below(name)}))
-        for it in sorted({name, *below(name)}):
-            with locked(folder_of(it), f'waiting for another rt to finish in crates/{it}'):
-                for part in (*PARTS, 'out/rlib'):
-                    copy_folder(f'{folder_of(it)}/{part}', f'{place}/crates/{it}/{part}')
-        copy_folder(f'{folder_of(name)}/out/incremental', f'{own}/out/incremental', link_or_copy_proof)
-    return own
+    shutil.rmtree(place, ignore_errors=True)
+    os.makedirs(f'{place}/crates', mode=0o700)
+    link_or_copy(f'{TOP}/HANDLES', f'{place}/HANDLES')
+    with open(f'{place}/crates.txt', 'w', encoding='utf-8') as file:
+        file.writelines(f'{LINES[it]}\n' for it in sorted({name, *below(name)}))
+    for it in sorted({name, *below(name)}):
+        for part in PARTS:
+            copy_folder(f'{folder_of(it)}/{part}', f'{place}/crates/{it}/{part}')
+    for it in below(name):
+        copy_folder(f'{folder_of(it)}/{KEPT}', f'{place}/crates/{it}/{MADE}')
+    return place
 
 
-def take(name):
-    """Moves what was built of a library to its crate."""
-    made, out = f'{WORKPLACE}/{name}/crates/{name}/out', f'{folder_of(name)}/out'
-    if not os.path.isfile(f'{made}/rlib/stamp'):
-        raise Stopped(f'crates/{name} changed while it was built')
-    os.makedirs(out, exist_ok=True)
-    with locked(folder_of(name), f'waiting for another rt to finish in crates/{name}'):
-        with open(f'{made}/rlib/mark', 'w', encoding='utf-8') as file:
+def take(name, made):
+    """Moves what was built of a crate, a folder or a file, to that crate."""
+    place, kept = f'{WORKPLACE}/{name}', f'{folder_of(name)}/{KEPT if made == MADE else made}'
+    if mark(name, place) != mark(name):
+        raise Stopped(f'what crates/{name} is built from changed meanwhile')
+    os.makedirs(os.path.dirname(kept), exist_ok=True)
+    if made == MADE:
+        shutil.rmtree(kept, ignore_errors=True)
+        with open(f'{place}/crates/{name}/{MADE}/mark', 'w', encoding='utf-8') as file:
             file.write(mark(name))
-        for part in ('incremental', 'rlib'):
-            if os.path.isdir(f'{made}/{part}'):
-                shutil.rmtree(f'{out}/{part}', ignore_errors=True)
-                shutil.move(f'{made}/{part}', f'{out}/{part}')
-    shutil.rmtree(f'{WORKPLACE}/{name}', ignore_errors=True)
+    shutil.move(f'{place}/crates/{name}/{made}', kept)
+    shutil.rmtree(place, ignore_errors=True)
 
 
 def free_memory():
@@ -206,7 +196,7 @@ class Build:
         self.processors = len(os.sched_getaffinity(0))
         self.logs = f'{folder_of(program)}/out/build-logs'
         self.begun, self.told, self.line = time.monotonic(), 0, ''
-        self.running, self.since, self.took = {}, {}, {}
+        self.running, self.jobs, self.since, self.took = {}, {}, {}, {}
         self.done = {it for it in below(program) if is_built(it)}
 
     @functools.lru_cache(maxsize=None)
@@ -218,19 +208,31 @@ class Build:
         """Which of the crates that are left can be built, the longest chain first."""
         return sorted((it for it in left if done.issuperset(USES[it])), key=lambda it: (-self.height(it), it))
 
+    def idle(self):
+        """How many processors are left beside those that are being built."""
+        return self.processors - sum(self.jobs[it] for it in self.running)
+
+    def spare_memory(self):
+        """The memory that is left once those that are being built have theirs, and one more its own."""
+        return free_memory() - MEMORY * (1 + sum(self.jobs[it] for it in self.running if time.monotonic() - self.since[it] < YOUNG))
+
     def has_room(self):
         """Whether one more library can be built beside those that are being built."""
-        young = sum(time.monotonic() - self.since[it] < YOUNG for it in self.running)
-        return not self.running or (len(self.running) < self.processors and free_memory() - young * MEMORY >= MEMORY)
+        return not self.running or (self.idle() > 0 and self.spare_memory() >= 0)
 
-    def start(self, name):
-        if name == self.program:
-            words, folder = ['run'], folder_of(name)
-        else:
-            words, folder = ['lib', *ONE_JOB], prepare(name)
+    def start(self, name, ready):
+        """Starts a crate, with the processors that no other one of those that are ready waits for."""
+        self.jobs[name] = max(min(self.idle() // ready, 1 + self.spare_memory() // MEMORY, MOST_JOBS), 1)
+        place, words = prepare(name), [*PROVE, name, str(self.jobs[name])]
         with open(f'{self.logs}/{name}', 'w', encoding='utf-8') as log:
-            self.running[name] = subprocess.Popen([*RT, *words], cwd=folder, stdin=subprocess.DEVNULL, stdout=log, stderr=log)
+            self.running[name] = subprocess.Popen(words, cwd=place, stdin=subprocess.DEVNULL, stdout=log, stderr=log)
         self.since[name] = time.monotonic()
+
+    def made(self, name):
+        """What is built of a crate, in its folder."""
+        if name != self.program:
+            return MADE
+        return f'out/lib{name}.a' if 'staticlib' in LINES[name] else f'out/{name}'
 
     def fails(self, name):
         return self.running[name].returncode != 0
@@ -239,8 +241,7 @@ class Build:
         if self.fails(name):
             raise Stopped(f'{name} is not proved; its log is {self.logs}/{name}, with the end:\n'
                           + '\n'.join(text_of(f'{self.logs}/{name}').splitlines()[-20:]))
-        if name != self.program:
-            take(name)
+        take(name, self.made(name))
         del self.running[name]
         self.took[name] = time.monotonic() - self.since[name]
         self.done.add(name)
@@ -287,9 +288,9 @@ class Build:
         try:
             while self.program not in self.done:
                 ready = self.ready(self.done, self.crates - self.done - set(self.running))
-                for name in ready:
+                for at, name in enumerate(ready):
                     if self.has_room():
-                        self.start(name)
+                        self.start(name, len(ready) - at)
                 for name in sorted((it for it, ran in self.running.items() if ran.poll() is not None), key=self.fails):
                     self.end(name)
                 self.tell()
@@ -298,8 +299,9 @@ class Build:
             self.clear()
             for ran in self.running.values():
                 ran.terminate()
-            for ran in self.running.values():
-                ran.wait()
+            for name, ran in self.running.items():
+                if ran.wait() == 0:
+                    take(name, self.made(name))
         shutil.rmtree(WORKPLACE, ignore_errors=True)
 
 
