@@ -1,26 +1,37 @@
 //! Laps: so many posts on threads, and then the takes of all jobs.
 
-ghost use Rattle.std.specs.Prelude.{◌≡◌, ◌+◌, ◌≤◌, All, length};
+ghost use Rattle.std.specs.Prelude.{◌≡◌, ◌+◌, ◌≤◌, length};
 ghost use Rattle.orc_jobs.specs.GoodLines.{AreGood};
-ghost use Rattle.workers_bench.specs.Usable.{IsNewQueue, IsNewSet};
+ghost use Rattle.orc_workers.specs.Desks.{AreFresh};
+ghost use Rattle.workers_bench.specs.Usable.{IsNewQueue, IsNewSet, MayCall};
 
-use crate::bare::{next_passes, post_on_threads, take_bare};
-use orc_board::Gate;
+use crate::calls::{post, take};
+use orc_board::{Desk, Gate};
 use orc_chain_rule::Chain;
 use orc_containers::{Domain, new_queue, new_set};
 use orc_fifo_rule::Fifo;
-use orc_history::{LearnQueue, LearnSet, SharedQueue, SharedSet};
+use orc_history::{LearnQueue, LearnSet};
 use orc_jobs::Lines;
-use orc_workers::{fresh_desks, run_at_desks};
+use orc_workers::{fresh_desks, run_at_desks, run_workers};
 use std::alloc::Global;
 use std::io;
+use std::io::ErrorKind;
 use std::sync::Wait;
 use std::sync::atomic::{AtomicU64, Ordering};
 use std::thread::Threads;
 use std::time::{Clock, Instant};
 
 // How many rows each domain has.
-pub(crate) const ROWS: u32 = 65_535;
+const ROWS: u32 = 65_535;
+
+// So many posters and takers.
+#[derive(Clone, Copy, Drop)]
+pub(crate) struct Crew {
+    pub(crate) posters: u32,
+    pub(crate) takers: u32,
+    ghost some_posters: { (1 ≤ posters) × (posters ≤ 8) },
+    ghost few_takers: { takers ≤ 7 },
+}
 
 // Microseconds until the caller begins to take, microseconds of the whole lap, and how many jobs were taken.
 #[derive(Clone, Copy, Drop)]
@@ -55,34 +66,113 @@ fn micros_since(clock: &impl Clock, start: Instant) -> u64 {
     }
 }
 
-// A lap by workers of the board with new queues and a new set, which have one pass for each agent, or none where memory is refused.
+// What is answered where memory is refused.
+pub(crate) fn no_memory() -> io::Error {
+    io::Error::from(ErrorKind::OutOfMemory)
+}
+
+// A lap by workers of the board.
+fn lap_of_workers<R: Threads + Wait + Clock + Sync, Q: LearnQueue + Sync, S: LearnSet + Sync>(
+    rt: &R,
+    alloc: Global,
+    lines: &Lines,
+    crew: Crew,
+    queue: &Q,
+    rush: &Q,
+    set: &S,
+    mut desks: Vec<Desk<Q::Pass, S::Pass>>,
+) -> io::Result<Lap>
+where
+    Q::Pass: Send,
+    S::Pass: Send,
+    requires good { AreGood lines.now }
+    requires desks { AreFresh Q.SharedQueue S.SharedSet queue.now rush.now set.now 0 desks.items }
+    requires count { length desks.items ≡ 1 + (crew.posters + crew.takers) }
+    requires agents { (Q.agents queue.now ≡ 1 + (crew.posters + crew.takers)) × (Q.agents rush.now ≡ 1 + (crew.posters + crew.takers))
+        × (S.agents set.now ≡ 1 + (crew.posters + crew.takers)) }
+    requires first { (Q.first queue.now ≡ 0) × (Q.first rush.now ≡ 0) }
+{
+    let start = Instant::now(rt)?;
+    let watch = Stopwatch {
+        clock: rt,
+        start,
+        posting: AtomicU64::new(0),
+    };
+    let Ok(replies) = run_at_desks(
+        rt,
+        alloc,
+        lines,
+        crew.posters,
+        crew.takers,
+        queue,
+        rush,
+        set,
+        &mut desks,
+        &watch,
+    ) else {
+        return Err(no_memory());
+    };
+    let all = micros_since(rt, start);
+    let posting = watch.posting.load(Ordering::SeqCst);
+    let jobs = replies.takes.len() as u64;
+    Ok(Lap { posting, all, jobs })
+}
+
+// A lap by bare calls, on as many threads as there are desks but one, with which the caller takes.
+fn lap_of_calls<R: Threads + Clock + Sync, Q: LearnQueue + Sync, S: LearnSet + Sync>(
+    rt: &R,
+    alloc: Global,
+    posts: u32,
+    threads: u32,
+    queue: &Q,
+    rush: &Q,
+    set: &S,
+    mut desks: Vec<Desk<Q::Pass, S::Pass>>,
+) -> io::Result<Lap>
+where
+    Q::Pass: Send,
+    S::Pass: Send,
+    requires desks { AreFresh Q.SharedQueue S.SharedSet queue.now rush.now set.now 0 desks.items }
+    requires threads { 1 ≤ threads }
+{
+    let done = Vec::with_capacity(alloc, desks.len())?;
+    let Some(own) = desks.pop() else {
+        return Err(no_memory());
+    };
+    let work = |desk: Desk<Q::Pass, S::Pass>| -> Desk<Q::Pass, S::Pass>
+        requires { MayCall Q.SharedQueue S.SharedSet queue.now set.now desk × (1 ≤ threads) }
+    { post(queue, set, desk, posts, threads) };
+    let start = Instant::now(rt)?;
+    let _done = run_workers(rt, &work, desks, done);
+    let posting = micros_since(rt, start);
+    let jobs = take(queue, set, own, posts);
+    let all = micros_since(rt, start);
+    Ok(Lap { posting, all, jobs })
+}
+
+// A lap with new queues and a new set, which have one pass for each agent, by workers or by bare calls on as many threads as posters.
 fn lap_at_new<R: Threads + Wait + Clock + Sync, Q: LearnQueue + Sync, S: LearnSet + Sync>(
     rt: &R,
     alloc: Global,
     lines: &Lines,
-    posters: u32,
-    takers: u32,
+    crew: Crew,
+    bare: bool,
     queue: &Q,
     rush: &Q,
     set: &S,
     queue_passes: Vec<Q::Pass>,
     rush_passes: Vec<Q::Pass>,
     set_passes: Vec<S::Pass>,
-) -> io::Result<Option<Lap>>
+) -> io::Result<Lap>
 where
     Q::Pass: Send,
     S::Pass: Send,
     requires good { AreGood lines.now }
-    requires posters { 1 ≤ posters }
-    requires queue { IsNewQueue Q.SharedQueue queue.now queue_passes.items }
-    requires rush { IsNewQueue Q.SharedQueue rush.now rush_passes.items }
-    requires set { IsNewSet S.SharedSet set.now set_passes.items }
-    requires agents { (Q.agents queue.now ≡ 1 + (posters + takers)) × (Q.agents rush.now ≡ 1 + (posters + takers))
-        × (S.agents set.now ≡ 1 + (posters + takers)) }
-    requires passes { (length queue_passes.items ≡ 1 + (posters + takers)) × (length rush_passes.items ≡ 1 + (posters + takers))
-        × (length set_passes.items ≡ 1 + (posters + takers)) }
+    requires queue { IsNewQueue Q.SharedQueue Q.agents queue.now queue_passes.items (1 + (crew.posters + crew.takers)) }
+    requires rush { IsNewQueue Q.SharedQueue Q.agents rush.now rush_passes.items (1 + (crew.posters + crew.takers)) }
+    requires set { IsNewSet S.SharedSet S.agents set.now set_passes.items (1 + (crew.posters + crew.takers)) }
 {
-    let Ok(mut desks) = fresh_desks(
+    let Ok(desks) = fresh_desks(
         alloc,
         queue,
         rush,
@@ -91,61 +181,51 @@ where
         rush_passes,
         set_passes,
     ) else {
-        return Ok(None);
+        return Err(no_memory());
     };
-    let start = Instant::now(rt)?;
-    let watch = Stopwatch {
-        clock: rt,
-        start,
-        posting: AtomicU64::new(0),
-    };
-    let run = run_at_desks(
-        rt, alloc, lines, posters, takers, queue, rush, set, &mut desks, &watch,
-    );
-    let all = micros_since(rt, start);
-    let posting = watch.posting.load(Ordering::SeqCst);
-    let Ok(replies) = run else {
-        return Ok(None);
-    };
-    let jobs = replies.takes.len() as u64;
-    Ok(Some(Lap { posting, all, jobs }))
+    if bare {
+        lap_of_calls(
+            rt,
+            alloc,
+            lines.len() as u32,
+            crew.posters,
+            queue,
+            rush,
+            set,
+            desks,
+        )
+    } else {
+        lap_of_workers(rt, alloc, lines, crew, queue, rush, set, desks)
+    }
 }
 
-// A lap by workers of the board over new domains of these types, or none where memory is refused.
-pub(crate) fn lap_of_workers<
+// A lap over new domains of these types, by workers or by bare calls on as many threads as posters.
+pub(crate) fn run_lap<
     R: Threads + Wait + Clock + Sync,
     F: Domain<Rule = Fifo> + Sync + Drop,
     C: Domain<Rule = Chain> + Sync + Drop,
->(
-    rt: &R,
-    alloc: Global,
-    lines: &Lines,
-    buckets: u32,
-    posters: u32,
-    takers: u32,
-) -> io::Result<Option<Lap>>
+>(rt: &R, alloc: Global, lines: &Lines, buckets: u32, crew: Crew, bare: bool) -> io::Result<Lap>
 where
     F::Pass: Send,
     C::Pass: Send,
-    requires good { AreGood lines.now }
-    requires posters { (1 ≤ posters) × (posters ≤ 8) × (takers ≤ 7) }
+    requires { AreGood lines.now }
 {
-    let agents = 1 + posters + takers;
+    let agents = 1 + (crew.posters + crew.takers);
     let Ok((queue, queue_passes)) = new_queue::<F>(alloc, ROWS, agents) else {
-        return Ok(None);
+        return Err(no_memory());
     };
     let Ok((rush, rush_passes)) = new_queue::<F>(alloc, ROWS, agents) else {
-        return Ok(None);
+        return Err(no_memory());
     };
     let Ok((set, set_passes)) = new_set::<C>(alloc, ROWS, agents, buckets) else {
-        return Ok(None);
+        return Err(no_memory());
     };
     lap_at_new(
         rt,
         alloc,
         lines,
-        posters,
-        takers,
+        crew,
+        bare,
         &queue,
         &rush,
         &set,
@@ -153,32 +233,4 @@ where
         rush_passes,
         set_passes,
     )
-}
-
-// A lap by bare calls on so many threads, or none where there is no pass.
-pub(crate) fn lap_of_calls<R: Threads + Clock + Sync, Q: SharedQueue + Sync, S: SharedSet + Sync>(
-    rt: &R,
-    posts: u32,
-    threads: u32,
-    queue: &Q,
-    set: &S,
-    mut queue_passes: Vec<Q::Pass>,
-    mut set_passes: Vec<S::Pass>,
-) -> io::Result<Option<Lap>>
-where
-    Q::Pass: Send,
-    S::Pass: Send,
-    requires threads { 1 ≤ threads }
-    requires queue { All (λ p. Q.usable queue.now p) queue_passes.items }
-    requires set { All (λ p. S.usable set.now p) set_passes.items }
-{
-    let Some(passes) = next_passes(queue, set, &mut queue_passes, &mut set_passes) else {
-        return Ok(None);
-    };
-    let start = Instant::now(rt)?;
-    post_on_threads(rt, queue, set, posts, threads, queue_passes, set_passes);
-    let posting = micros_since(rt, start);
-    let jobs = take_bare(queue, set, passes, posts);
-    let all = micros_since(rt, start);
-    Ok(Some(Lap { posting, all, jobs }))
 }

@@ -3,12 +3,13 @@
 ghost use Rattle.std.specs.Prelude.{IfOk};
 ghost use Rattle.orc_jobs.specs.GoodLines.{AreGood};
 
-use orc_fault::NoMemory;
+use crate::laps::no_memory;
 use orc_jobs::{Lines, MOST_BYTES, read_jobs};
 use std::alloc::Global;
+use std::io;
 
 // So many posts, whose ids fall to 0.
-pub(crate) fn falling(alloc: Global, posts: u32) -> Result<Lines, NoMemory>
+pub(crate) fn falling(alloc: Global, posts: u32) -> io::Result<Lines>
     ensures { IfOk result AreGood }
 {
     let mut text = String::new(alloc);
@@ -18,10 +19,10 @@ pub(crate) fn falling(alloc: Global, posts: u32) -> Result<Lines, NoMemory>
         text.push_str(line.as_str())?;
     }
     if text.len() > MOST_BYTES {
-        return Err(NoMemory);
+        return Err(no_memory());
     }
     match read_jobs(alloc, text.as_bytes()) {
         Ok(lines) => Ok(lines),
-        Err(_) => Err(NoMemory),
+        Err(_) => Err(no_memory()),
     }
 }
