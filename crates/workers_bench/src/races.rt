@@ -3,7 +3,7 @@
 ghost use Rattle.std.specs.Prelude.{◌≤◌};
 ghost use Rattle.orc_jobs.specs.GoodLines.{AreGood};
 
-use crate::laps::{Crew, Lap, run_lap};
+use crate::laps::{Crew, run_lap};
 use crate::lines::falling;
 use crate::options::Options;
 use orc_chain_rule::Chain;
@@ -17,40 +17,7 @@ use std::sync::Wait;
 use std::thread::Threads;
 use std::time::Clock;
 
-// A lap by workers and one by bare calls, which takes turns with it at being the first.
-fn race_once<
-    R: Threads + Wait + Clock + Sync,
-    F: Domain<Rule = Fifo> + Sync + Drop,
-    C: Domain<Rule = Chain> + Sync + Drop,
->(
-    rt: &R,
-    alloc: Global,
-    lines: &Lines,
-    buckets: u32,
-    threads: u32,
-    round: u32,
-) -> io::Result<(Lap, Lap)>
-where
-    F::Pass: Send,
-    C::Pass: Send,
-    requires good { AreGood lines.now }
-    requires threads { (1 ≤ threads) × (threads ≤ 8) }
-{
-    let bare_first = round % 2 == 1;
-    let crew = Crew {
-        posters: threads,
-        takers: 0,
-    };
-    let first = run_lap::<R, F, C>(rt, alloc, lines, buckets, crew, bare_first)?;
-    let second = run_lap::<R, F, C>(rt, alloc, lines, buckets, crew, !bare_first)?;
-    Ok(if bare_first {
-        (second, first)
-    } else {
-        (first, second)
-    })
-}
-
-// Races on so many threads.
+// Races on so many threads: in each round a lap by workers and one by bare calls, which take turns at being the first.
 fn race_on<
     R: Threads + Wait + Clock + Print + Eprint + Sync,
     F: Domain<Rule = Fifo> + Sync + Drop,
@@ -62,25 +29,24 @@ where
     requires good { AreGood lines.now }
     requires threads { (1 ≤ threads) × (threads ≤ 8) }
 {
+    let crew = Crew {
+        posters: threads,
+        takers: 0,
+    };
     let mut jobs: u64 = 0;
-    let mut bare: u64 = 0;
-    for round in 0..options.rounds {
-        let (workers, calls) = race_once::<R, F, C>(
-            rt,
-            alloc,
-            lines,
-            options.buckets,
-            threads,
-            round,
-        )?;
-        eprintln!(rt;
-            "race {threads} {} {} {} {}",
-            workers.posting, workers.all, calls.posting, calls.all
-        )?;
-        jobs = jobs.wrapping_add(workers.jobs);
-        bare = bare.wrapping_add(calls.jobs);
+    let mut bare_jobs: u64 = 0;
+    for turn in 0..2 * u64::from(options.rounds) {
+        let bare = turn % 4 == 1 || turn % 4 == 2;
+        let lap = run_lap::<R, F, C>(rt, alloc, lines, options.buckets, crew, bare)?;
+        let who = if bare { "bare" } else { "workers" };
+        eprintln!(rt; "{who} {threads} {} {}", lap.posting, lap.all)?;
+        if bare {
+            bare_jobs = bare_jobs.wrapping_add(lap.jobs);
+        } else {
+            jobs = jobs.wrapping_add(lap.jobs);
+        }
     }
-    println!(rt; "{threads} threads: {jobs} jobs by workers, {bare} by bare calls")
+    println!(rt; "{threads} threads: {jobs} jobs by workers, {bare_jobs} by bare calls")
 }
 
 // Races on 1, 2 and 4 threads.
