@@ -28,7 +28,8 @@ pub(crate) fn set_answers<S: SharedSet>(
     case: &SetCase,
 ) -> bool
     requires { S.usable set.now p.old }
-    ensures { S.usable set.now p.new }
+    ensures usable { S.usable set.now p.new }
+    ensures agent { S.agent_of set.now p.new ≡ S.agent_of set.now p.old }
 {
     match case {
         SetCase::Insert(key, wanted) => set.insert(p, *key, turns) == *wanted,

@@ -4,6 +4,7 @@ ghost use Rattle.std.specs.Prelude.{◌≡◌, ◌+◌, IfSome};
 ghost use Rattle.orc_heap.specs.Domains.{agent};
 ghost use Rattle.orc_split_set.specs.SetCalls.{IsUsable};
 
+use crate::asking::{SetCase, set_answers};
 use orc_containers::{Domain, RowCounts, Unmade, new_split_set, split_set_at_rest};
 use orc_heap::Links;
 use orc_history::SharedSet;
@@ -30,16 +31,12 @@ enum KeyCall {
     Remove,
 }
 
-// Whether the call with this key is answered by yes.
-fn is_yes<S: SharedSet>(set: &S, p: &mut S::Pass, call: KeyCall, key: u64) -> bool
-    requires { S.usable set.now p.old }
-    ensures usable { S.usable set.now p.new }
-    ensures agent { S.agent_of set.now p.new ≡ S.agent_of set.now p.old }
-{
+// The call with this key, which is to be answered by yes.
+fn yes(call: KeyCall, key: u64) -> SetCase {
     match call {
-        KeyCall::Insert => set.insert(p, key, 2) == Ok(true),
-        KeyCall::Contains => set.contains(p, key, 2) == Ok(true),
-        KeyCall::Remove => set.remove(p, key, 2) == Ok(true),
+        KeyCall::Insert => SetCase::Insert(key, Ok(true)),
+        KeyCall::Contains => SetCase::Contains(key, Ok(true)),
+        KeyCall::Remove => SetCase::Remove(key, Ok(true)),
     }
 }
 
@@ -51,7 +48,7 @@ fn yeses<S: SharedSet>(set: &S, p: &mut S::Pass, call: KeyCall, end: u64) -> u64
 {
     let mut yeses: u64 = 0;
     for key in 0..end {
-        yeses = yeses.wrapping_add(u64::from(is_yes(set, p, call, key)));
+        yeses = yeses.wrapping_add(u64::from(set_answers(set, p, 2, &yes(call, key))));
     }
     yeses
 }

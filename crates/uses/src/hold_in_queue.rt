@@ -21,6 +21,22 @@ pub struct HeldQueue {
     pub counts: RowCounts,
 }
 
+// Puts this job, and tells whether it is there.
+fn is_put<Q: SharedQueue>(queue: &Q, p: &mut Q::Pass, job: u64) -> bool
+    requires { Q.usable queue.now p.old }
+    ensures { Q.usable queue.now p.new }
+{
+    queue.enqueue(p, job, 64).is_ok()
+}
+
+// Takes a job, and tells whether there was one.
+fn is_taken<Q: SharedQueue>(queue: &Q, p: &mut Q::Pass) -> bool
+    requires { Q.usable queue.now p.old }
+    ensures { Q.usable queue.now p.new }
+{
+    matches!(queue.dequeue(p, 64), Ok(Some(_)))
+}
+
 // 1,000 calls: one agent puts, and the other takes two of three. Answers how many jobs were put, and how many taken.
 fn put_and_take<Q: SharedQueue>(queue: &Q, one: &mut Q::Pass, two: &mut Q::Pass) -> (u64, u64)
     requires one { Q.usable queue.now one.old }
@@ -31,11 +47,9 @@ fn put_and_take<Q: SharedQueue>(queue: &Q, one: &mut Q::Pass, two: &mut Q::Pass)
     let mut put: u64 = 0;
     let mut taken: u64 = 0;
     for job in 0..600 {
-        put = put.wrapping_add(u64::from(queue.enqueue(one, job, 64).is_ok()));
+        put = put.wrapping_add(u64::from(is_put(queue, one, job)));
         if job % 3 != 0 {
-            if let Ok(Some(_)) = queue.dequeue(two, 64) {
-                taken = taken.wrapping_add(1);
-            }
+            taken = taken.wrapping_add(u64::from(is_taken(queue, two)));
         }
     }
     (put, taken)

@@ -115,7 +115,8 @@ impl SetSums {
 
 // The bit of a key below 64.
 fn bit_of(key: u64) -> u64 {
-    1u64.wrapping_shl((key % 64) as u32)
+    let place = (key % 64) as u32;
+    1u64.wrapping_shl(place)
 }
 
 // Inserts, removes and asks in turn, over so many keys in this stride.

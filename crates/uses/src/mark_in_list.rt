@@ -3,6 +3,7 @@
 ghost use Rattle.std.specs.Prelude.{◌≡◌, ◌+◌, ◌<◌, All, IfOk, IfSome, length};
 ghost use Rattle.std.specs.List.{AllByRecursion};
 
+use crate::asking::{SetCase, set_answers};
 use crate::crew::{are_in_order, backlog_of_all};
 use orc_chain_rule::Chain;
 use orc_containers::{Domain, RowCounts, Unmade, new_list, set_at_rest};
@@ -32,10 +33,12 @@ fn add_and_take_out<S: SharedSet>(set: &S, one: &mut S::Pass, two: &mut S::Pass)
     let mut added: u64 = 0;
     let mut taken_out: u64 = 0;
     for key in 0..400 {
-        added = added.wrapping_add(u64::from(set.insert(one, key, 64) == Ok(true)));
+        let insert = SetCase::Insert(key, Ok(true));
+        added = added.wrapping_add(u64::from(set_answers(set, one, 64, &insert)));
         if key % 4 != 0 {
-            taken_out = taken_out.wrapping_add(u64::from(set.remove(two, key, 64) == Ok(true)));
-            let _absent = set.contains(one, key, 64);
+            let remove = SetCase::Remove(key, Ok(true));
+            taken_out = taken_out.wrapping_add(u64::from(set_answers(set, two, 64, &remove)));
+            let _absent = set_answers(set, one, 64, &SetCase::Contains(key, Ok(false)));
         }
     }
     (added, taken_out)
@@ -46,9 +49,9 @@ fn take_out_the_last<S: SharedSet>(set: &S, p: &mut S::Pass) -> bool
     requires { S.usable set.now p.old }
     ensures { S.usable set.now p.new }
 {
-    let before = set.remove(p, 400, 64);
-    let last = set.remove(p, 401, 64);
-    before == Ok(true) && last == Ok(true)
+    let before = set_answers(set, p, 64, &SetCase::Remove(400, Ok(true)));
+    let last = set_answers(set, p, 64, &SetCase::Remove(401, Ok(true)));
+    before && last
 }
 
 // They do so while an agent holds the node of 400, whose link leads to that of 401. It lets go late, without settling; and
