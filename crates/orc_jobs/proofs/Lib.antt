@@ -1,13 +1,3 @@
 pub mod NumberLists
-pub mod Fields
-pub mod CsvRecords
-pub mod RecordSizes
-pub mod LineRecords
-pub mod FileLaws
-pub mod GrammarLaws
 pub mod GoodLinesLemmas
 pub mod JobValues
-pub mod CauseOrLine
-pub mod GeneratedLines
-pub mod GeneratedText
-pub mod FirstCauses

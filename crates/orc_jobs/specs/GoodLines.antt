@@ -1,8 +1,7 @@
 -- Lines that one job file can hold.
 use Rattle.std.specs.Prelude.{◌≤◌, All, List, length}
 use Rattle.std.specs.List.{sum_by}
-use Rattle.orc_jobs.specs.JobGrammar.{IsLine}
-use Rattle.orc_jobs.specs.Line.{text_size}
+use Rattle.orc_jobs.specs.Line.{IsLine, text_size}
 use Rattle.orc_jobs.specs.declared.line.Line.{Line}
 use Rattle.orc_jobs.specs.declared.lines.TheConstants.{MOST_BYTES}
 

@@ -1,5 +1,5 @@
 ghost use Rattle.std.specs.Prelude.{◌≡◌};
-ghost use Rattle.orc_jobs.specs.JobGrammar.{operation_word};
+ghost use Rattle.orc_jobs.specs.Line.{operation_word};
 
 use crate::Text;
 

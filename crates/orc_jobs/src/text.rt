@@ -32,8 +32,8 @@ impl Text {
         Ok(Text { items })
     }
 
-    // These bytes; it takes no memory.
-    pub(crate) fn from_vec(items: Vec<u8>) -> Text
+    /// These bytes; it takes no memory.
+    pub fn from_vec(items: Vec<u8>) -> Text
         ensures { result ≡ items.items }
     {
         Text { items }

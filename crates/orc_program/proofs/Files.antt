@@ -1,11 +1,11 @@
 -- The answer to a file whose lines are worked through, or which is refused.
 use Rattle.std.proofs.Common.{◌≡◌, ◌∙◌, ◌⊎◌, IfOk, List, Ok, Result, [], ap, inl, inr, subst, ℕ}
 use Rattle.std.proofs.lemmas.Result.{IfOk-weaker}
-use Rattle.orc_jobs.proofs.FileLaws.{AreDetermined, not-both, not-few, not-read, one-refusal}
-use Rattle.orc_jobs.specs.OneRecord.{RefusesFile}
-use Rattle.orc_jobs.specs.RecordFiles.{IsFile}
-use Rattle.orc_jobs.specs.declared.records.FileRefused.{FileRefused}
-use Rattle.orc_jobs.specs.declared.records.FileRefused.TheVariants as fault
+use Rattle.orc_job_files.proofs.FileLaws.{AreDetermined, not-both, not-few, not-read, one-refusal}
+use Rattle.orc_job_files.specs.OneRecord.{RefusesFile}
+use Rattle.orc_job_files.specs.RecordFiles.{IsFile}
+use Rattle.orc_job_files.specs.declared.records.FileRefused.{FileRefused}
+use Rattle.orc_job_files.specs.declared.records.FileRefused.TheVariants as fault
 use Rattle.orc_program.specs.declared.answer.Answer.{Answer}
 use Rattle.orc_program.specs.declared.ended.Ended.{Ended}
 use Rattle.orc_program.specs.declared.ended.Ended.TheVariants as end

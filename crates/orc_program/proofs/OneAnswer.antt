@@ -1,12 +1,12 @@
 -- Settings and bytes have one answer.
 use Rattle.std.proofs.Common.{◌≡◌, ◌≢◌, ◌∙◌, ◌≤◌, ◌⊎◌, List, [], ℕ, Ok, ap, arith, inl, inr, length, subst}
-use Rattle.orc_jobs.specs.JobGrammar.{IsFileOf}
-use Rattle.orc_jobs.specs.OneRecord.{RefusesFile}
-use Rattle.orc_jobs.specs.RecordFiles.{IsFile}
+use Rattle.orc_job_files.specs.JobGrammar.{IsFileOf}
+use Rattle.orc_job_files.specs.OneRecord.{RefusesFile}
+use Rattle.orc_job_files.specs.RecordFiles.{IsFile}
 use Rattle.orc_jobs.specs.declared.line.Line.{Line}
-use Rattle.orc_jobs.specs.declared.records.FileRefused.TheVariants as fault
-use Rattle.orc_jobs.proofs.FileLaws.{AreDetermined, not-both, not-few}
-use Rattle.orc_jobs.proofs.GrammarLaws.{laws}
+use Rattle.orc_job_files.specs.declared.records.FileRefused.TheVariants as fault
+use Rattle.orc_job_files.proofs.FileLaws.{AreDetermined, not-both, not-few}
+use Rattle.orc_job_files.proofs.GrammarLaws.{laws}
 use Rattle.orc_trace.specs.Answers.{audit_lines, fault_line, replay_line}
 use Rattle.orc_trace.specs.Audit.{IsAudit}
 use Rattle.orc_trace.specs.Replay.{IsReplay, RefusesTrace}

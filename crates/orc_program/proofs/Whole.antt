@@ -1,6 +1,6 @@
 -- The answer to an input as the answer to the words.
 use Rattle.std.proofs.Common.{◌≡◌, ◌∙◌, ◌≤◌, Bool, List, ℕ, Option, Some, true, ap, inr, length, subst, sym}
-use Rattle.orc_jobs.specs.JobGrammar.{IsFileOf}
+use Rattle.orc_job_files.specs.JobGrammar.{IsFileOf}
 use Rattle.orc_jobs.specs.declared.line.Line.{Line}
 use Rattle.orc_options.proofs.NamesAnywhere.{one_settings}
 use Rattle.orc_options.specs.Settings.{AskFor, GivesSettings}

@@ -2,10 +2,10 @@
 use Rattle.std.specs.Prelude.{◌≡◌, ◌≢◌, ◌<◌, ◌≤◌, ◌⊎◌, Bool, true, false, List, [], ℕ, Option, length}
 use Rattle.std.specs.Io.KnownBytes.{Consumes, IsAtEnd}
 use Rattle.orc_jobs.specs.Generated.{text_of_lines}
-use Rattle.orc_jobs.specs.JobGrammar.{IsFileOf, Refuses}
+use Rattle.orc_job_files.specs.JobGrammar.{IsFileOf, Refuses}
 use Rattle.orc_jobs.specs.declared.line.Line.{Line}
-use Rattle.orc_jobs.specs.declared.records.FileRefused.{FileRefused}
-use Rattle.orc_jobs.specs.declared.records.FileRefused.TheVariants as fault
+use Rattle.orc_job_files.specs.declared.records.FileRefused.{FileRefused}
+use Rattle.orc_job_files.specs.declared.records.FileRefused.TheVariants as fault
 use Rattle.orc_watch.specs.WatchGrammar.{IsFileOf as IsWatchFile, Refuses as RefusesWatch}
 use Rattle.orc_trace.specs.declared.answers.Audit.{Audit}
 use Rattle.orc_trace.specs.declared.answers.Replayed.{Replayed}

@@ -1,10 +1,10 @@
 -- The lines that are written where words or an input are refused.
 use Rattle.std.specs.Prelude.{◌++◌, ◌≡◌, List, ℕ, codes}
 use Rattle.std.specs.Fmt.{decimal}
-use Rattle.orc_jobs.specs.declared.cause.Cause.{Cause}
-use Rattle.orc_jobs.specs.declared.cause.Cause.TheVariants as cause
-use Rattle.orc_jobs.specs.declared.records.FileRefused.{FileRefused}
-use Rattle.orc_jobs.specs.declared.records.FileRefused.TheVariants as fault
+use Rattle.orc_job_files.specs.declared.cause.Cause.{Cause}
+use Rattle.orc_job_files.specs.declared.cause.Cause.TheVariants as cause
+use Rattle.orc_job_files.specs.declared.records.FileRefused.{FileRefused}
+use Rattle.orc_job_files.specs.declared.records.FileRefused.TheVariants as fault
 use Rattle.orc_watch.specs.declared.cause.WatchCause.{WatchCause}
 use Rattle.orc_watch.specs.declared.cause.WatchCause.TheVariants as watch
 

@@ -1,6 +1,7 @@
 //! Modes run and stages: the jobs of a job file are worked through and reported, or go through a pipeline.
 ghost use Rattle.std.specs.Prelude.{◌≡◌, ◌≤◌, ◌⊎◌, if◌then◌else◌, IfErr, IfOk, None, Some, length};
-ghost use Rattle.orc_jobs.specs.{GoodLines.{AreGood}, JobGrammar.{Refuses}};
+ghost use Rattle.orc_job_files.specs.JobGrammar.{Refuses};
+ghost use Rattle.orc_jobs.specs.GoodLines.{AreGood};
 ghost use Rattle.orc_options.specs.Settings.{AreInRange};
 ghost use Rattle.orc_program.specs.{Answers.{AnswersJobs, RefusesSize, TellsJobs}, Ended.{HasReported}, Headline.{numbers_of_rest}};
 
@@ -9,7 +10,8 @@ use crate::answer::{Answer, Setup, leave};
 use crate::refusing::refuse_file;
 use orc_board::Gate;
 use orc_fault::NoMemory;
-use orc_jobs::{FileRefused, Lines, MOST_BYTES, read_jobs};
+use orc_job_files::{FileRefused, read_jobs};
+use orc_jobs::{Lines, MOST_BYTES};
 use orc_report::{RestNumbers, report_text};
 use orc_run::Finished;
 use std::sync::Wait;

@@ -1,6 +1,7 @@
 //! What follows from an answer.
 ghost use Rattle.std.specs.Prelude.{◌≡◌, ◌≢◌, ◌<◌, ◌≤◌, ◌⊎◌, [], List, Option, Some, length, true, ℕ};
-ghost use Rattle.orc_jobs.specs.{JobGrammar.{IsFileOf, Refuses}, declared.cause.Cause.{Cause}, declared.line.Line.{Line}};
+ghost use Rattle.orc_job_files.specs.{JobGrammar.{IsFileOf, Refuses}, declared.cause.Cause.{Cause}};
+ghost use Rattle.orc_jobs.specs.declared.line.Line.{Line};
 ghost use Rattle.orc_watch.specs.{
   WatchGrammar.{IsFileOf as IsWatchFile, Refuses as RefusesWatch},
   declared.cause.WatchCause.{WatchCause},
@@ -19,7 +20,8 @@ ghost use Rattle.orc_program.specs.{
   declared.ended.Ended.{Ended},
 };
 
-use orc_jobs::{FileRefused, MOST_BYTES};
+use orc_job_files::FileRefused;
+use orc_jobs::MOST_BYTES;
 use orc_options::Mode;
 use orc_trace::TraceFault;
 

@@ -5,7 +5,7 @@ ghost use Rattle.orc_program.specs.Answers.{made_text};
 
 use crate::answer::Answer;
 use orc_fault::NoMemory;
-use orc_jobs::{lines_text, make_lines};
+use orc_job_files::{lines_text, make_lines};
 use orc_options::Settings;
 use std::alloc::Global;
 

@@ -4,7 +4,8 @@ ghost use Rattle.orc_program.specs.Refusals.{AnswersFault, cause_word, input_too
 
 use crate::answer::Answer;
 use orc_fault::NoMemory;
-use orc_jobs::{Cause, FileRefused, Text};
+use orc_job_files::{Cause, FileRefused};
+use orc_jobs::Text;
 use orc_watch::WatchCause;
 use std::alloc::Global;
 

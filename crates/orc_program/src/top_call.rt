@@ -2,7 +2,8 @@
 ghost use Rattle.std.specs.Prelude.{◌≡◌, ◌≢◌, ◌+◌, ◌≤◌, ◌⊎◌, List, ℕ, Some, length};
 ghost use Rattle.std.specs.Io.KnownBytes.{Appends, Keeps};
 ghost use Rattle.orc_feed.specs.{Faults.{Rose}, Whole.{AppendsPrefix, TakesAtMost}};
-ghost use Rattle.orc_jobs.specs.{JobGrammar.{IsFileOf}, declared.line.Line.{Line}};
+ghost use Rattle.orc_job_files.specs.JobGrammar.{IsFileOf};
+ghost use Rattle.orc_jobs.specs.declared.line.Line.{Line};
 ghost use Rattle.orc_options.specs.Settings.{AskFor};
 ghost use Rattle.orc_program.specs.{Answers.{AnswersWords, AskToRead}, Ended.{EndsSafely}};
 

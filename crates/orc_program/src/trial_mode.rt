@@ -7,7 +7,7 @@ use crate::Ended;
 use crate::answer::{Answer, Setup, leave};
 use orc_board::Gate;
 use orc_fault::NoMemory;
-use orc_jobs::make_lines;
+use orc_job_files::make_lines;
 use orc_report::summary_text;
 use std::sync::Wait;
 use std::thread::Threads;

@@ -9,7 +9,7 @@ use crate::answer::{Answer, Setup, leave};
 use crate::refusing::refuse_file;
 use orc_board::Gate;
 use orc_fault::NoMemory;
-use orc_jobs::FileRefused;
+use orc_job_files::FileRefused;
 use orc_options::Settings;
 use orc_watch::{CellNumbers, WatchLines, read_watch, watch_text};
 use orc_watch_domain::{WatchFinished, watch_new_cell};

@@ -2,7 +2,7 @@
 use Rattle.std.specs.Prelude.{◌++◌, Bool, false, true, not, List, [], ◌∷◌, ℕ, codes, filter, length, map, slice_get, sum, Option, Some, None}
 use Rattle.std.specs.List.{flat_map}
 use Rattle.std.specs.Fmt.{decimal}
-use Rattle.orc_jobs.specs.JobGrammar.{operation_word}
+use Rattle.orc_jobs.specs.Line.{operation_word}
 use Rattle.orc_jobs.specs.declared.line.Job.{Job}
 use Rattle.orc_jobs.specs.declared.line.Job.TheVariants as job
 use Rattle.orc_jobs.specs.declared.line.Line.{Line}

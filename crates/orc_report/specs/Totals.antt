@@ -1,7 +1,7 @@
 -- The totals of operations, as a summary keeps them.
 use Rattle.std.specs.Prelude.{◌++◌, List, ℕ, codes, length, map, sum}
 use Rattle.std.specs.Fmt.{decimal}
-use Rattle.orc_jobs.specs.JobGrammar.{operation_word}
+use Rattle.orc_jobs.specs.Line.{operation_word}
 use Rattle.orc_jobs.specs.declared.line.Job.{Job}
 use Rattle.orc_jobs.specs.declared.line.Job.TheVariants as job
 use Rattle.orc_report.specs.Summary.{values_of}

@@ -1,9 +1,9 @@
 -- No record has neither a cause nor a line.
 use Rattle.std.proofs.Common.{◌≡◌, ◌≢◌, ◌<◌, ◌^◌, List, [], ◌∷◌, ℕ, suc, arith, codes, inl, inr, length}
 use Rattle.std.specs.Fmt.{decimal}
-use Rattle.orc_jobs.proofs.Fields.{two-fields}
-use Rattle.orc_jobs.proofs.FileLaws.{none-applies, whether}
-use Rattle.orc_jobs.specs.RecordFiles.{field}
+use Rattle.orc_job_files.proofs.Fields.{two-fields}
+use Rattle.orc_job_files.proofs.FileLaws.{none-applies, whether}
+use Rattle.orc_job_files.specs.RecordFiles.{field}
 use Rattle.orc_watch.specs.WatchGrammar.{Applies, HasCause, IsLine, rank_of, record_of}
 use Rattle.orc_watch.specs.declared.cause.WatchCause.{WatchCause}
 use Rattle.orc_watch.specs.declared.cause.WatchCause.TheVariants as cause

@@ -1,5 +1,5 @@
 -- The laws of the lines of a watch file.
-use Rattle.orc_jobs.proofs.FileLaws.{AreDetermined}
+use Rattle.orc_job_files.proofs.FileLaws.{AreDetermined}
 use Rattle.orc_watch.specs.WatchGrammar.{HasCause, IsLine, record_of}
 use Rattle.orc_watch.specs.Laws.WatchLines.{known_by_record, line_has_no_cause, record_has_one_cause}
 

@@ -1,10 +1,10 @@
 -- What a watch file says: how each line is spelled as a record, and what is first amiss with a record that is the spelling of none.
 use Rattle.std.specs.Prelude.{◌≡◌, ◌≢◌, ◌^◌, ◌<◌, ◌⊎◌, ◌∷◌, All, IsUtf8, List, [], ℕ, codes, length, ⊤}
 use Rattle.std.specs.Fmt.{decimal}
-use Rattle.orc_jobs.specs.OneRecord.{RefusesFile}
-use Rattle.orc_jobs.specs.RecordFiles.{HasFirst, IsFile, field}
+use Rattle.orc_job_files.specs.OneRecord.{RefusesFile}
+use Rattle.orc_job_files.specs.RecordFiles.{HasFirst, IsFile, field}
 use Rattle.orc_jobs.specs.Numbers.{IsNumber}
-use Rattle.orc_jobs.specs.declared.records.FileRefused.{FileRefused}
+use Rattle.orc_job_files.specs.declared.records.FileRefused.{FileRefused}
 use Rattle.orc_watch.specs.declared.cause.WatchCause.{WatchCause}
 use Rattle.orc_watch.specs.declared.cause.WatchCause.TheVariants as cause
 use Rattle.orc_watch.specs.declared.line.WatchLine.{WatchLine}

@@ -1,5 +1,5 @@
 ghost use Rattle.std.specs.Prelude.{List, ℕ, IfErr, IfOk};
-ghost use Rattle.orc_jobs.specs.OneRecord.{GivesFault, GivesLines};
+ghost use Rattle.orc_job_files.specs.OneRecord.{GivesFault, GivesLines};
 ghost use Rattle.orc_watch.specs.{
   WatchGrammar.{IsFileOf, Refuses},
   declared.cause.WatchCause.{WatchCause as Cause},
@@ -7,7 +7,7 @@ ghost use Rattle.orc_watch.specs.{
 };
 
 use crate::{WatchCause, WatchLines};
-use orc_jobs::{FileRefused, read_records};
+use orc_job_files::{FileRefused, read_records};
 use std::alloc::Global;
 
 /// The lines of a watch file. It is refused at its first record that has a cause, or at a record past the first 65,535,

@@ -7,7 +7,8 @@ ghost use Rattle.orc_watch.specs.{
 
 use crate::{WatchCause, WatchLine};
 use csv::ByteRecord;
-use orc_jobs::{FromRecord, RecordRefused, field_of, is_text, is_word, number_of};
+use orc_job_files::{FromRecord, RecordRefused, field_of, is_text, is_word};
+use orc_jobs::number_of;
 use std::alloc::Global;
 
 impl FromRecord for WatchLine {

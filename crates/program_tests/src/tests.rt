@@ -6,7 +6,8 @@ ghost use Rattle.orc_jobs.specs.GoodLines.{AreGood};
 use orc_board::{PostReply, PostWord};
 use orc_fault::NoMemory;
 use orc_history::{PlainQueue, PlainQueuePass, PlainSet, PlainSetPass, SharedQueue, SharedSet};
-use orc_jobs::{Lines, MOST_BYTES, read_jobs};
+use orc_job_files::read_jobs;
+use orc_jobs::{Lines, MOST_BYTES};
 use std::alloc::Global;
 
 mod board;

@@ -3,8 +3,8 @@ use Rattle.std.proofs.Common.{◌≡◌, ◌<◌, ◌^◌, All, List, [], ◌∷
 use Rattle.std.proofs.lemmas.List.Elements.{All-cons, All-nil}
 use Rattle.std.specs.Fmt.{decimal}
 use Rattle.std.proofs.lemmas.Fmt.{decimal_injective}
-use Rattle.orc_jobs.specs.Laws.Causes.{one-cause}
-use Rattle.orc_jobs.specs.Laws.Fields.{IsUtf8-decimal, first-field, two-texts}
+use Rattle.orc_job_files.specs.Laws.Causes.{one-cause}
+use Rattle.orc_job_files.specs.Laws.Fields.{IsUtf8-decimal, first-field, two-texts}
 use Rattle.orc_watch.specs.WatchGrammar.{Applies, HasCause, IsLine, rank_of, record_of}
 use Rattle.orc_watch.specs.declared.cause.WatchCause.{WatchCause}
 use Rattle.orc_watch.specs.declared.cause.WatchCause.TheVariants as cause

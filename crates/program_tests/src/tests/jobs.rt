@@ -1,19 +1,17 @@
 ghost use Rattle.std.specs.Prelude.{◌≡◌, ◌^◌, ◌∷◌, [], codes};
+ghost use Rattle.orc_job_files.specs.JobGrammar.{HasCause, IsFileOf, Refuses, record_of, records_of};
 ghost use Rattle.orc_jobs.specs.{
   Generated.{drawn},
   GoodLines.{AreGood},
-  JobGrammar.{HasCause, IsFileOf, IsLine, Refuses, record_of, records_of},
   JobValue.{IsJobValue, word_count},
-  Line.{PostsJob, line_id, jobs_in, text_size},
+  Line.{IsLine, PostsJob, line_id, jobs_in, text_size},
   Numbers.{IsNumber, SpellsNumbers},
 };
 
 use super::between;
 use orc_fault::NoMemory;
-use orc_jobs::{
-    Cause, FileRefused, Job, Line, Lines, MOST_BYTES, Text, job_value, lines_text, make_lines,
-    read_jobs,
-};
+use orc_job_files::{Cause, FileRefused, lines_text, make_lines, read_jobs};
+use orc_jobs::{Job, Line, Lines, MOST_BYTES, Text, job_value};
 use std::alloc::Global;
 use std::process::Abort;
 use std::test::Fail;

@@ -1,4 +1,4 @@
-use Rattle.orc_jobs.proofs.GrammarLaws.{laws}
+use Rattle.orc_job_files.proofs.GrammarLaws.{laws}
 use Rattle.orc_watch.proofs.GrammarLaws.{laws as watch_laws}
 use Rattle.orc_options.specs.declared.settings.Mode.TheVariants as mode
 use Rattle.orc_program.specs.Ended.{HasReported, HasWatched, TellsStages}

@@ -2,7 +2,7 @@
 
 use super::super::between;
 use orc_fault::NoMemory;
-use orc_jobs::FileRefused;
+use orc_job_files::FileRefused;
 use orc_watch::{WatchCause, WatchLine, read_watch};
 use std::alloc::Global;
 use std::process::Abort;

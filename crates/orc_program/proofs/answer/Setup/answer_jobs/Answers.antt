@@ -1,4 +1,4 @@
-use Rattle.orc_jobs.specs.JobGrammar.{Refuses}
+use Rattle.orc_job_files.specs.JobGrammar.{Refuses}
 use Rattle.orc_program.specs.Answers.{TellsJobs}
 use Rattle.orc_program.specs.Refusals.{cause_word}
 use Rattle.orc_program.proofs.Files.{is_refused, is_told}

@@ -1,11 +1,12 @@
 use Rattle.std.proofs.Common.{◌≡◌, ◌<◌, All, IsUtf8, List, [], ◌∷◌, ℕ, ap, arith, codes, get_or, inl, inr, refl, rules}
 use Rattle.std.proofs.lemmas.List.Elements.{All-cons, All-nil}
 use Rattle.csv.proofs.OnLiterals.{csv_on_literals}
-use Rattle.orc_jobs.proofs.GrammarLaws.{refused-bad}
-use Rattle.orc_jobs.specs.JobGrammar.{Applies, HasCause, IsLine, Refuses, rank_of}
-use Rattle.orc_jobs.specs.declared.cause.Cause.{Cause}
-use Rattle.orc_jobs.specs.declared.cause.Cause.TheVariants as cause
-use Rattle.orc_jobs.specs.declared.records.FileRefused.TheVariants as fault
+use Rattle.orc_job_files.proofs.GrammarLaws.{refused-bad}
+use Rattle.orc_job_files.specs.JobGrammar.{Applies, HasCause, Refuses, rank_of}
+use Rattle.orc_jobs.specs.Line.{IsLine}
+use Rattle.orc_job_files.specs.declared.cause.Cause.{Cause}
+use Rattle.orc_job_files.specs.declared.cause.Cause.TheVariants as cause
+use Rattle.orc_job_files.specs.declared.records.FileRefused.TheVariants as fault
 use Rattle.program_tests.proofs.tests.jobs.causes_by_hand.Goals as goal
 
 put : List (List ℕ)

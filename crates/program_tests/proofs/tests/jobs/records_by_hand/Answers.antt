@@ -2,8 +2,9 @@ use Rattle.std.proofs.Common.{◌≡◌, [], ◌∷◌, ℕ, arith, codes, refl}
 use Rattle.std.specs.Fmt.{decimal, digits}
 use Rattle.std.proofs.lemmas.List.Elements.{All-cons, All-nil}
 use Rattle.csv.proofs.OnLiterals.{csv_on_literals}
-use Rattle.orc_jobs.proofs.GrammarLaws.{file-read}
-use Rattle.orc_jobs.specs.JobGrammar.{IsFileOf, IsLine, records_of}
+use Rattle.orc_job_files.proofs.GrammarLaws.{file-read}
+use Rattle.orc_job_files.specs.JobGrammar.{IsFileOf, records_of}
+use Rattle.orc_jobs.specs.Line.{IsLine}
 use Rattle.orc_jobs.specs.declared.line.Line.TheVariants.{Drop}
 use Rattle.program_tests.proofs.tests.jobs.records_by_hand.Goals as goal
 

@@ -1,6 +1,6 @@
 use Rattle.std.proofs.Common.{IsUtf8, [], ◌∷◌, arith, codes, rules}
 use Rattle.std.proofs.lemmas.List.Elements.{All-cons, All-nil}
-use Rattle.orc_jobs.specs.JobGrammar.{IsLine}
+use Rattle.orc_jobs.specs.Line.{IsLine}
 use Rattle.orc_jobs.specs.declared.line.Job.TheVariants.{Bytes}
 use Rattle.orc_jobs.specs.declared.line.Line.TheVariants.{Drop, Post}
 use Rattle.program_tests.proofs.tests.jobs.values_by_hand.Goals as goal

@@ -1,0 +1,11 @@
+pub mod Fields
+pub mod CsvRecords
+pub mod RecordSizes
+pub mod LineRecords
+pub mod FileLaws
+pub mod GrammarLaws
+pub mod GoodFiles
+pub mod CauseOrLine
+pub mod GeneratedLines
+pub mod GeneratedText
+pub mod FirstCauses

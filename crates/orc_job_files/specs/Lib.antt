@@ -1,0 +1,4 @@
+pub mod RecordFiles
+pub mod JobGrammar
+pub mod OneRecord
+pub mod Laws
