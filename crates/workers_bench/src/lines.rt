@@ -4,7 +4,8 @@ ghost use Rattle.std.specs.Prelude.{IfOk};
 ghost use Rattle.orc_jobs.specs.GoodLines.{AreGood};
 
 use crate::laps::no_memory;
-use orc_jobs::{Lines, MOST_BYTES, read_jobs};
+use orc_job_files::read_jobs;
+use orc_jobs::{Lines, MOST_BYTES};
 use std::alloc::Global;
 use std::io;
 

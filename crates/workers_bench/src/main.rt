@@ -10,30 +10,20 @@ mod options;
 mod races;
 
 use laps::{Crew, no_memory, run_lap};
-use options::{Options, UNSAID};
+use options::{Options, command, options_of};
 use orc_chain_rule::Chain;
 use orc_containers::Domain;
 use orc_fifo_rule::Fifo;
-use orc_jobs::make_lines;
+use orc_job_files::make_lines;
 use orc_plain_domain::PlainDomain;
 use races::race;
 use std::alloc::Global;
-use std::env::Args;
-use std::io::{Eprint, ErrorKind, Print};
+use std::io::{Eprint, Print};
+use std::process::ExitCode;
 use std::sync::Wait;
 use std::thread::Threads;
 use std::time::Clock;
 use std::{env, io};
-
-// What the words ask for, or none where they ask for nothing that there is.
-fn options_of(mut words: Args) -> Option<Options> {
-    let mut options = UNSAID;
-    while let Some(name) = words.next() {
-        let word = words.next()?;
-        options.set(name.as_str(), word.as_str())?;
-    }
-    Some(options)
-}
 
 // One run of generated lines.
 fn run<
@@ -73,11 +63,17 @@ where
     }
 }
 
-fn main(rt: HostRuntime) -> io::Result<()> {
-    let mut words = env::args(&rt)?;
-    words.next();
-    let Some(options) = options_of(words) else {
-        return Err(io::Error::from(ErrorKind::InvalidInput));
-    };
-    measure::<_, PlainDomain<Fifo>, PlainDomain<Chain>>(&rt, rt.alloc(), &options)
+fn main(rt: HostRuntime) -> anyhow::Result<ExitCode> {
+    let alloc = rt.alloc();
+    let words: Vec<String> = env::args(&rt)?.collect(alloc)?;
+    match command(alloc)?.try_get_matches_from(words.as_slice()) {
+        Ok(matches) => {
+            measure::<_, PlainDomain<Fifo>, PlainDomain<Chain>>(&rt, alloc, &options_of(&matches))?;
+            Ok(ExitCode::SUCCESS)
+        }
+        Err(error) => {
+            error.print(&rt)?;
+            Ok(ExitCode::from(error.exit_code() as u8))
+        }
+    }
 }
