@@ -108,6 +108,25 @@ fn are_in_order<Q: SharedQueue>(queue: &Q, passes: &[Q::Pass]) -> bool
     true
 }
 
+// Lets each agent put and take in a thread of its own. Answers whether the passes are in order of agent then.
+fn work_in_order<R: Threads + Sync, Q: SharedQueue + Sync>(
+    rt: &R,
+    queue: &Q,
+    passes: &mut Vec<Q::Pass>,
+    work: &Work,
+) -> bool
+where
+    Q::Pass: Send,
+    requires usable { All (λ p. Q.usable queue.now p) passes.old.items }
+    ensures usable { All (λ p. Q.usable queue.now p) passes.new.items }
+    ensures many { length passes.new.items ≡ length passes.old.items }
+    ensures order { result ≡ true → (i : ℕ) (p : Q.Pass) → i < length passes.new.items
+        → Q.agent_of queue.now (slice_index_or passes.new.items i p) ≡ i }
+{
+    put_and_take_by_all(rt, queue, passes.as_mut_slice(), work);
+    are_in_order(queue, passes.as_slice())
+}
+
 // Makes a queue over 64 rows of any domain, lets two agents work, and brings the domain to rest.
 fn run<L: Domain<Rule = Fifo> + Sync + Drop, R: Threads + Sync>(
     rt: &R,
@@ -120,8 +139,7 @@ where
         return None;
     };
     let work = Work::new();
-    put_and_take_by_all(rt, &queue, passes.as_mut_slice(), &work);
-    if !are_in_order(&queue, passes.as_slice()) {
+    if !work_in_order(rt, &queue, &mut passes, &work) {
         return None;
     }
     Some(Ending {
