@@ -158,7 +158,7 @@ fn call_in_turn<S: SharedSet>(
 }
 
 // Each agent inserts, removes and asks in turn, in so many calls over so many keys, in a thread of its own.
-pub(crate) fn add_and_take_out_by_all<R: Threads + Sync, S: SharedSet + Sync>(
+fn add_and_take_out_by_all<R: Threads + Sync, S: SharedSet + Sync>(
     rt: &R,
     set: &S,
     passes: &mut [S::Pass],
@@ -199,7 +199,7 @@ fn bits_present<S: SharedSet>(set: &S, p: &mut S::Pass) -> u64
 
 // The bits of the keys below 64 that are present, as the first agent finds them while no other calls. None where there is no
 // pass.
-pub(crate) fn present<S: SharedSet>(set: &S, passes: &mut [S::Pass]) -> Option<u64>
+fn present<S: SharedSet>(set: &S, passes: &mut [S::Pass]) -> Option<u64>
     requires usable { All (λ p. S.usable set.now p) passes.old }
     ensures usable { All (λ p. S.usable set.now p) passes.new }
     ensures many { length passes.new ≡ length passes.old }
@@ -208,4 +208,23 @@ pub(crate) fn present<S: SharedSet>(set: &S, passes: &mut [S::Pass]) -> Option<u
         return None;
     }
     Some(bits_present(set, &mut passes[0]))
+}
+
+// Each agent inserts, removes and asks in turn, in so many calls over 64 keys, in a thread of its own. Answers the bits of the keys
+// that are then present.
+pub(crate) fn bits_left_by_all<R: Threads + Sync, S: SharedSet + Sync>(
+    rt: &R,
+    set: &S,
+    passes: &mut [S::Pass],
+    calls: u64,
+    sums: &SetSums,
+) -> Option<u64>
+where
+    S::Pass: Send,
+    requires usable { All (λ p. S.usable set.now p) passes.old }
+    ensures usable { All (λ p. S.usable set.now p) passes.new }
+    ensures many { length passes.new ≡ length passes.old }
+{
+    add_and_take_out_by_all(rt, set, passes, 64, calls, sums);
+    present(set, passes)
 }

@@ -3,9 +3,7 @@
 ghost use Rattle.std.specs.Prelude.{◌≡◌, ◌+◌, ◌<◌, All, IfOk, IfSome, length};
 
 use crate::crew::{are_in_order, backlog_when_settled};
-use crate::many_threads::{
-    QueueSums, SetSums, add_and_take_out_by_all, present, put_and_take_by_all,
-};
+use crate::many_threads::{QueueSums, SetSums, bits_left_by_all, put_and_take_by_all};
 use orc_chain_rule::Chain;
 use orc_containers::{Domain, RowCounts, Unmade, new_queue, new_set, queue_at_rest, set_at_rest};
 use orc_fifo_rule::Fifo;
@@ -105,8 +103,7 @@ where
     ensures many { length passes.new.items ≡ length passes.old.items }
 {
     let passes = passes.as_mut_slice();
-    add_and_take_out_by_all(rt, set, passes, 64, calls, sums);
-    let found = present(set, passes);
+    let found = bits_left_by_all(rt, set, passes, calls, sums);
     let waiting = backlog_when_settled(set.links(), passes);
     (found, waiting)
 }

@@ -1,5 +1,5 @@
 -- The list has one root.
-use Rattle.std.proofs.Common.{ap, arith, ◌∙◌}
+use Rattle.std.proofs.Common.{ap, arith}
 use Rattle.orc_heap.specs.Heap.{HeapNumbers}
 use Rattle.orc_words.specs.Bounds.{Bounds}
 use Rattle.uses.proofs.mark_in_list.calls_beside_a_held_node.Goals as goal
@@ -7,5 +7,5 @@ use Rattle.uses.proofs.mark_in_list.calls_beside_a_held_node.Goals as goal
 pub by_three-requires-clause-root : goal.by_three-requires-clause-root
 by_three-requires-clause-root g c =
     let made = c.in_ok-list in
-    let roots = ap (λ (n : HeapNumbers). n.roots) (g.met.L.Domain.numbers_are made.list.list.links) ∙ ap (λ (b : Bounds). b.roots) made.ensures.bounds in
-    omega (arith, roots)
+    let numbers = g.met.L.Domain.numbers_are made.list.list.links in
+    omega (arith, ap (λ (n : HeapNumbers). n.roots) numbers, ap (λ (b : Bounds). b.roots) made.ensures.bounds)
