@@ -3,7 +3,7 @@
 ghost use Rattle.std.specs.Prelude.{◌≤◌};
 ghost use Rattle.orc_jobs.specs.GoodLines.{AreGood};
 
-use crate::laps::{Crew, run_lap};
+use crate::laps::{Crew, Lap, run_lap};
 use crate::lines::falling;
 use crate::options::Options;
 use orc_chain_rule::Chain;
@@ -16,6 +16,12 @@ use std::io::{Eprint, Print};
 use std::sync::Wait;
 use std::thread::Threads;
 use std::time::Clock;
+
+// Tells how long a lap took, and whose it was.
+fn tell_lap<R: Eprint>(rt: &R, bare: bool, threads: u32, lap: Lap) -> io::Result<()> {
+    let who = if bare { "bare" } else { "workers" };
+    eprintln!(rt; "{who} {threads} {} {}", lap.posting, lap.all)
+}
 
 // Races on so many threads: in each round a lap by workers and one by bare calls, which take turns at being the first.
 fn race_on<
@@ -38,8 +44,7 @@ where
     for turn in 0..2 * u64::from(options.rounds) {
         let bare = turn % 4 == 1 || turn % 4 == 2;
         let lap = run_lap::<R, F, C>(rt, alloc, lines, options.buckets, crew, bare)?;
-        let who = if bare { "bare" } else { "workers" };
-        eprintln!(rt; "{who} {threads} {} {}", lap.posting, lap.all)?;
+        tell_lap(rt, bare, threads, lap)?;
         if bare {
             bare_jobs = bare_jobs.wrapping_add(lap.jobs);
         } else {
