@@ -7,7 +7,7 @@
 set -euo pipefail
 cd "$(dirname "$0")/.."
 MOORINGAKEE_BUILD=here ./mooringakee </dev/null >/dev/null
-(cd crates/workers_bench && rt run >/dev/null 2>&1)
+python3 crates/build.py workers_bench workers_bench 2>/dev/null
 uptime
 python3 - "${1:-21}" "${2:-5}" <<'PY'
 import os, statistics, subprocess, sys, time

@@ -1,6 +1,5 @@
 #!/usr/bin/env python3
-"""build.py NAME CRATE: proves and builds the program, or the static library, of this crate, which users call NAME, with the
-libraries below it.
+"""build.py NAME CRATE: proves and builds the program of this crate, which users call NAME, with the libraries below it.
 
 Lower libraries come first, and as many side by side as there are processors and memory, the longest chain before others. What
 is built is kept, so that a call that was stopped is gone on with. On standard error it says how far it is: by one line that
@@ -230,9 +229,7 @@ class Build:
 
     def made(self, name):
         """What is built of a crate, in its folder."""
-        if name != self.program:
-            return MADE
-        return f'out/lib{name}.a' if 'staticlib' in LINES[name] else f'out/{name}'
+        return f'out/{name}' if name == self.program else MADE
 
     def fails(self, name):
         return self.running[name].returncode != 0

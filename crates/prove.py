@@ -45,8 +45,6 @@ def main(rt, name, jobs):
         os.chdir(folder)
         is_program = os.path.isfile('src/main.rt')
         os.execv(rt, [rt, 'run'] if is_program else [rt, 'lib', '--jobs', jobs])
-    if crate.is_static:
-        return crate.compile(['--jobs', jobs], f'out/lib{name}.a')
     return crate.ci(['--jobs', jobs], False)
 
 
