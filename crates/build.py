@@ -23,6 +23,8 @@ import time
 TOP = os.path.dirname(os.path.dirname(os.path.abspath(__file__)))
 PARTS = ('src', 'specs', 'proofs')
 FAILED = 70
+# The signals that end this script, once it has ended what it runs.
+ENDINGS = (signal.SIGTERM, signal.SIGHUP, signal.SIGINT)
 # What proves and builds one crate.
 PROVE = [sys.executable, f'{TOP}/crates/prove.py', shutil.which('rt') or 'rt']
 # Where what was built of a library lies, and where it is built and read.
@@ -181,6 +183,16 @@ def take(name, made):
     shutil.rmtree(place, ignore_errors=True)
 
 
+@contextlib.contextmanager
+def uninterrupted():
+    """Lets what ends this script wait until this is done."""
+    before = signal.pthread_sigmask(signal.SIG_BLOCK, ENDINGS)
+    try:
+        yield
+    finally:
+        signal.pthread_sigmask(signal.SIG_SETMASK, before)
+
+
 def free_memory():
     for line in text_of('/proc/meminfo').splitlines():
         if line.startswith('MemAvailable:'):
@@ -289,7 +301,8 @@ class Build:
                     if self.has_room():
                         self.start(name, len(ready) - at)
                 for name in sorted((it for it, ran in self.running.items() if ran.poll() is not None), key=self.fails):
-                    self.end(name)
+                    with uninterrupted():
+                        self.end(name)
                 self.tell()
                 time.sleep(0.05)
         finally:
@@ -307,8 +320,8 @@ def stop(number, _):
 
 
 def main(called, program):
-    signal.signal(signal.SIGTERM, stop)
-    signal.signal(signal.SIGHUP, stop)
+    for number in ENDINGS:
+        signal.signal(number, stop)
     say(f'{called}: proves and builds the program, once; what is proved when you stop it is kept')
     try:
         with locked(f'{TOP}/crates', f'{called}: waiting for another call that builds'):

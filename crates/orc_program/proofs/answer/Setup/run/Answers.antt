@@ -14,7 +14,7 @@ in_range kind.Split buckets some few = tt
 
 pub invariant_of-task : goal.invariant_of-task
 invariant_of-task g c = record {
-  some_posters = (c.requires.ranges.some_posters, c.requires.ranges.few_posters);
+  some_posters = (omega (arith, c.requires.ranges.some_posters), omega (arith, c.requires.ranges.few_posters));
   few_takers = c.requires.ranges.few_takers;
   some_rows = (omega (arith, c.requires.ranges.some_rows), c.requires.ranges.few_rows);
 }
