@@ -38,14 +38,14 @@ def main(rt, name, jobs):
     os.makedirs(f'{folder}/out', exist_ok=True)
     try:
         module = loaded(rt)
-        crate = crate_of(module, name)
+        proved = crate_of(module, name).ci
         # Its first call sets a handler of signals, which the main thread alone may.
         module.rtlib.guarded()
     except (AttributeError, SyntaxError, ValueError):
         os.chdir(folder)
         is_program = os.path.isfile('src/main.rt')
         os.execv(rt, [rt, 'run'] if is_program else [rt, 'lib', '--jobs', jobs])
-    return crate.ci(['--jobs', jobs], False)
+    return proved(['--jobs', jobs], False)
 
 
 if __name__ == '__main__':
