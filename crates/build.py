@@ -36,6 +36,8 @@ BYTES_A_CRATE = 10000
 BYTES_MEASURED = 100000
 # The most jobs of one crate: each further one reads once more what the crate stands on.
 MOST_JOBS = 4
+# How many crates may wait while the first of them has a second processor: with this number, as simulated, the whole ends soonest.
+SPARED = 2
 # Memory for each job of a check that has just begun, and how long it counts as such.
 MEMORY, YOUNG = 2_000_000_000, 60
 
@@ -231,9 +233,17 @@ class Build:
         """Whether one more library can be built beside those that are being built."""
         return not self.running or (self.idle() > 0 and self.spare_memory() >= 0)
 
-    def start(self, name, ready):
-        """Starts a crate, with the processors that no other one of those that are ready waits for."""
-        self.jobs[name] = max(min(self.idle() // ready, 1 + self.spare_memory() // MEMORY, MOST_JOBS), 1)
+    def jobs_for(self, ready, is_first):
+        """With how many jobs one of those that are ready is built: with the processors that no other one of them waits for. The first,
+        from which the longest chain goes up, has a second processor also where few others could use that one."""
+        jobs = self.idle() // ready
+        if is_first and self.idle() > 1 and len(self.running) + ready <= self.processors + SPARED:
+            jobs = max(jobs, 2)
+        return max(min(jobs, 1 + self.spare_memory() // MEMORY, MOST_JOBS), 1)
+
+    def start(self, name, jobs):
+        """Starts a crate with so many jobs."""
+        self.jobs[name] = jobs
         place, words = prepare(name), [*PROVE, name, str(self.jobs[name])]
         with open(f'{self.logs}/{name}', 'w', encoding='utf-8') as log:
             self.running[name] = subprocess.Popen(words, cwd=place, stdin=subprocess.DEVNULL, stdout=log, stderr=log)
@@ -299,7 +309,7 @@ class Build:
                 ready = self.ready(self.done, self.crates - self.done - set(self.running))
                 for at, name in enumerate(ready):
                     if self.has_room():
-                        self.start(name, len(ready) - at)
+                        self.start(name, self.jobs_for(len(ready) - at, at == 0))
                 for name in sorted((it for it, ran in self.running.items() if ran.poll() is not None), key=self.fails):
                     with uninterrupted():
                         self.end(name)

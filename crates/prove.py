@@ -8,8 +8,12 @@ would read the proofs of these as well, of which nothing is cited. An RT that th
 import functools
 import importlib.machinery
 import importlib.util
+import operator
 import os
 import sys
+
+# What this script calls of a crate of rt's.
+CALLED = ('ci', 'words', 'prove', 'link')
 
 
 def loaded(rt):
@@ -22,15 +26,24 @@ def loaded(rt):
 
 
 def crate_of(module, name):
-    """The crate as `rt ci` has it, which reads and leaves statements alone, and compiles a program by LLVM alone. What it stands on is
-    found once, not once for each way that leads down to it, and nothing is summed up: whoever called has done so."""
-    kind, by_each = module.Crate, module.Crate.compile_by
+    """The crate as `rt ci` has it, which reads and leaves statements alone. What it stands on is found once, not once for each way that
+    leads down to it, and nothing is summed up: whoever called has done so."""
+    kind = module.Crate
     kind.allowed, kind.cuts_libraries = module.handles_of(os.getcwd()), True
     kind.below, kind.stamp = functools.cache(kind.below), lambda crate: ''
-    kind.compile_by = lambda crate, backend, *given: by_each(crate, backend, *given) if backend == 'llvm' else 0
     module.rtlib.Crate = kind
     [crate] = [it for it in module.rtlib.crates_below(os.getcwd()) if it.name == name]
+    operator.attrgetter(*CALLED)(crate)
     return crate
+
+
+def prove(module, crate, jobs):
+    """Proves the crate; a program is compiled by LLVM in the same process, as `rt ci` compiles tests."""
+    if not crate.is_program:
+        return crate.ci(['--jobs', jobs], False)
+    program = f'out/{crate.name}'
+    words = [*crate.words(['--jobs', jobs], keeps=False), '--toolchain', f'{module.KIT}/toolchain', '--backend', 'llvm']
+    return crate.prove(['build', *words, '-o', f'{program}.o']) or crate.link(f'{program}.o', program)
 
 
 def main(rt, name, jobs):
@@ -38,14 +51,14 @@ def main(rt, name, jobs):
     os.makedirs(f'{folder}/out', exist_ok=True)
     try:
         module = loaded(rt)
-        proved = crate_of(module, name).ci
+        crate = crate_of(module, name)
         # Its first call sets a handler of signals, which the main thread alone may.
         module.rtlib.guarded()
     except (AttributeError, SyntaxError, ValueError):
         os.chdir(folder)
         is_program = os.path.isfile('src/main.rt')
         os.execv(rt, [rt, 'run'] if is_program else [rt, 'lib', '--jobs', jobs])
-    return proved(['--jobs', jobs], False)
+    return prove(module, crate, jobs)
 
 
 if __name__ == '__main__':
