@@ -1,7 +1,5 @@
 -- New passes, which hold nothing.
 use Rattle.std.proofs.Common.{All, List, None, Option, Some, [], ap, false, length, refl, subst, suc, sym, zero, ℕ, ◌<◌, ◌∙◌, ◌≡◌, ◌%◌}
-use Rattle.std.proofs.Math.Nat.{mod-lt}
-use Rattle.std.proofs.lemmas.List.{get_or-map, length-map}
 use Rattle.std.specs.Option.{option_map}
 use Rattle.std.specs.Prelude.{map, replicate, slice_index_or}
 use Rattle.orc_any_domain.specs.Turns.{first_row}
@@ -97,26 +95,6 @@ module _ {D N : Type 0} {d : discipline.Ghosts D N} {m : machine.Ghosts Reclaimi
   -- the domain's new pass of a pass of the board
   abbrev pub first_pass : Bounds → BoardPass d m → DomainPass d m
   first_pass b q = record { pass = q; next = first_row b (shows q).agent % b.rows }
-
-  -- the domain's new passes, made of these
-  module _ (b : Bounds) (xs : List (DomainPass d m)) (ys : List (BoardPass d m)) (made : xs ≡ map (first_pass b) ys) where
-    pub made_long : length xs ≡ length ys
-    made_long = ap length made ∙ length-map ys (first_pass b)
-
-    made_at : (i : ℕ) (x : DomainPass d m) (y : BoardPass d m) → i < length ys → slice_index_or xs i x ≡ first_pass b (slice_index_or ys i y)
-    made_at i x y low = ap (λ (l : List (DomainPass d m)). slice_index_or l i x) made ∙ get_or-map (first_pass b) ys i y x low
-
-    pub made_same : EachFrom (λ (p : DomainPass d m). p.pass) xs ys
-    made_same i x y low = ap (λ (p : DomainPass d m). p.pass) (made_at i x y low)
-
-    made_all : (P : DomainPass d m → Type 0) → ((q : BoardPass d m) → P (first_pass b q)) → All P xs
-    made_all P each i x low = subst P (sym (made_at i x x.pass (subst (λ n. i < n) made_long low))) (each (slice_index_or ys i x.pass))
-
-    pub made_first : All (λ (p : DomainPass d m). p.next ≡ first_row b (shows p.pass).agent % b.rows) xs
-    made_first = made_all (λ p. p.next ≡ first_row b (shows p.pass).agent % b.rows) (λ q. refl)
-
-    pub made_next : 0 < b.rows → All (λ (p : DomainPass d m). p.next < b.rows) xs
-    made_next some = made_all (λ p. p.next < b.rows) (λ q. mod-lt (first_row b (shows q).agent) some)
 
   -- a new pass has seen the seed's events
   pub opening_seen : (e : discipline.Ghosts D N) (domain : OrcDomain D N) (xs : List (DomainPass d m)) (ys : List (BoardPass d m)) → length xs ≡ length ys

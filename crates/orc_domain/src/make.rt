@@ -14,6 +14,7 @@ use orc_any_domain::first_row;
 use orc_fault::NoMemory;
 use orc_heap::{Discipline, Seed};
 use orc_machine_board::{MachineBoard, MachineBoardPass};
+use orc_shared_words::each_made;
 use orc_words::Shape;
 use std::alloc::Global;
 
@@ -56,11 +57,7 @@ fn domain_passes<D: Discipline>(
     ensures next { IfOk result (λ made. All (λ p. p.next < (bounds_of shape.now).rows) made.items) }
     ensures first { IfOk result (λ made. All (λ p. p.next ≡ first_row (bounds_of shape.now) (shows p.pass).agent % (bounds_of shape.now).rows) made.items) }
 {
-    let made = passes
-        .into_iter()
-        .map(|pass| new_pass(shape, pass))
-        .collect(alloc)?;
-    Ok(made)
+    each_made(alloc, passes, |pass| new_pass(shape, pass))
 }
 
 // Makes a pass that was given no row yet.

@@ -21,7 +21,7 @@ use orc_core::{Agent, CounterUse, Op, State, apply};
 use orc_fault::NoMemory;
 use orc_heap::{Discipline, Seed};
 use orc_layout::{Layout, laid_words};
-use orc_shared_words::{SharedPass, SharedWords};
+use orc_shared_words::{SharedPass, SharedWords, each_made};
 use orc_words::{RowLink, Shape, Word};
 use std::alloc::Global;
 
@@ -72,11 +72,7 @@ fn passes_of<D: Discipline>(
     ensures long { IfOk result (λ made. length made.items ≡ length passes.items) }
     ensures same { IfOk result (λ made. EachFrom (λ p. p.pass) made.items passes.items) }
 {
-    let made = passes
-        .into_iter()
-        .map(|pass| MachineBoardPass { pass })
-        .collect(alloc)?;
-    Ok(made)
+    each_made(alloc, passes, |pass| MachineBoardPass { pass })
 }
 
 // Makes a step that is allowed.

@@ -13,7 +13,7 @@ use crate::shape::PlainShape;
 use orc_fault::NoMemory;
 use orc_heap::{Discipline, Seed};
 use orc_layout::{Layout, laid_words};
-use orc_shared_words::{SharedPass, SharedWords};
+use orc_shared_words::{SharedPass, SharedWords, each_made};
 use orc_words::{RowLink, Shape, Word, new_words, pack_link, place_of};
 use std::alloc::Global;
 
@@ -61,15 +61,15 @@ fn plain_passes<D: Discipline>(
     ensures same { IfOk result (λ made. EachFrom (λ p. p.pass) made.items passes.items) }
     ensures fresh { IfOk result (λ made. All (λ p. p.fresh ≡ None) made.items) }
 {
-    let made = passes
-        .into_iter()
-        .map(|pass| PlainBoardPass {
+    each_made(
+        alloc,
+        passes,
+        |pass| PlainBoardPass {
             pass,
             fresh: None,
             looked: None,
-        })
-        .collect(alloc)?;
-    Ok(made)
+        },
+    )
 }
 
 // Makes the words that the seed's steps leave, each at its index.

@@ -1,17 +1,13 @@
 -- New passes, which hold nothing.
-use Rattle.std.proofs.Common.{All, ◌≡◌, ℕ, zero, suc, ◌<◌, List, ◌∷◌, length, replicate, Option, Some, None, slice_get, slice_index_or, refl, sym, ap, ◌∙◌, subst}
-use Rattle.std.proofs.Common.{map, ◌%◌}
-use Rattle.std.proofs.Math.Nat.{mod-lt}
-use Rattle.std.proofs.lemmas.List.{get_or-map, length-map}
+use Rattle.std.proofs.Common.{All, ◌≡◌, ℕ, zero, suc, ◌<◌, List, ◌∷◌, length, replicate, Option, Some, None, slice_get, slice_index_or, refl, sym, ap, ◌∙◌, subst, ◌%◌}
 use Rattle.orc_any_domain.specs.Turns.{first_row}
 use Rattle.orc_words.specs.Bounds.{Bounds, bounds_of}
 use Rattle.orc_words.specs.declared.shape.Shape.{Shape}
 use Rattle.orc_heap.specs.Seats.{IsIdle}
 use Rattle.orc_heap.specs.declared.discipline.Discipline as discipline
-use Rattle.orc_shared_words.specs.Lists.{EachAt}
+use Rattle.orc_shared_words.specs.Lists.{EachAt, EachFrom}
 use Rattle.orc_shared_words.specs.declared.machine.Machine as machine
 use Rattle.orc_plain_board.specs.Machine.{id_by}
-use Rattle.orc_shared_words.specs.Lists.{EachFrom}
 use Rattle.orc_plain_board.specs.Views.{Belongs, shows, shows_by}
 use Rattle.orc_plain_board.specs.declared.machine.Plain.{Plain}
 use Rattle.orc_plain_board.specs.declared.machine.PlainOp.{PlainOp}
@@ -87,29 +83,3 @@ module _ {D N : Type 0} {d : discipline.Ghosts D N} {m : machine.Ghosts Plain N 
     next = first_row (bounds_of s) (shows_by (bounds_of s) q).agent % (bounds_of s).rows;
     shape = s;
   }
-
-  -- the domain's new passes, made of these
-  module _ (s : Shape) (xs : List (DomainPass d m)) (ys : List (OwnPass d m)) (made : xs ≡ map (first_pass s) ys) where
-    pub made_long : length xs ≡ length ys
-    made_long = ap length made ∙ length-map ys (first_pass s)
-
-    made_at : (i : ℕ) (x : DomainPass d m) (y : OwnPass d m) → i < length ys → slice_index_or xs i x ≡ first_pass s (slice_index_or ys i y)
-    made_at i x y low = ap (λ (l : List (DomainPass d m)). slice_index_or l i x) made ∙ get_or-map (first_pass s) ys i y x low
-
-    pub made_same : EachFrom (λ (p : DomainPass d m). p.pass) xs ys
-    made_same i x y low = ap (λ (p : DomainPass d m). p.pass) (made_at i x y low)
-
-    made_all : (P : DomainPass d m → Type 0) → ((q : OwnPass d m) → P (first_pass s q)) → All P xs
-    made_all P each i x low = subst P (sym (made_at i x x.pass (subst (λ n. i < n) made_long low))) (each (slice_index_or ys i x.pass))
-
-    pub made_slots : All (λ (p : DomainPass d m). p.slots ≡ replicate 8 None) xs
-    made_slots = made_all (λ p. p.slots ≡ replicate 8 None) (λ q. refl)
-
-    pub made_shape : All (λ (p : DomainPass d m). bounds_of p.shape ≡ bounds_of s) xs
-    made_shape = made_all (λ p. bounds_of p.shape ≡ bounds_of s) (λ q. refl)
-
-    pub made_first : All (λ (p : DomainPass d m). p.next ≡ first_row (bounds_of s) (shows_by (bounds_of s) p.pass).agent % (bounds_of s).rows) xs
-    made_first = made_all (λ p. p.next ≡ first_row (bounds_of s) (shows_by (bounds_of s) p.pass).agent % (bounds_of s).rows) (λ q. refl)
-
-    pub made_next : 0 < (bounds_of s).rows → All (λ (p : DomainPass d m). p.next < (bounds_of s).rows) xs
-    made_next some = made_all (λ p. p.next < (bounds_of s).rows) (λ q. mod-lt (first_row (bounds_of s) (shows_by (bounds_of s) q).agent) some)

@@ -1,7 +1,6 @@
 -- What the slots of a pass show, by the rows in them.
 use Rattle.std.specs.Prelude.{◌≡◌, ℕ, ◌<◌, List, [], ◌∷◌, length, Option, Some, None, slice_get}
 use Rattle.orc_words.specs.Bounds.{Bounds}
-use Rattle.orc_words.specs.declared.place.Word.{Word}
 use Rattle.orc_words.specs.declared.place.Word.TheVariants as word
 use Rattle.orc_heap.specs.Seats.{Seat}
 use Rattle.orc_heap.specs.Slots.{SlotNode, Slots}

@@ -13,6 +13,7 @@ use orc_any_domain::first_row;
 use orc_fault::NoMemory;
 use orc_heap::{Discipline, Seed};
 use orc_plain_board::PlainBoard;
+use orc_shared_words::each_made;
 use orc_words::Shape;
 use std::alloc::Global;
 
@@ -57,11 +58,7 @@ fn domain_passes<D: Discipline>(
         ≡ first_row (bounds_of shape.now) (shows_by (bounds_of shape.now) p.pass).agent % (bounds_of shape.now).rows) made.items) }
     ensures shape { IfOk result (λ made. All (λ p. bounds_of p.shape ≡ bounds_of shape.now) made.items) }
 {
-    let made = passes
-        .into_iter()
-        .map(|pass| new_pass(shape, pass))
-        .collect(alloc)?;
-    Ok(made)
+    each_made(alloc, passes, |pass| new_pass(shape, pass))
 }
 
 // Makes a pass that holds nothing.

@@ -1,6 +1,7 @@
 //! Shared words under a rule, for any machine and any discipline, with one journal for all threads.
 #![tactic(auto)]
 
+mod each;
 mod journal;
 mod last_words;
 mod machine;
@@ -9,6 +10,7 @@ mod operation;
 mod rule;
 mod shared_words;
 
+pub use each::each_made;
 pub use journal::{JournalStep, View};
 pub use last_words::LastWords;
 pub use machine::Machine;

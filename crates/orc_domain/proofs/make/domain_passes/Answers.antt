@@ -1,42 +1,40 @@
-use Rattle.std.proofs.Common.{arith, of_calls, rules, ◌∙◌, ◌≡◌}
-use Rattle.std.proofs.lemmas.Iterator.{YieldsList-from_map, items_from_collect}
-use Rattle.std.proofs.lemmas.Iterator.Adapters.{YieldsList-from_vec}
-use Rattle.std.proofs.lemmas.Iterator.Consumers.{YieldsList-at}
-use Rattle.std.proofs.lemmas.Result.{IfOk-at_ok}
-use Rattle.std.specs.Prelude.{map}
+use Rattle.std.proofs.Common.{arith, refl, rules, ◌≡◌, ◌<◌, ◌%◌}
+use Rattle.std.proofs.Math.Nat.{mod-lt}
+use Rattle.std.proofs.lemmas.Result.{IfOk-weaker}
+use Rattle.std.specs.Prelude.{IfOk, map}
+use Rattle.orc_any_domain.specs.Turns.{first_row}
+use Rattle.orc_machine_board.specs.Views.{shows}
 use Rattle.orc_words.specs.Bounds.{bounds_of}
-use Rattle.orc_domain.proofs.Making.{first_pass, made_first, made_long, made_next, made_same}
+use Rattle.orc_shared_words.proofs.Made.{made_all, made_long, made_same}
+use Rattle.orc_domain.proofs.Making.{first_pass}
 use Rattle.orc_domain.proofs.make.domain_passes.Given.{Over}
-use Rattle.orc_domain.proofs.make.domain_passes.Goals.{In_ok-made}
 use Rattle.orc_domain.proofs.make.domain_passes.Goals as goal
 
 -- each is made of the board's pass at its place
-made : (g : Over) (c : In_ok-made g) → c.in_ok-made.made.items ≡ map (first_pass (bounds_of c.args.shape.now)) c.args.passes.items
-made g c =
-    IfOk-at_ok _ c.in_ok-made.was (items_from_collect _ c.collect.ensures.ran
-    (YieldsList-from_map _ (first_pass (bounds_of c.args.shape.now))
-    (YieldsList-at c.map.ensures.source (YieldsList-from_vec c.args.passes.items c.into_iter.ensures.rest (c.into_iter.ensures.len ∙ c.args.passes.ok.0)))
-    c.map.ensures.closure (λ x r q k. search rules)))
+made : (g : Over) (c : goal.After-each_made g) → IfOk c.each_made.result (λ made. made.items ≡ map (first_pass (bounds_of c.args.shape.now)) c.args.passes.items)
+made g c = c.each_made.ensures (first_pass (bounds_of c.args.shape.now)) (λ x r q k. search rules)
 
 pub returns-clause-long : goal.returns-clause-long
-returns-clause-long g c = made_long (bounds_of c.args.shape.now) c.in_ok-made.made.items c.args.passes.items (made g c)
+returns-clause-long g c =
+    IfOk-weaker c.each_made.result _ _ (λ l. made_long (first_pass (bounds_of c.args.shape.now)) c.args.passes.items l.items) (made g c)
 
 pub returns-clause-same : goal.returns-clause-same
-returns-clause-same g c = made_same (bounds_of c.args.shape.now) c.in_ok-made.made.items c.args.passes.items (made g c)
+returns-clause-same g c =
+    IfOk-weaker c.each_made.result _ _
+    (λ l e. made_same (first_pass (bounds_of c.args.shape.now)) c.args.passes.items l.items e (λ p. p.pass) (λ p. refl)) (made g c)
 
 pub returns-clause-next : goal.returns-clause-next
 returns-clause-next g c =
+    let b = bounds_of c.args.shape.now in
     let some = c.args.shape.now.some_rows in
-    made_next (bounds_of c.args.shape.now) c.in_ok-made.made.items c.args.passes.items (made g c) (omega (arith, some))
+    IfOk-weaker c.each_made.result _ _
+    (λ l e. made_all (first_pass b) c.args.passes.items l.items e (λ p. p.pass) (λ p. p.next < b.rows)
+    (λ q. mod-lt (first_row b (shows q).agent) (omega (arith, some))))
+    (made g c)
 
 pub returns-clause-first : goal.returns-clause-first
-returns-clause-first g c = made_first (bounds_of c.args.shape.now) c.in_ok-made.made.items c.args.passes.items (made g c)
-
-pub collect-requires-clause-can : goal.collect-requires-clause-can
-collect-requires-clause-can g c = search of_calls
-
-pub collect-requires-clause-finite : goal.collect-requires-clause-finite
-collect-requires-clause-finite g c = search of_calls
-
-pub collect-requires-clause-can_collect : goal.collect-requires-clause-can_collect
-collect-requires-clause-can_collect g c = λ xs t y. tt
+returns-clause-first g c =
+    let b = bounds_of c.args.shape.now in
+    IfOk-weaker c.each_made.result _ _
+    (λ l e. made_all (first_pass b) c.args.passes.items l.items e (λ p. p.pass) (λ p. p.next ≡ first_row b (shows p.pass).agent % b.rows) (λ q. refl))
+    (made g c)
