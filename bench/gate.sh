@@ -28,7 +28,7 @@ def below():
     for pid in filter(str.isdigit, os.listdir('/proc')):
         try:
             told[pid] = open(f'/proc/{pid}/stat').read().rsplit(')', 1)[1].split()
-        except OSError:
+        except (OSError, IndexError):
             continue
     for pid, status in told.items():
         above = status[1]
@@ -83,7 +83,7 @@ class Watch(threading.Thread):
                 self.measure_host()
             for process, kind, state, used in provers():
                 self.seconds[process] = (kind, used)
-                if self.is_busy != (state == 'T'):
+                if self.only_calm and self.is_busy != (state == 'T'):
                     tell(process[0], signal.SIGSTOP if self.is_busy else signal.SIGCONT)
 
 def measure(command, only_calm, **how):
