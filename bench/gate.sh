@@ -4,17 +4,14 @@
 # and of all that it ran. With the words `first start`, runs the first line of the README in a clean clone instead, whose program is
 # proved and built from nothing.
 # As the host's speed changes from hour to hour, it also prints how much processor time a fixed piece of work took meanwhile, in the
-# median: 0.11 s on the machine of docs/SPEED.md with nothing else to do. With the word `calm` first, whatever proves stands still
-# while others use the host: from when three of the last five samples of that work, one in four seconds, took longer than 0.165 s,
-# until no more than one did. The median is then of the other times. The figures go to docs/SPEED.md with date and machine.
+# median: 0.11 s on the machine of docs/SPEED.md with nothing else to do. The figures go to docs/SPEED.md with date and machine.
 set -euo pipefail
 cd "$(dirname "$0")/.."
-python3 - "$@" <<'PY'
-import collections, contextlib, os, resource, signal, statistics, subprocess, sys, tempfile, threading, time
+python3 - "$*" <<'PY'
+import os, resource, statistics, subprocess, sys, tempfile, threading, time
 
 TICK = os.sysconf('SC_CLK_TCK')
 ADDITIONS = compile('total = 0\nfor number in range(1_000_000): total += number', 'additions', 'exec')
-BUSY = 0.165
 
 def fixed_work():
     """The processor seconds of 1,000,000 additions, which tell how fast the host is now."""
@@ -38,7 +35,7 @@ def below():
             yield pid, status
 
 def provers():
-    """Of each process that proves a crate for this one: its number and start, what it is, its state, and its processor seconds."""
+    """Of each process that proves a crate for this one: its number and start, what it is, and its processor seconds."""
     for pid, status in below():
         try:
             words = open(f'/proc/{pid}/cmdline', 'rb').read().split(b'\0')
@@ -53,74 +50,45 @@ def provers():
             kind = 'tests'
         else:
             kind = 'libraries'
-        yield (int(pid), status[19]), kind, status[0], (int(status[11]) + int(status[12])) / TICK
+        yield (pid, status[19]), kind, (int(status[11]) + int(status[12])) / TICK
 
-def tell(pid, number):
-    """Sends a signal to a process, if there still is one."""
-    with contextlib.suppress(ProcessLookupError):
-        os.kill(pid, number)
+def watch(done, seconds, speeds):
+    """Samples what is proved, until it is done."""
+    while not done.wait(1):
+        for process, kind, used in provers():
+            seconds[process] = (kind, used)
+        if time.monotonic() - watch.last > 60:
+            watch.last = time.monotonic()
+            speeds.append(fixed_work())
 
-class Watch(threading.Thread):
-    """Samples what is proved, until it is done, and lets it stand still while others use the host, where that is asked for."""
-
-    def __init__(self, only_calm):
-        super().__init__()
-        self.only_calm, self.is_busy, self.done, self.seconds, self.speeds = only_calm, False, threading.Event(), {}, [fixed_work()]
-        self.recent = collections.deque(self.speeds, 5)
-
-    def measure_host(self):
-        self.recent.append(fixed_work())
-        slow = sum(it > BUSY for it in self.recent)
-        self.is_busy = self.only_calm and slow >= (2 if self.is_busy else 3)
-        if not self.is_busy:
-            self.speeds.append(self.recent[-1])
-
-    def run(self):
-        measured = time.monotonic()
-        while not self.done.wait(1):
-            if time.monotonic() - measured > (4 if self.only_calm else 60):
-                measured = time.monotonic()
-                self.measure_host()
-            for process, kind, state, used in provers():
-                self.seconds[process] = (kind, used)
-                if self.only_calm and self.is_busy != (state == 'T'):
-                    tell(process[0], signal.SIGSTOP if self.is_busy else signal.SIGCONT)
-
-def measure(command, only_calm, **how):
+def measure(command, **how):
     """Runs the command, and prints how long it took, and what."""
-    watch = Watch(only_calm)
-    watch.start()
+    seconds, speeds, done = {}, [fixed_work()], threading.Event()
+    watch.last = time.monotonic()
+    watcher = threading.Thread(target=watch, args=(done, seconds, speeds))
+    watcher.start()
     begin = time.monotonic()
-    try:
-        status = subprocess.run(command, **how).returncode
-    finally:
-        watch.done.set()
-        watch.join()
-        for (pid, _), *_ in provers():
-            tell(pid, signal.SIGCONT)
+    status = subprocess.run(command, **how).returncode
     wall = time.monotonic() - begin
+    done.set()
+    watcher.join()
     used = resource.getrusage(resource.RUSAGE_CHILDREN)
     print('| Part | Processor minutes |')
     print('|---|---|')
     for part in ('libraries', 'tests', 'edits'):
-        print('| %s | %.1f |' % (part, sum(one for kind, one in watch.seconds.values() if kind == part) / 60))
+        print('| %s | %.1f |' % (part, sum(one for kind, one in seconds.values() if kind == part) / 60))
     print('| all | %.1f |' % ((used.ru_utime + used.ru_stime) / 60))
     print('%.1f minutes of wall time; the fixed work took %.3f s of processor time; status %d'
-          % (wall / 60, statistics.median(watch.speeds), status))
+          % (wall / 60, statistics.median(speeds), status))
     return status
 
-# (what stands still then goes on, or ends with the rest)
-signal.signal(signal.SIGTERM, lambda *_: sys.exit(143))
-words = sys.argv[1:]
-only_calm = words[:1] == ['calm']
-match words[only_calm:]:
-    case ['first', 'start'] | ['first start']:
-        with tempfile.TemporaryDirectory() as scratch:
-            subprocess.run(['git', 'clone', '--quiet', '.', scratch], check=True)
-            sys.exit(measure(['./mooringakee'], only_calm, cwd=scratch, stdin=open('examples/five.jobs'),
-                             stdout=subprocess.DEVNULL, env=dict(os.environ, MOORINGAKEE_BUILD='here')))
-    case []:
-        told = subprocess.run(['rt', '--help'], stdout=subprocess.PIPE, stderr=subprocess.STDOUT, text=True).stdout
-        sys.exit(measure(['rt', 'ci', *['--anew'] * ('--anew' in told)], only_calm))
-sys.exit('gate: the words are `calm`, then `first start`, each or neither')
+if sys.argv[1] == 'first start':
+    with tempfile.TemporaryDirectory() as scratch:
+        subprocess.run(['git', 'clone', '--quiet', '.', scratch], check=True)
+        sys.exit(measure(['./mooringakee'], cwd=scratch, stdin=open('examples/five.jobs'),
+                         stdout=subprocess.DEVNULL, env=dict(os.environ, MOORINGAKEE_BUILD='here')))
+if sys.argv[1]:
+    sys.exit('gate: the words are `first start`, or none')
+told = subprocess.run(['rt', '--help'], stdout=subprocess.PIPE, stderr=subprocess.STDOUT, text=True).stdout
+sys.exit(measure(['rt', 'ci', *['--anew'] * ('--anew' in told)]))
 PY
