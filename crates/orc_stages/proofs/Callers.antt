@@ -7,14 +7,12 @@ use Rattle.orc_board.specs.ListWithRoom.{ListWithRoom}
 use Rattle.orc_board.specs.Stretches.{queue_view}
 use Rattle.orc_board.specs.Table.{EndsWith}
 use Rattle.orc_stages.specs.declared.replies.StageReply.{StageReply}
-use Rattle.orc_stages.specs.Team.{StageWorker}
 use Rattle.orc_stages.specs.Stage.{QueueShare, DidShares, StageRow, froms, tos, MoveTable, Moving, TookAlone}
 use Rattle.orc_stages.specs.Calls.{MovesMore}
-use Rattle.orc_stages.specs.Desks.{ArePasses, view_at, seen_at}
+use Rattle.orc_stages.specs.Desks.{StageWorker, ArePasses, view_at, seen_at}
 use Rattle.orc_stages.specs.Caller.{spare_at, CallerMoved, MovedBetween}
 use Rattle.orc_stages.proofs.Shares.{shares_append, shares_none, shares_last}
-use Rattle.orc_stages.proofs.Counts.{no_items}
-use Rattle.orc_stages.proofs.Desks.{ahead, nowhere}
+use Rattle.orc_stages.proofs.Lists.{ahead, nowhere, no_items}
 
 pub between : {Q P A : Type 0} (q : QueueOf Q P A) (queue next : Q) (queues more : List Q) (lines : List Line) (stage agent : ℕ) (p r p2 r2 : P)
     (ps old : List P) (before after : ListWithRoom StageReply)

@@ -8,9 +8,8 @@ use Rattle.orc_board.specs.ListWithRoom.{ListWithRoom}
 use Rattle.orc_board.specs.Stretches.{queue_view}
 use Rattle.orc_board.specs.Table.{EndsWith}
 use Rattle.orc_stages.specs.declared.replies.StageReply.{StageReply}
-use Rattle.orc_stages.specs.Team.{StageWorker}
 use Rattle.orc_stages.specs.Stage.{QueueShare, DidShares, StageRow, froms, tos, MoveTable, jobs_of, own_of_shares}
-use Rattle.orc_stages.specs.Desks.{Acts, view_at, seen_at}
+use Rattle.orc_stages.specs.Desks.{StageWorker, Acts, view_at, seen_at}
 
 -- the worker with these replies more, within the room that it had
 pub record MovedFor {P : Type 0} (more : List StageReply) (w v : StageWorker P) : Type 0 where

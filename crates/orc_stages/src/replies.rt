@@ -1,5 +1,6 @@
-//! What a pipeline is handed, and what it hands back.
+//! What posters and stages are handed, and what they hand back.
 use orc_board::ReplyList;
+use orc_team::{Room, Worker};
 
 /// What a stage did with the job of a line.
 #[derive(Clone, Copy, PartialEq, Eq, Drop)]
@@ -23,3 +24,6 @@ pub type OutList = ReplyList<u64>;
 pub struct StageDesk<P> {
     pub passes: Vec<P>,
 }
+
+/// Poster p is agent p, and the worker of stage s is agent s behind the posters.
+pub type StageWorker<P> = Worker<StageDesk<P>, Room<StageReply>>;

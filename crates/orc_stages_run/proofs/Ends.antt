@@ -5,9 +5,9 @@ use Rattle.std.specs.List.{AllByRecursion}
 use Rattle.orc_heap.specs.declared.links.Links.{Ghosts as LinksOf}
 use Rattle.orc_history.specs.declared.queue.SharedQueue.{Ghosts as QueueOf}
 use Rattle.orc_fifo_rule.specs.declared.fifo.FifoNote.{FifoNote}
-use Rattle.orc_stages.specs.Run.{AreIdle, HaveSeen, StandAhead, TookFirst}
+use Rattle.orc_pipeline.specs.Run.{AreIdle, HaveSeen, StandAhead, TookFirst}
 use Rattle.orc_stages.specs.declared.replies.StageDesk.{StageDesk}
-use Rattle.orc_stages.proofs.Taken.{ahead_many, taken_passes, taken_seen}
+use Rattle.orc_pipeline.proofs.Taken.{ahead_many, taken_passes, taken_seen}
 use Rattle.orc_at_rest.proofs.Passes.{ArePasses}
 use Rattle.orc_at_rest.specs.Domains.{IsLeftOf}
 use Rattle.orc_stages_run.specs.Queues.{AreLeft, LeavesMore}

@@ -10,7 +10,7 @@ use Rattle.orc_board.specs.Stretches.{View, beside, of_queue}
 use Rattle.orc_board.proofs.Shares.{DidAll-more}
 use Rattle.orc_stages.specs.declared.replies.StageReply.{StageReply}
 use Rattle.orc_stages.specs.Stage.{QueueShare, DidShares, jobs_of}
-use Rattle.orc_stages.specs.Pipeline.{IsPipeline, PostersFollow, StageFollows, jobs_by, moves_of}
+use Rattle.orc_pipeline.specs.Pipeline.{IsPipeline, PostersFollow, StageFollows, jobs_by, moves_of}
 use Rattle.orc_at_rest.proofs.Silent.{Silent, did_nothing}
 
 module _ {A : Type 0} where

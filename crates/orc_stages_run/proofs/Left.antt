@@ -25,8 +25,8 @@ use Rattle.orc_domain.specs.declared.domain.OrcPass.{OrcPass}
 use Rattle.orc_jobs.specs.declared.line.Line.{Line}
 use Rattle.orc_board.specs.Stretches.{queue_view}
 use Rattle.orc_stages.specs.Desks.{view_at}
-use Rattle.orc_stages.specs.Pipeline.{IsPipeline}
-use Rattle.orc_stages.specs.declared.run.StagesDone.{StagesDone}
+use Rattle.orc_pipeline.specs.Pipeline.{IsPipeline}
+use Rattle.orc_pipeline.specs.declared.run.StagesDone.{StagesDone}
 use Rattle.orc_at_rest.proofs.Actual.{left_journal, left_rest, left_reuse}
 use Rattle.orc_at_rest.proofs.Silent.{Silent}
 use Rattle.orc_at_rest.specs.Domains.{IsLeftOf, IsMadeSo, queue_bounds, queue_seed}

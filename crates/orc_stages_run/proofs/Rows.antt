@@ -4,7 +4,7 @@ use Rattle.std.proofs.Math.ListN.{drop_of_length-le}
 use Rattle.std.proofs.lemmas.List.{take_all}
 use Rattle.std.specs.List.{AllByRecursion}
 use Rattle.orc_history.specs.declared.queue.SharedQueue.{Ghosts as QueueOf}
-use Rattle.orc_stages.specs.Run.{AreFresh}
+use Rattle.orc_pipeline.specs.Run.{AreFresh}
 use Rattle.orc_stages.specs.declared.replies.StageDesk.{StageDesk}
 
 -- of a list that was written over as a whole nothing is left

@@ -8,9 +8,9 @@ use Rattle.orc_fifo_rule.specs.declared.fifo.FifoNote.{FifoNote}
 use Rattle.orc_jobs.specs.declared.line.Line.{Line}
 use Rattle.orc_stages.specs.declared.replies.StageDesk.{StageDesk}
 use Rattle.orc_stages.specs.Desks.{view_at}
-use Rattle.orc_stages.specs.Learning.{AreFor}
-use Rattle.orc_stages.specs.Pipeline.{IsPipeline}
-use Rattle.orc_stages.specs.Run.{AreFresh, AreIdle, HaveSeen, HaveSeenTheSame, IsRunOf, first_seen}
+use Rattle.orc_pipeline.specs.Learning.{AreFor}
+use Rattle.orc_pipeline.specs.Pipeline.{IsPipeline}
+use Rattle.orc_pipeline.specs.Run.{AreFresh, AreIdle, HaveSeen, HaveSeenTheSame, IsRunOf, first_seen}
 use Rattle.orc_at_rest.specs.Domains.{IsMadeSo, agents_of, queue_seed, run_bounds}
 use Rattle.orc_stages_run.specs.Over.{WentOver}
 use Rattle.orc_stages_run.specs.Queues.{LeavesMore}

@@ -7,7 +7,7 @@ use Rattle.orc_history.specs.declared.queue.SharedQueue.{Ghosts as QueueOf}
 use Rattle.orc_fifo_rule.specs.declared.fifo.FifoNote.{FifoNote}
 use Rattle.orc_jobs.specs.declared.line.Line.{Line}
 use Rattle.orc_stages.specs.Desks.{view_at}
-use Rattle.orc_stages.specs.Pipeline.{IsPipeline}
+use Rattle.orc_pipeline.specs.Pipeline.{IsPipeline}
 use Rattle.orc_at_rest.specs.Domains.{IsMadeSo, queue_bounds, queue_seed}
 use Rattle.orc_stages_run.specs.Queues.{AreLeft}
 use Rattle.orc_stages_run.specs.declared.over.Left.{Left}

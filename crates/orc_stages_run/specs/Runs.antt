@@ -2,7 +2,7 @@
 use Rattle.std.specs.Prelude.{◌≡◌, ℕ, suc, List, length}
 use Rattle.std.specs.List.{AllByRecursion}
 use Rattle.orc_jobs.specs.declared.line.Line.{Line}
-use Rattle.orc_stages.specs.Pipeline.{IsPipeline}
+use Rattle.orc_pipeline.specs.Pipeline.{IsPipeline}
 use Rattle.orc_at_rest.specs.Domains.{queue_bounds}
 use Rattle.orc_at_rest.specs.Journals.{EndsWithoutLeak, ReusesRowsSafely}
 use Rattle.orc_at_rest.specs.Queues.{HasQueueJournal, queue_over}

@@ -2,7 +2,7 @@
 
 ghost use Rattle.std.specs.Prelude.{◌≡◌, ◌<◌, ◌≤◌, ◌∷◌, ℕ, [], List, IfOk, length, vec_capacity};
 ghost use Rattle.std.specs.List.{AllByRecursion};
-ghost use Rattle.orc_stages.specs.Run.{AreIdle, HaveSeen};
+ghost use Rattle.orc_pipeline.specs.Run.{AreIdle, HaveSeen};
 ghost use Rattle.orc_stages_run.specs.Queues.{LeavesMore};
 
 use orc_any_domain::Domain;
@@ -12,8 +12,9 @@ use orc_domain::OrcRest;
 use orc_fault::NoMemory;
 use orc_fifo_rule::Fifo;
 use orc_history::{LearnQueue, SharedQueue};
+use orc_pipeline::take_first;
 use orc_queue::Queue;
-use orc_stages::{StageDesk, take_first};
+use orc_stages::StageDesk;
 use std::alloc::Global;
 
 /// The domains of queues at rest, each with the journal of all that happened on it, in the order of the queues.

@@ -2,7 +2,7 @@
 
 ghost use Rattle.std.specs.Prelude.{◌≡◌, ◌+◌, ◌≤◌, ◌<◌, ℕ, [], All, IfOk, length, slice_index_or};
 ghost use Rattle.std.specs.List.{AllByRecursion};
-ghost use Rattle.orc_stages.specs.{Learning.{AreFor}, Run.{AreFresh}};
+ghost use Rattle.orc_pipeline.specs.{Learning.{AreFor}, Run.{AreFresh}};
 ghost use Rattle.orc_at_rest.specs.Domains.{IsMadeSo, queue_seed, run_bounds};
 
 use orc_any_domain::Domain;
@@ -11,8 +11,9 @@ use orc_containers::queue_over;
 use orc_fault::NoMemory;
 use orc_fifo_rule::Fifo;
 use orc_history::{LearnQueue, SharedQueue};
+use orc_pipeline::{add_queue, empty_desks};
 use orc_queue::Queue;
-use orc_stages::{StageDesk, add_queue, empty_desks};
+use orc_stages::StageDesk;
 use std::alloc::Global;
 
 /// Queues in a row, and a desk for each agent with a pass of each queue.

@@ -11,7 +11,7 @@ use orc_domain::OrcDomain;
 use orc_fault::NoMemory;
 use orc_fifo_rule::Fifo;
 use orc_jobs::Lines;
-use orc_stages::StagesDone;
+use orc_pipeline::StagesDone;
 use std::alloc::Global;
 use std::sync::Wait;
 use std::thread::Threads;

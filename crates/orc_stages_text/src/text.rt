@@ -6,8 +6,9 @@ ghost use Rattle.orc_stages_text.specs.StagesText.{move_line, out_line, out_line
 
 use orc_fault::NoMemory;
 use orc_jobs::Text;
+use orc_pipeline::StagesDone;
 use orc_report::push_posts;
-use orc_stages::{StageReply, StagesDone};
+use orc_stages::StageReply;
 use std::alloc::{AllocError, Global};
 
 /// The replies of posters in their order, then those of stages in theirs, then the jobs that came out, numbered from 0.

@@ -1,8 +1,8 @@
 -- The passes that are taken are all passes of the first queue, and those that are left are of the others.
 use Rattle.std.proofs.Common.{rules, ◌≡◌, ◌∙◌, ◌<◌, ◌≤◌, ℕ, suc, [], ap, length, arith, refl, subst, sym}
 use Rattle.std.specs.List.{AllByRecursion}
-use Rattle.orc_stages.specs.Run.{AreIdle}
-use Rattle.orc_stages.proofs.Taken.{idle_passes}
+use Rattle.orc_pipeline.specs.Run.{AreIdle}
+use Rattle.orc_pipeline.proofs.Taken.{idle_passes}
 use Rattle.orc_queue.specs.contracts.queue.QueueSharedQueue.TheImpl as queue
 use Rattle.orc_stages_run.proofs.Ends.{as_few, as_many, idle_after, none_more, of_first, of_others, one_more, passes_of, saw_first, saw_others}
 use Rattle.orc_stages_run.proofs.ending.+end_queues.Goals as goal

@@ -1,4 +1,4 @@
-use Rattle.orc_stages.proofs.Taken.{first_and_rest}
+use Rattle.orc_pipeline.proofs.Taken.{first_and_rest}
 use Rattle.orc_stages_run.proofs.ending.take_front.Goals as goal
 
 pub returns : goal.returns

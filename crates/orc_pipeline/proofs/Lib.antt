@@ -1,0 +1,15 @@
+pub mod Desks
+pub mod Known
+pub mod Jobs
+pub mod Tables
+pub mod Counts
+pub mod Places
+pub mod Pipelines
+pub mod ComeOut
+pub mod Seated
+pub mod Told
+pub mod Crew
+pub mod CameBack
+pub mod Over
+pub mod Ahead
+pub mod Taken
