@@ -13,6 +13,7 @@ use orc_fault::NoMemory;
 use orc_jobs::{MOST_BYTES, Text};
 use orc_options::{Mode, Settings};
 use std::alloc::Global;
+use std::mem;
 use std::sync::Wait;
 use std::thread::Threads;
 
@@ -41,9 +42,16 @@ pub(crate) fn leave(
     ensures answered { IfOk result (λ a. (a.status ≡ 0) × (ended.new ≡ what) × (text ≡ Ok a.text)) }
     ensures unanswered { IsErr result → IsErr text × (ended.new ≡ ended.old) }
 {
-    let text = text?;
-    *ended = what;
-    Ok(Answer { status: 0, text })
+    match text {
+        Ok(text) => {
+            mem::replace(ended, what).let_go();
+            Ok(Answer { status: 0, text })
+        }
+        Err(NoMemory) => {
+            what.let_go();
+            Err(NoMemory)
+        }
+    }
 }
 
 impl<R: Threads + Wait + Sync, G: Gate + Sync> Setup<'_, R, G> {
